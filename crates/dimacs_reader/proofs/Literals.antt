@@ -1,0 +1,77 @@
+-- Tests of literals.
+use Rattle.std.proofs.Common.{◌≡◌, ℕ, Bool, true, false, ◌&&◌, ◌||◌, List, [], ◌∷◌, ◌++◌, refl, sym, ◌∙◌, arith, ℤ, ◌⊎◌, inl, inr}
+use Rattle.std.specs.Ordering.{int_eq}
+use Rattle.std.proofs.lemmas.Grind.{common_steps}
+use Rattle.std.proofs.lemmas.Bool.Decides.{Decides-int_eq}
+use Rattle.std.proofs.lemmas.List.Folds.{list_any-append, list_all-append}
+use Rattle.std.specs.List.{list_any}
+use Rattle.lk_model.specs.Literal.{contains, is_literal, is_distinct, is_clause}
+use Rattle.lk_model.proofs.Booleans.{and_true}
+
+pub true_or_false : (b : Bool) → (b ≡ true) ⊎ (b ≡ false)
+true_or_false true = inl refl
+true_or_false false = inr refl
+
+pub and_both : (a b : Bool) → a ≡ true → b ≡ true → (a && b) ≡ true
+and_both true b p q = q
+and_both false b p q = p
+
+pub int_eq-same : (x y : ℤ) → int_eq x y ≡ true → int_eq y x ≡ true
+int_eq-same x y h = (Decides-int_eq y x).1 (sym ((Decides-int_eq x y).0 h))
+
+or_true : (a b : Bool) → (a || (true || b)) ≡ true
+or_true true b = refl
+or_true false b = refl
+
+-- a literal behind others of which it is one
+pub no_repeat : (xs : List ℤ) (t : ℤ) (ts : List ℤ) → is_distinct (xs ++ t ∷ ts) ≡ true → contains xs t ≡ true → ⊥
+no_repeat [] t ts d h = absurd cc
+no_repeat (x ∷ xs) t ts d h =
+    let later : is_distinct (xs ++ t ∷ ts) ≡ true = grind (arith, common_steps) in
+    let head : contains (xs ++ t ∷ ts) x ≡ false = grind (arith, common_steps) in
+    elim (true_or_false (int_eq t x)) [
+      | inl e ↦ absurd (cc (list_any-append (int_eq x) xs (t ∷ ts), int_eq-same t x e, or_true (list_any (int_eq x) xs) (list_any (int_eq x) ts)))
+      | inr e ↦ no_repeat xs t ts later (grind (arith, common_steps))
+    ]
+
+-- one literal more, which is a new one
+pub distinct-more : (xs : List ℤ) (l : ℤ) → is_distinct xs ≡ true → contains xs l ≡ false → is_distinct (xs ++ l ∷ []) ≡ true
+distinct-more [] l d h = refl
+distinct-more (x ∷ xs) l d h =
+    let later : is_distinct (xs ++ l ∷ []) ≡ true = distinct-more xs l (grind (arith, common_steps)) (grind (arith, common_steps)) in
+    let apart : int_eq x l ≡ false = elim (true_or_false (int_eq x l)) [ inl e ↦ absurd (grind (arith, common_steps, int_eq-same x l e)) | inr e ↦ e ] in
+    let head : contains (xs ++ l ∷ []) x ≡ false = list_any-append (int_eq x) xs (l ∷ []) ∙ grind (arith, common_steps) in
+    grind (arith, common_steps)
+
+-- the literals before the last one
+pub distinct-less : (xs : List ℤ) (l : ℤ) → is_distinct (xs ++ l ∷ []) ≡ true → is_distinct xs ≡ true
+distinct-less [] l d = refl
+distinct-less (x ∷ xs) l d =
+    let later : is_distinct xs ≡ true = distinct-less xs l (grind (arith, common_steps)) in
+    let head : contains (xs ++ l ∷ []) x ≡ false = grind (arith, common_steps) in
+    let parts : (contains xs x || (int_eq x l || false)) ≡ false = sym (list_any-append (int_eq x) xs (l ∷ [])) ∙ head in
+    grind (arith, common_steps)
+
+pub clause-more : (n : ℕ) (xs : List ℤ) (l : ℤ) → is_clause n xs ≡ true → is_literal n l ≡ true → contains xs l ≡ false → is_clause n (xs ++ l ∷ []) ≡ true
+clause-more n xs l c h out =
+    let p = and_true _ _ c in
+    and_both _ _ (list_all-append (is_literal n) xs (l ∷ []) ∙ and_both _ _ p.0 (and_both _ _ h refl)) (distinct-more xs l p.1 out)
+
+pub clause-less : (n : ℕ) (xs : List ℤ) (l : ℤ) → is_clause n (xs ++ l ∷ []) ≡ true → is_clause n xs ≡ true
+clause-less n xs l c =
+    let p = and_true _ _ c in
+    let q = and_true _ _ (sym (list_all-append (is_literal n) xs (l ∷ [])) ∙ p.0) in
+    and_both _ _ q.0 (distinct-less xs l p.1)
+
+-- the last literal of a clause
+pub clause-last : (n : ℕ) (xs : List ℤ) (l : ℤ) → is_clause n (xs ++ l ∷ []) ≡ true → is_literal n l ≡ true
+clause-last n xs l c =
+    let p = and_true _ _ c in
+    let q = and_true _ _ (sym (list_all-append (is_literal n) xs (l ∷ [])) ∙ p.0) in
+    (and_true _ _ q.1).0
+
+pub clause-apart : (n : ℕ) (xs : List ℤ) (l : ℤ) → is_clause n (xs ++ l ∷ []) ≡ true → contains xs l ≡ false
+clause-apart n xs l c = elim (true_or_false (contains xs l)) [
+  | inl e ↦ absurd (no_repeat xs l [] (and_true _ _ c).1 e)
+  | inr e ↦ e
+]

@@ -1,0 +1,16 @@
+pub mod Booleans
+pub mod Ranks
+pub mod Rising
+pub mod Cuts
+pub mod FormulaErrors
+pub mod Autarkies
+pub mod DimacsLaws
+pub mod FaultLaws
+pub mod FaultConverse
+pub mod GcdLaws
+pub mod Kernels
+pub mod PureLaws
+pub mod Extensions
+pub mod ReachedLaws
+pub mod ReadingLaws
+pub mod Examples

@@ -1,0 +1,29 @@
+//! The types and the definitions that the other crates share.
+#![tactic(auto)]
+
+mod class;
+mod crossed;
+mod document;
+mod formula;
+mod laws;
+mod list;
+mod lit;
+mod result;
+#[cfg(test)]
+mod tests;
+mod verdict;
+mod wide;
+
+pub use class::Class;
+pub use crossed::{Crossed, VarSet};
+pub use document::{
+    Body, Document, DoneDocument, Dual, MatchRow, OpenDocument, Own, Pair, Round, Share, Stage,
+    Step, Turn, Unit, Weight,
+};
+pub use formula::{Formula, FormulaError};
+pub use laws::{fault_law, gcd_law, one_kernel, reached_law, reading_law};
+pub use list::{List, OutOfMemory};
+pub use lit::Lit;
+pub use result::{GeneralResult, LinearResult, MatchingResult, PureResult};
+pub use verdict::{Kind, ReadStop, Why};
+pub use wide::{Op, Wide};

@@ -1,0 +1,40 @@
+//! What a check or a reader of documents says.
+
+/// Which check fails.
+#[derive(Clone, Copy, PartialEq, Eq, Debug)]
+pub enum Kind {
+    OtherFormula,
+    KeptClause,
+    NotAutarky,
+    NotExactlyRemoved,
+    BadOrder,
+    BadOwner,
+    BadSign,
+    BadStage,
+    BadPair,
+    BadRow,
+    BadDual,
+    BadBalance,
+    BadUnit,
+    BadCount,
+    BadStep,
+    NotBlocked,
+    NotLearned,
+    ModelFails,
+}
+
+/// The first failing check, and the first place at which it fails: a position, a variable, the number
+/// of a step or an index, as the kind says.
+#[derive(Clone, Copy, PartialEq, Eq, Debug)]
+pub struct Why {
+    pub kind: Kind,
+    pub place: u64,
+}
+
+/// Why no document is read: the first line with which no document's text goes on, counted from 1; or
+/// want of memory.
+#[derive(Clone, Copy, PartialEq, Eq, Debug)]
+pub enum ReadStop {
+    Line(u64),
+    OutOfMemory,
+}

@@ -1,0 +1,154 @@
+ghost use Rattle.std.specs.Prelude.{◌≡◌, None, false};
+
+use crate::shelf::{Failed, Shelf, StartStop};
+use crate::sink::Sink;
+use crate::tally::Tally;
+use crate::texts::Name;
+use std::alloc::Global;
+use std::fs;
+use std::io::{Read, Write};
+use std::rt::Files;
+
+/// The files of the system, by their paths. It tells nothing of their bytes.
+#[derive(Drop)]
+pub struct FileShelf<'a, R: Files> {
+    rt: &'a R,
+    alloc: Global,
+    file: Option<R::File>,
+    current: Option<Name>,
+    tally: Tally,
+}
+
+impl<'a, R: Files> FileShelf<'a, R> {
+    /// The files of that runtime, of which none is open. Names are copied into that memory.
+    pub fn new(rt: &'a R, alloc: Global) -> Self
+        ensures started { ⟦<FileShelf<'a, R> as Shelf>⟧.started result ≡ false }
+        ensures current { ⟦<FileShelf<'a, R> as Shelf>⟧.current result ≡ None }
+        ensures ailing { ⟦<FileShelf<'a, R> as Shelf>⟧.ailing result ≡ false }
+        ensures faults { ⟦<FileShelf<'a, R> as Shelf>⟧.faults result ≡ 0 }
+    {
+        FileShelf {
+            rt,
+            alloc,
+            file: None,
+            current: None,
+            tally: Tally::new(),
+        }
+    }
+}
+
+impl<'a, R: Files> Shelf for FileShelf<'a, R> {
+    ghost use Rattle.std.specs.Prelude.{is_some, None};
+
+    ghost told = { λ s name. None };
+
+    ghost left = { λ s. None };
+
+    ghost started = { λ s. is_some s.file };
+
+    ghost current = { λ s. s.current };
+
+    ghost ailing = { λ s. s.tally.ailing };
+
+    ghost faults = { λ s. s.tally.faults };
+
+    /// Fails where the file does not open.
+    fn start(&mut self, name: &str) -> Result<(), StartStop> {
+        let current = Name::of(self.alloc, name)?;
+        self.current = Some(current);
+        match fs::open(self.rt, name) {
+            Ok(file) => {
+                self.file = Some(file);
+                self.tally.note(false);
+                Ok(())
+            }
+            Err(_) => {
+                self.file = None;
+                self.tally.note(true);
+                Err(StartStop::Failed)
+            }
+        }
+    }
+
+    /// Fails where the system's read does.
+    fn read(&mut self, piece: &mut [u8]) -> Result<usize, Failed> {
+        // A read asks that a file is open, so there is one.
+        let Some(file) = &mut self.file else {
+            return Ok(0)
+        };
+        match file.read(piece) {
+            Ok(count) => {
+                self.tally.note(false);
+                Ok(count)
+            }
+            Err(_) => {
+                self.tally.note(true);
+                Err(Failed)
+            }
+        }
+    }
+}
+
+/// A stream of the system. It tells nothing of its bytes.
+#[derive(Drop)]
+pub struct StdSink<W> {
+    stream: W,
+    tally: Tally,
+}
+
+impl<W: Write> StdSink<W> {
+    /// A sink into that stream.
+    pub fn new(stream: W) -> Self
+        ensures { ⟦<StdSink<W> as Sink>⟧.faults result ≡ 0 }
+    {
+        StdSink {
+            stream,
+            tally: Tally::new(),
+        }
+    }
+}
+
+impl<W: Write> Sink for StdSink<W> {
+    ghost use Rattle.std.specs.Prelude.{None};
+
+    ghost written = { λ s. None };
+
+    ghost faults = { λ s. s.tally.faults };
+
+    /// Fails where the stream's write does, or takes nothing.
+    fn write(&mut self, piece: &[u8]) -> Result<usize, Failed> {
+        match self.stream.write(piece) {
+            Ok(count) if 0 < count => {
+                self.tally.note(false);
+                Ok(count)
+            }
+            _ => {
+                self.tally.note(true);
+                Err(Failed)
+            }
+        }
+    }
+}
+
+#[cfg(test)]
+mod tests {
+    use super::*;
+    use std::test::Fail;
+
+    #[test]
+    fn a_missing_file_does_not_start(rt: HostRuntime) -> Result<(), Fail> {
+        let mut shelf = FileShelf::new(&rt, rt.alloc());
+        let started = shelf.start("no such folder/no such file");
+        assert_eq!(rt; started, Err(StartStop::Failed));
+        Ok(())
+    }
+
+    #[test]
+    fn a_write_that_takes_nothing_fails(rt: HostRuntime) -> Result<(), Fail> {
+        let mut room = [0u8; 2];
+        let mut sink = StdSink::new(room.as_mut_slice());
+        assert_eq!(rt; sink.write(b"abc"), Ok(2));
+        assert_eq!(rt; sink.write(b"c"), Err(Failed));
+        Ok(())
+    }
+}

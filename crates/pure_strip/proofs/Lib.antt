@@ -1,0 +1,10 @@
+pub mod Selections
+pub mod ListLemmas
+pub mod HolderLemmas
+pub mod PairLemmas
+pub mod Steps
+pub mod Runs
+pub mod LoneLemmas
+pub mod Starts
+pub mod Autarkies
+pub mod LeanRests

@@ -1,0 +1,75 @@
+-- What tests keep and find in lists, and the numbers from 1 on.
+use Rattle.std.proofs.Common.{◌≡◌, ℕ, zero, suc, ◌+◌, ◌<◌, ◌≤◌, ◌∙◌, Bool, true, false, cond, ◌||◌, List, [], ◌∷◌, ◌++◌, length, take, get_or, refl, sym, ap, arith, Some, None, is_some, inl, inr}
+use Rattle.std.specs.Prelude.{filter, find}
+use Rattle.std.specs.List.{list_any, All}
+use Rattle.std.proofs.lemmas.Bool.{cases_Bool, cond-true, cond-false}
+use Rattle.std.proofs.Math.Bool.{or-true}
+use Rattle.std.proofs.lemmas.List.Folds.{find-append}
+use Rattle.std.proofs.lemmas.List.{map-id, take_more, append-nil}
+use Rattle.std.proofs.lemmas.List.Elements.{filter-append}
+use Rattle.std.proofs.lemmas.List.FromFn.{map-range_with_len_more, get_or-range_with_len, length-range_with_len}
+use Rattle.lk_model.specs.Lists.{up_to}
+
+-- one number more
+pub up_to-more : (n : ℕ) → up_to (n + 1) ≡ up_to n ++ (n + 1) ∷ []
+up_to-more n =
+    let e : 1 + n ≡ n + 1 = omega arith in
+    sym (map-id (up_to (n + 1))) ∙ map-range_with_len_more (λ (k : ℕ). k) 1 n (n + 1) e ∙ ap (λ (ks : List ℕ). ks ++ (n + 1) ∷ []) (map-id (up_to n))
+
+-- one number more, if the test keeps it
+pub filter-up_to-more : (test : ℕ → Bool) (n : ℕ) → filter test (up_to (n + 1)) ≡ filter test (up_to n) ++ cond (test (n + 1)) ((n + 1) ∷ []) []
+filter-up_to-more test n = ap (filter test) (up_to-more n) ∙ filter-append test (up_to n) ((n + 1) ∷ [])
+
+-- each of the numbers lies between
+pub up_to-bounds : (n : ℕ) → All (λ p. (0 < p) × (p ≤ n)) (up_to n)
+up_to-bounds n k d lt =
+    let small : k < n = omega (arith, lt, length-range_with_len 1 n) in
+    let is : get_or (up_to n) k d ≡ 1 + k = get_or-range_with_len 1 n k d small in
+    (omega (arith, is), omega (arith, is, small))
+
+-- the first with both tests
+pub find-filter : (s t : ℕ → Bool) (xs : List ℕ) → find s (filter t xs) ≡ find t (filter s xs)
+find-filter s t [] = refl
+find-filter s t (x ∷ xs) = elim (cases_Bool (s x)) [
+  | inl p ↦ elim (cases_Bool (t x)) [ inl q ↦ rw (p, q, p) refl | inr q ↦ rw (p, q) (find-filter s t xs) ]
+  | inr p ↦ elim (cases_Bool (t x)) [ inl q ↦ rw (p, q, p) (find-filter s t xs) | inr q ↦ rw (p, q) (find-filter s t xs) ]
+]
+
+-- one is found where one passes
+pub is_some-find : (test : ℕ → Bool) (xs : List ℕ) → is_some (find test xs) ≡ list_any test xs
+is_some-find test [] = refl
+is_some-find test (x ∷ xs) = elim (cases_Bool (test x)) [ inl e ↦ rw e refl | inr e ↦ rw e (is_some-find test xs) ]
+
+-- none among one more
+pub find-none_more : (test : ℕ → Bool) (xs : List ℕ) (i d : ℕ) → i < length xs → find test (take i xs) ≡ None → test (get_or xs i d) ≡ false → find test (take (i + 1) xs) ≡ None
+find-none_more test xs i d lt none e = ap (find test) (take_more xs i d lt) ∙ find-append test (take i xs) (get_or xs i d ∷ []) ∙ rw (none, e) refl
+
+-- the first, behind some that fail
+pub find-here : (test : ℕ → Bool) (xs : List ℕ) (i d : ℕ) → i < length xs → find test (take i xs) ≡ None → test (get_or xs i d) ≡ true → Some (get_or xs i d) ≡ find test xs
+find-here test [] i d lt none e = absurd (omega (arith, lt))
+find-here test (x ∷ xs) zero d lt none e = rw e refl
+find-here test (x ∷ xs) (suc i) d lt none e = elim (cases_Bool (test x)) [
+  | inl p ↦ absurd (cc (sym (cond-true (test x) (Some x) (find test (take i xs)) p) ∙ none))
+  | inr p ↦ rw p (find-here test xs i d (omega (arith, lt)) (sym (cond-false (test x) (Some x) (find test (take i xs)) p) ∙ none) e)
+]
+
+-- one of two tests
+pub list_any-or : {X : Type 0} (s t : X → Bool) (xs : List X) → list_any (λ x. s x || t x) xs ≡ (list_any s xs || list_any t xs)
+list_any-or s t [] = refl
+list_any-or s t (x ∷ xs) = elim (cases_Bool (s x)) [
+  | inl p ↦ rw p refl
+  | inr p ↦ elim (cases_Bool (t x)) [ inl q ↦ rw (p, q, or-true (list_any s xs)) refl | inr q ↦ rw (p, q) (list_any-or s t xs) ]
+]
+
+-- two tests that agree
+pub list_any-agree : {X : Type 0} (s t : X → Bool) → ((x : X) → s x ≡ t x) → (xs : List X) → list_any s xs ≡ list_any t xs
+list_any-agree s t same [] = refl
+list_any-agree s t same (x ∷ xs) = rw (same x, list_any-agree s t same xs) refl
+
+-- one number more, which the test keeps
+pub kept-more : (test : ℕ → Bool) (n : ℕ) (kept : List ℕ) → kept ≡ filter test (up_to n) → test (n + 1) ≡ true → kept ++ (n + 1) ∷ [] ≡ filter test (up_to (n + 1))
+kept-more test n kept is e = ap (λ (ks : List ℕ). ks ++ (n + 1) ∷ []) is ∙ sym (filter-up_to-more test n ∙ ap (λ (b : Bool). filter test (up_to n) ++ cond b ((n + 1) ∷ []) []) e)
+
+-- one number more, which it does not keep
+pub kept-same : (test : ℕ → Bool) (n : ℕ) (kept : List ℕ) → kept ≡ filter test (up_to n) → test (n + 1) ≡ false → kept ≡ filter test (up_to (n + 1))
+kept-same test n kept is e = is ∙ sym (filter-up_to-more test n ∙ ap (λ (b : Bool). filter test (up_to n) ++ cond b ((n + 1) ∷ []) []) e ∙ append-nil (filter test (up_to n)))

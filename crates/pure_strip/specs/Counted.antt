@@ -1,0 +1,47 @@
+-- How many clauses hold each literal, and the variables that occur in one sign only.
+use Rattle.std.specs.Prelude.{◌≡◌, ◌≤◌, ◌<◌, ℕ, cond, IsTrue, ◌+◌, ◌*◌, ◌-◌, Bool, ◌&&◌, ◌||◌, ◌==◌, nat_lt, List, length, ℤ, pos, neg_ℤ, slice_index, slice_set, Option, find}
+use Rattle.std.specs.Ordering.{nat_cmp}
+use Rattle.std.specs.BTreeSet.{BTreeSet, contains}
+use Rattle.lk_model.specs.Lists.{is_between}
+use Rattle.lk_model.specs.Literal.{complement, rank_of, is_literal, contains as holds}
+use Rattle.lk_model.specs.PureRun.{literals_to}
+
+-- a number for each literal over the variables from 1 to n, at its rank
+pub record Counted : Type 0 where
+  pub vars : ℕ
+  pub counts : List ℕ
+
+abbrev pub count_of : List ℕ → ℤ → ℕ
+count_of counts l = slice_index counts (rank_of l)
+
+-- the literal occurs, and its complement does not
+abbrev pub is_lone : List ℕ → ℤ → Bool
+is_lone counts l = nat_lt 0 (count_of counts l) && count_of counts (complement l) == 0
+
+-- the variable occurs in one sign only
+abbrev pub is_lone_variable : List ℕ → ℕ → Bool
+is_lone_variable counts v = is_lone counts (pos v) || is_lone counts (neg_ℤ (pos v))
+
+-- the set has just the variables that occur in one sign only
+pub record AreLone (vars : ℕ) (counts : List ℕ) (lone : BTreeSet ℕ) : Type 0 where
+  pub small : vars ≤ 1000000
+  pub size : length counts ≡ 2 * vars + 2
+  pub told : (v : ℕ) → contains nat_cmp lone v ≡ (is_between 1 vars v && is_lone_variable counts v)
+
+-- one less at a literal
+abbrev pub lowered : Counted → ℤ → Counted
+lowered c l = record c { counts = slice_set c.counts (rank_of l) (count_of c.counts l - 1) }
+
+-- the least variable that occurs in one sign only, as the literal that occurs
+abbrev pub least_lone : Counted → Option ℤ
+least_lone c = find (is_lone c.counts) (literals_to c.vars)
+
+-- each literal of the clause is counted
+abbrev pub AreHeld : Counted → List ℤ → Type 0
+AreHeld c clause = (l : ℤ) → IsTrue (holds clause l) → 0 < count_of c.counts l
+
+-- one less at each literal of the clause, and at no other literal
+pub record LowersAll (clause : List ℤ) (before after : Counted) : Type 0 where
+  pub vars : after.vars ≡ before.vars
+  pub width : length after.counts ≡ length before.counts
+  pub less : (l : ℤ) → IsTrue (is_literal before.vars l) → count_of after.counts l + cond (holds clause l) 1 0 ≡ count_of before.counts l

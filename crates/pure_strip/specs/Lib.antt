@@ -1,0 +1,4 @@
+pub mod Tables
+pub mod Counted
+pub mod Live
+pub mod RunLaws

@@ -1,0 +1,37 @@
+//! The kernel.
+ghost use Rattle.std.specs.Prelude.{◌≡◌, IfOk, IsTrue};
+ghost use Rattle.lk_model.specs.Lean.{are_positions};
+ghost use Rattle.lk_model.specs.PureRun.{IsPureRun, untouched, least_pairs};
+ghost use Rattle.pure_strip.specs.RunLaws.{IsPureKernel};
+
+use crate::counts::Counts;
+use crate::holders::holders_of;
+use crate::pairs::{lengths, live_positions, pairs_of};
+use crate::run::pure_order;
+use lk_model::{Formula, OutOfMemory, PureResult};
+use std::alloc::Global;
+
+/// The pure kernel of a formula, and what shows it.
+///
+/// - `order` has the literals of the pure run: again and again the least variable that occurs, in the
+///   clauses that no literal of the order touches, in one sign only, as the literal that occurs.
+/// - `kept` has the positions that no literal of the order touches, ascending and counted from 1.
+/// - `pairs` has for each variable of the kept clauses, ascending, the least kept position with each
+///   of its literals.
+///
+/// The work grows with the number of literals times the logarithm of the number of variables.
+pub fn pure_kernel(alloc: Global, f: &Formula) -> Result<PureResult, OutOfMemory>
+    ensures order { IfOk result (λ r. IsPureRun f.now r.order) }
+    ensures kept { IfOk result (λ r. r.kept ≡ untouched f.now r.order) }
+    ensures positions { IfOk result (λ r. IsTrue (are_positions f.now r.kept)) }
+    ensures pairs { IfOk result (λ r. r.pairs ≡ least_pairs f.now r.kept) }
+    ensures kernel { IfOk result (λ r. IsPureKernel f.now r.order r.kept) }
+{
+    let holders = holders_of(alloc, f)?;
+    let mut live = vec![in alloc; true; f.len() as usize]?;
+    let mut counts = Counts::new(alloc, f.vars(), lengths(alloc, holders.as_slice())?)?;
+    let order = pure_order(alloc, f, holders.as_slice(), &mut live, &mut counts)?;
+    let kept = live_positions(alloc, live.as_slice())?;
+    let pairs = pairs_of(alloc, f, holders.as_slice(), live.as_slice())?;
+    Ok(PureResult { kept, order, pairs })
+}

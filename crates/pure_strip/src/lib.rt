@@ -1,0 +1,12 @@
+//! The pure kernel of a formula.
+#![tactic(auto)]
+
+mod counts;
+mod holders;
+mod kernel;
+mod laws;
+mod pairs;
+mod run;
+
+pub use kernel::pure_kernel;
+pub use laws::{pure_lean_law, pure_run_law};

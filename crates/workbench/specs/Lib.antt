@@ -1,0 +1,5 @@
+pub mod Lawful
+pub mod Stops
+pub mod Causes
+pub mod PureDocument
+pub mod Endings

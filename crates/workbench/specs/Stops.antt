@@ -1,0 +1,39 @@
+-- Why a command ends without its result, and what the program says of it.
+use Rattle.std.specs.Prelude.{ℕ, List, ◌++◌, codes, decimal}
+use Rattle.lk_outside.specs.declared.shelf.StartStop.{StartStop}
+use Rattle.lk_outside.specs.declared.shelf.StartStop.TheVariants as start
+use Rattle.dimacs_reader.specs.declared.reader.Refused.{Refused}
+use Rattle.dimacs_reader.specs.declared.reader.Refused.TheVariants as refused
+use Rattle.workbench.specs.declared.stop.Stop.{Stop}
+use Rattle.workbench.specs.declared.stop.Stop.TheVariants.{Words, Formula, Read, Memory}
+
+-- the stop that a refusal of the reader makes
+abbrev pub stop_of : Refused → Stop
+stop_of (refused.TooLong line) = Formula (refused.TooLong line)
+stop_of (refused.BadToken line) = Formula (refused.BadToken line)
+stop_of refused.OutOfMemory = Memory
+
+-- the stop that a refused start makes
+abbrev pub start_stop_of : StartStop → Stop
+start_stop_of start.Failed = Read
+start_stop_of start.OutOfMemory = Memory
+
+-- what the program says of a refusal
+abbrev pub refusal_line : Refused → List ℕ
+refusal_line (refused.BadToken line) = codes "leank: formula line " ++ decimal line ++ codes ": bad token\n"
+refusal_line (refused.TooLong line) = codes "leank: formula line " ++ decimal line ++ codes ": too long\n"
+refusal_line refused.OutOfMemory = codes "leank: out of memory\n"
+
+-- what the program says of a stop
+abbrev pub line_of : Stop → List ℕ
+line_of (Words i) = codes "leank: word " ++ decimal i ++ codes " refused\n"
+line_of (Formula r) = refusal_line r
+line_of Read = codes "leank: read fault\n"
+line_of Memory = codes "leank: out of memory\n"
+
+-- the status of a stop
+abbrev pub status_of : Stop → ℕ
+status_of (Words i) = 1
+status_of (Formula r) = 2
+status_of Read = 3
+status_of Memory = 9

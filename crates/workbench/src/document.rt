@@ -1,0 +1,63 @@
+//! The document of a reduction.
+ghost use Rattle.std.specs.Prelude.{◌≡◌, IfOk, IsTrue};
+ghost use Rattle.lk_model.specs.Lean.{are_positions};
+ghost use Rattle.lk_model.specs.declared.document.Document.TheVariants.{Done};
+ghost use Rattle.workbench.specs.PureDocument.{IsSetLine, clauses_at, pure_document};
+
+use lk_model::{
+    Body, Document, DoneDocument, Formula, FormulaError, List, Lit, OutOfMemory, PureResult,
+};
+use std::alloc::Global;
+
+/// The literals of the order, ascending by variable.
+pub(crate) fn set_line(alloc: Global, order: &[Lit]) -> Result<List<Lit>, OutOfMemory>
+    ensures { IfOk result (IsSetLine order.now) }
+{
+    let mut set = Vec::from_slice(alloc, order)?;
+    set.sort_by_key(|l| l.var())?;
+    Ok(List::from_vec(set))
+}
+
+/// The clauses at the kept positions, over the same variables.
+fn kept_clauses(alloc: Global, f: &Formula, kept: &[u32]) -> Result<Formula, OutOfMemory>
+    requires { IsTrue (are_positions f.now kept.now) }
+    ensures { IfOk result (λ g. g ≡ clauses_at f.now kept.now) }
+{
+    let mut clauses = match Formula::new(alloc, f.vars()) {
+        Ok(clauses) => clauses,
+        Err(FormulaError::Limit) => unreachable!(),
+        Err(FormulaError::OutOfMemory) => return Err(OutOfMemory),
+    };
+    for p in kept {
+        match clauses.push_clause(f.clause(*p)) {
+            Ok(()) => {}
+            Err(FormulaError::Limit) => unreachable!(),
+            Err(FormulaError::OutOfMemory) => return Err(OutOfMemory),
+        }
+    }
+    Ok(clauses)
+}
+
+/// The document of what the pure reducer found, with its set line.
+pub(crate) fn pure_document(
+    alloc: Global,
+    f: &Formula,
+    found: PureResult,
+    set: List<Lit>,
+) -> Result<Document, OutOfMemory>
+    requires { IsTrue (are_positions f.now found.kept) }
+    ensures { IfOk result (λ d. d ≡ Done (pure_document f.now found set)) }
+{
+    let texts = kept_clauses(alloc, f, found.kept.as_slice())?;
+    Ok(Document::Done(DoneDocument {
+        vars: f.vars(),
+        clauses: f.len(),
+        kept: found.kept,
+        set,
+        body: Body::Pure {
+            order: found.order,
+            pairs: found.pairs,
+        },
+        texts,
+    }))
+}

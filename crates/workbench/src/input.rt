@@ -1,0 +1,61 @@
+//! Reading a whole input.
+ghost use Rattle.std.specs.Prelude.{◌≡◌, ◌≢◌, OnOk, Some, ℕ, ◌<◌, length, IfOk, IfErr, IfSome, IsTrue, IsErrAnd};
+ghost use Rattle.lk_model.specs.PlainText.{IsPlainText};
+ghost use Rattle.lk_outside.specs.Causes.{HasCause};
+ghost use Rattle.workbench.specs.Causes.{StopsReading};
+
+use crate::stop::Stop;
+use dimacs_reader::Reader;
+use lk_model::Formula;
+use lk_outside::Shelf;
+use std::alloc::Global;
+
+/// How many bytes are asked for at a time.
+const PIECE: usize = 65_536;
+
+/// Reads the formula under a name.
+pub(crate) fn read_formula<H: Shelf>(
+    alloc: Global,
+    shelf: &mut H,
+    name: &str,
+) -> Result<Formula, Stop>
+    ensures formula { IfOk result (λ f. IfSome (H.told shelf.old name.now) (λ bytes. IsPlainText bytes f)) }
+    ensures stop { IfErr result (StopsReading (H.told shelf.old name.now) (H.ailing shelf.new)) }
+    ensures current { IsErrAnd result (λ s. s ≡ Stop.Read) → H.current shelf.new ≡ Some name.now }
+    ensures cause { HasCause (H.faults shelf.old) (H.faults shelf.new) (IsErrAnd result (λ s. s ≡ Stop.Read)) }
+{
+    let mut piece = vec![in alloc; 0u8; PIECE]?;
+    start_text(shelf, name)?;
+    read_started(alloc, shelf, piece.as_mut_slice())
+}
+
+/// Starts a text.
+fn start_text<H: Shelf>(shelf: &mut H, name: &str) -> Result<(), Stop>
+    ensures started { OnOk result (IsTrue (H.started shelf.new)) }
+    ensures left { OnOk result (H.left shelf.new ≡ H.told shelf.old name.now) }
+    ensures stop { IfErr result (StopsReading (H.told shelf.old name.now) (H.ailing shelf.new)) }
+    ensures current { result ≢ Err Stop.Memory → H.current shelf.new ≡ Some name.now }
+    ensures cause { HasCause (H.faults shelf.old) (H.faults shelf.new) (IsErrAnd result (λ s. s ≡ Stop.Read)) }
+{
+    shelf.start(name).map_err(|e| Stop::from(e))
+}
+
+/// Reads what is left of the started text.
+fn read_started<H: Shelf>(alloc: Global, shelf: &mut H, piece: &mut [u8]) -> Result<Formula, Stop>
+    requires started { IsTrue (H.started shelf.old) }
+    requires room { 0 < length piece.old }
+    ensures formula { IfOk result (λ f. IfSome (H.left shelf.old) (λ bytes. IsPlainText bytes f)) }
+    ensures stop { IfErr result (StopsReading (H.left shelf.old) (H.ailing shelf.new)) }
+    ensures current { H.current shelf.new ≡ H.current shelf.old }
+    ensures cause { HasCause (H.faults shelf.old) (H.faults shelf.new) (IsErrAnd result (λ s. s ≡ Stop.Read)) }
+{
+    let mut reader = Reader::new(alloc);
+    'pieces: loop {
+        let count = shelf.read(piece)?;
+        if count == 0 {
+            break 'pieces;
+        }
+        reader.feed(&piece[..count])?;
+    }
+    Ok(reader.finish()?)
+}

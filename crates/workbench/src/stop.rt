@@ -1,0 +1,82 @@
+//! Why a command ends without its result.
+ghost use Rattle.std.specs.Prelude.{◌≡◌};
+ghost use Rattle.workbench.specs.declared.stop.Stop.TheVariants.{Memory as MemoryStop, Read as ReadStop};
+ghost use Rattle.workbench.specs.Stops.{stop_of, start_stop_of, status_of};
+
+use dimacs_reader::Refused;
+use lk_model::OutOfMemory;
+use lk_outside::{Failed, StartStop};
+use std::alloc::AllocError;
+
+/// Why a command ends without its result.
+#[derive(Clone, Copy, Debug, PartialEq, Eq)]
+pub(crate) enum Stop {
+    /// The words are not lawful; the number of the refused one.
+    Words(usize),
+    /// The text of the formula is refused.
+    Formula(Refused),
+    /// A call on the shelf failed.
+    Read,
+    /// There was no memory.
+    Memory,
+}
+
+impl From<Refused> for Stop {
+    ghost from_gives = { λ r s. s ≡ stop_of r };
+
+    fn from(refused: Refused) -> Stop {
+        match refused {
+            Refused::OutOfMemory => Stop::Memory,
+            _ => Stop::Formula(refused),
+        }
+    }
+}
+
+impl From<Failed> for Stop {
+    ghost from_gives = { λ _ s. s ≡ ReadStop };
+
+    fn from(_e: Failed) -> Stop {
+        Stop::Read
+    }
+}
+
+impl From<StartStop> for Stop {
+    ghost from_gives = { λ e s. s ≡ start_stop_of e };
+
+    fn from(e: StartStop) -> Stop {
+        match e {
+            StartStop::Failed => Stop::Read,
+            StartStop::OutOfMemory => Stop::Memory,
+        }
+    }
+}
+
+impl From<OutOfMemory> for Stop {
+    ghost from_gives = { λ _ s. s ≡ MemoryStop };
+
+    fn from(_e: OutOfMemory) -> Stop {
+        Stop::Memory
+    }
+}
+
+impl From<AllocError> for Stop {
+    ghost from_gives = { λ _ s. s ≡ MemoryStop };
+
+    fn from(_e: AllocError) -> Stop {
+        Stop::Memory
+    }
+}
+
+impl Stop {
+    /// The status with which the program ends.
+    pub fn status(self) -> u8
+        ensures { result ≡ status_of self }
+    {
+        match self {
+            Stop::Words(_) => 1,
+            Stop::Formula(_) => 2,
+            Stop::Read => 3,
+            Stop::Memory => 9,
+        }
+    }
+}
