@@ -1,7 +1,8 @@
-pub mod Cut
-pub mod Numbers
 pub mod Literals
 pub mod Flags
-pub mod Clauses
-pub mod LineTexts
-pub mod PlainTexts
+pub mod TextLemmas
+pub mod NumberLemmas
+pub mod BodyLemmas
+pub mod LineLemmas
+pub mod WordKinds
+pub mod Spelling

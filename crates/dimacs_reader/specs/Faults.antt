@@ -2,13 +2,13 @@
 use Rattle.std.specs.Prelude.{◌≡◌, ℕ, ◌<◌, List, length}
 use Rattle.lk_model.specs.Limits.{max_bytes}
 use Rattle.lk_model.specs.Formula.{Cnf}
-use Rattle.lk_model.specs.PlainText.{IsPlainText}
+use Rattle.lk_model.specs.Dimacs.{Spells}
 use Rattle.dimacs_reader.specs.declared.reader.Refused.{Refused}
 use Rattle.dimacs_reader.specs.declared.reader.Refused.TheVariants.{BadToken, TooLong, OutOfMemory}
 
--- no formula has these bytes as its plain text
-abbrev pub IsNoPlainText : List ℕ → Type 0
-IsNoPlainText bytes = (F : Cnf) → IsPlainText bytes F → ⊥
+-- these bytes spell no formula
+abbrev pub SpellsNone : List ℕ → Type 0
+SpellsNone bytes = (F : Cnf) → Spells bytes F → ⊥
 
 -- the refusal says that these bytes are too many, and they are; or it is want of memory, which is free
 abbrev pub IsTooLong : List ℕ → Refused → Type 0

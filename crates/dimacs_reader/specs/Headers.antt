@@ -1,12 +1,19 @@
 -- The header of a text.
-use Rattle.std.specs.Prelude.{◌≡◌, ◌≤◌, ◌++◌, ℕ, List}
-use Rattle.dimacs_reader.specs.Spelling.{header_line}
+use Rattle.std.specs.Prelude.{◌≡◌, ◌≤◌, ◌∷◌, ℕ, List, Some, length, slice_range, IsTrue}
+use Rattle.lk_model.specs.Lines.{Word}
+use Rattle.lk_model.specs.Dimacs.{stated_by}
+use Rattle.lk_text.specs.Cutting.{is_one_line}
+use Rattle.lk_text.specs.declared.cuts.Cut.{Cut}
+use Rattle.dimacs_reader.specs.Contents.{content_from}
 
--- every header within the limits that these bytes begin with is this one
-abbrev pub IsOnlyHeader : List ℕ → ℕ → ℕ → List ℕ → Type 0
-IsOnlyHeader bytes vars clauses body =
-    (v c : ℕ) (rest : List ℕ) → v ≤ 1000000 → c ≤ 4000000 → bytes ≡ header_line v c ++ rest → (v ≡ vars) × (c ≡ clauses) × (rest ≡ body)
+-- the first of the lines that count, behind which the others go on
+pub record IsFirstLine (text : List ℕ) (cut : Cut) : Type 0 where
+  pub order : cut.begin ≤ cut.end
+  pub within : cut.end ≤ length text
+  pub next_within : cut.next ≤ length text
+  pub one_line : IsTrue (is_one_line (slice_range text cut.begin cut.end))
+  pub first : content_from text 0 ≡ slice_range text cut.begin cut.end ∷ content_from text cut.next
 
--- these bytes begin with no header within the limits
-abbrev pub HasNoHeader : List ℕ → Type 0
-HasNoHeader bytes = (v c : ℕ) (rest : List ℕ) → v ≤ 1000000 → c ≤ 4000000 → bytes ≡ header_line v c ++ rest → ⊥
+-- the words state no numbers within the limits
+abbrev pub StatesNone : List Word → Type 0
+StatesNone words = (v c : ℕ) → stated_by words ≡ Some (v, c) → v ≤ 1000000 → c ≤ 4000000 → ⊥

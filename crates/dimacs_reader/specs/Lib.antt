@@ -1,8 +1,9 @@
-pub mod Spelling
-pub mod Cuts
-pub mod Spelled
 pub mod Growing
+pub mod Contents
 pub mod Added
+pub mod Numbers
+pub mod Bodies
+pub mod LineKinds
 pub mod Headers
 pub mod Faults
 pub mod Reading

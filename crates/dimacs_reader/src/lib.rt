@@ -1,13 +1,13 @@
 //! Reads formulas from their DIMACS texts.
 #![tactic(auto)]
 
-mod cuts;
-mod lines;
+mod body;
+mod header;
+mod kinds;
 mod open_clause;
-mod plain;
 mod reader;
 #[cfg(test)]
 mod tests;
-mod words;
+mod text;
 
 pub use reader::{Reader, Refused};

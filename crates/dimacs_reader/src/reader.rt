@@ -1,12 +1,12 @@
 //! The reader of formulas.
 ghost use Rattle.std.specs.Prelude.{◌≡◌, ◌+◌, ◌^◌, ◌<◌, ◌≤◌, [], ◌++◌, length, OnOk, IfOk, IfErr, OnErr, None, Some};
 ghost use Rattle.lk_model.specs.Limits.{max_bytes};
-ghost use Rattle.lk_model.specs.PlainText.{IsPlainText};
-ghost use Rattle.dimacs_reader.specs.Faults.{Because, IsNoPlainText, IsTooLong};
+ghost use Rattle.lk_model.specs.Dimacs.{Spells};
+ghost use Rattle.dimacs_reader.specs.Faults.{Because, SpellsNone, IsTooLong};
 ghost use Rattle.dimacs_reader.specs.declared.reader.Refused.{Refused};
 ghost use Rattle.dimacs_reader.specs.declared.reader.Refused.TheVariants.{OutOfMemory as MemoryOut};
 
-use crate::plain::formula_of;
+use crate::text::formula_of;
 use lk_model::{Formula, OutOfMemory};
 use std::alloc::{AllocError, AllocFailed, Global};
 use std::error::Error;
@@ -20,7 +20,7 @@ const MAX_BYTES: usize = 1 << 30;
 /// is 1 for now, whichever line is at fault.
 #[derive(Clone, Copy, Debug, PartialEq, Eq)]
 pub enum Refused {
-    /// The bytes are no plain text of a formula.
+    /// The bytes are no text of a formula.
     BadToken { line: u64 },
     /// There are more than 2^30 bytes.
     TooLong { line: u64 },
@@ -115,12 +115,12 @@ impl Reader {
         taken
     }
 
-    /// The formula whose plain text was fed. It is refused as a bad token exactly where the bytes are
-    /// no plain text; a reader that has refused answers that refusal again.
+    /// The formula that the bytes spell. It is refused as a bad token exactly where the bytes are
+    /// no text of a formula; a reader that has refused answers that refusal again.
     pub fn finish(self) -> Result<Formula, Refused>
-        ensures ok { IfOk result (IsPlainText self.fed) }
+        ensures ok { IfOk result (Spells self.fed) }
         ensures going { OnOk result (self.stopped ≡ None) }
-        ensures cause { IfErr result (λ r. self.stopped ≡ None → Because r (IsNoPlainText self.fed)) }
+        ensures cause { IfErr result (λ r. self.stopped ≡ None → Because r (SpellsNone self.fed)) }
         ensures same { (r : Refused) → self.stopped ≡ Some r → result ≡ Err r }
     {
         if let Some(refused) = self.stopped {

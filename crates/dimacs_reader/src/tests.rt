@@ -1,9 +1,10 @@
+//! The reader over tables of texts.
 use crate::{Reader, Refused};
-use lk_model::Formula;
+use lk_model::{Formula, Lit};
 use std::alloc::Global;
 use std::test::Fail;
 
-const NOT_PLAIN: Refused = Refused::BadToken { line: 1 };
+const NO_FORMULA: Refused = Refused::BadToken { line: 1 };
 
 /// Reads a text that comes in pieces of so many bytes.
 fn read(alloc: Global, text: &[u8], piece: usize) -> Result<Formula, Refused> {
@@ -17,31 +18,63 @@ fn read(alloc: Global, text: &[u8], piece: usize) -> Result<Formula, Refused> {
     reader.finish()
 }
 
+/// Whether the literals are these numbers.
+fn are(literals: &[Lit], numbers: &[i32]) -> bool {
+    let read = literals.iter().map(|l| l.get());
+    read.eq(numbers.iter().copied())
+}
+
+/// Whether the formula has so many variables and these clauses.
+fn has_clauses(f: &Formula, vars: u32, clauses: &[&[i32]]) -> bool {
+    let same = (0..f.len())
+        .zip(clauses.iter())
+        .all(|(i, numbers)| are(f.clause(i + 1), numbers));
+    f.vars() == vars && f.len() as usize == clauses.len() && same
+}
+
 #[test]
 fn reads_the_same_however_the_text_is_cut(rt: HostRuntime) -> Result<(), Fail> {
     let text = b"p cnf 3 3\n1 2 0\n-2 3 0\n2 -3 0\n";
     for piece in [1, 7, 1000] {
         let formula = read(rt.alloc(), text, piece)?;
-        assert_eq!(rt; formula.vars(), 3);
-        assert_eq!(rt; formula.len(), 3);
-        let second = formula.clause(2);
-        assert_eq!(rt; second.len(), 2);
-        assert_eq!(rt; (second[0].get(), second[1].get()), (-2, 3));
+        assert!(rt; has_clauses(&formula, 3, &[&[1, 2], &[-2, 3], &[2, -3]]));
     }
     Ok(())
 }
 
+/// Texts with the variables and the clauses that they spell.
+const SPELLED: &[(&[u8], u32, &[&[i32]])] = &[
+    (b"p cnf 0 0\n", 0, &[]),
+    (b"p cnf 0 0", 0, &[]),
+    (b"p cnf 1 1\n0\n", 1, &[&[]]),
+    (b"p cnf 1 2\n1 0\n1 0\n", 1, &[&[1], &[1]]),
+    (
+        b"p cnf 1000000 1\n-1000000 0\n",
+        1_000_000,
+        &[&[-1_000_000]],
+    ),
+    (b"p cnf 1 1\n1 1 -1 0\n", 1, &[&[1, -1]]),
+    (b"p cnf 2 1\n2 1 2 1 -1 2 0\n", 2, &[&[2, 1, -1]]),
+    (
+        b"c head\nc\n\n \t\r\np cnf 2 2\n1 2 0 -1\n-2 0\n",
+        2,
+        &[&[1, 2], &[-1, -2]],
+    ),
+    (b" \tp\tcnf  2 1 \r\n1\r\n2\r\n0\r\n", 2, &[&[1, 2]]),
+    (b"p cnf 2 1\n1\nc inside\n2 0\n", 2, &[&[1, 2]]),
+    (b"p cnf 2 2\n1 0\n2", 2, &[&[1], &[2]]),
+    (b"p cnf 2 1\n1 2 0\n%\n0\nrubbish\n", 2, &[&[1, 2]]),
+    (b"p cnf 2 1\n1 2\n%\n", 2, &[&[1, 2]]),
+    (b"p cnf 007 01\n001 -002 000\n", 7, &[&[1, -2]]),
+    (b"p cnf 2 2\n0\n1 0", 2, &[&[], &[1]]),
+    (b"cp cnf 1 1\np cnf 1 1\n1 0\n", 1, &[&[1]]),
+];
+
 #[test]
-fn takes_plain_texts(rt: HostRuntime) -> Result<(), Fail> {
-    let rows = [
-        (b"p cnf 0 0\n".as_slice(), 0),
-        (b"p cnf 1 1\n0\n".as_slice(), 1),
-        (b"p cnf 1 2\n1 0\n1 0\n".as_slice(), 2),
-        (b"p cnf 1 1\n1 -1 0\n".as_slice(), 1),
-        (b"p cnf 1000000 1\n-1000000 0\n".as_slice(), 1),
-    ];
-    for (text, clauses) in rows {
-        assert_eq!(rt; read(rt.alloc(), text, 1)?.len(), clauses);
+fn takes_texts_of_the_whole_grammar(rt: HostRuntime) -> Result<(), Fail> {
+    for (i, (text, vars, clauses)) in SPELLED.iter().enumerate() {
+        let formula = read(rt.alloc(), text, 3)?;
+        assert!(rt; has_clauses(&formula, *vars, clauses), "row {i}");
     }
     Ok(())
 }
@@ -50,21 +83,29 @@ fn takes_plain_texts(rt: HostRuntime) -> Result<(), Fail> {
 fn refuses_every_other_text(rt: HostRuntime) {
     let rows = [
         b"".as_slice(),
+        b"c only comments\n",
+        b"%\np cnf 0 0\n",
         b"p cnf 3 2\n1 2 0\n",
-        b"p  cnf 1 1\n1 0\n",
-        b"p cnf 1 1\n1 1 0\n",
+        b"p cnf 3 1\n1 2 0 0\n",
         b"p cnf 1 1\n2 0\n",
-        b"p cnf 1 1\n1 0",
-        b"p cnf 1 1\n01 0\n",
         b"p cnf 1 1\n1 0\n1 0\n",
         b"p cnf 1 1\n-0 0\n",
-        b"p cnf 1 1\n1 0 \n",
-        b"c a comment\np cnf 0 0\n",
+        b"p cnf 1 1\n+1 0\n",
+        b"p cnf 1 1\n1 % 0\n",
+        b"p cnf 1 1 c\n1 0\n",
+        b"p cnf 1\n1 0\n",
+        b"p CNF 1 1\n1 0\n",
+        b"pcnf 1 1\n1 0\n",
+        b"p cnf -1 1\n1 0\n",
+        b"1 0\np cnf 1 1\n",
+        b"p cnf 1 1\np cnf 1 1\n1 0\n",
+        b"p cnf 1 1\n1\x0b0\n",
         b"p cnf 1000001 0\n",
         b"p cnf 1 4000001\n",
         b"p cnf 99999999999999999999 0\n",
+        b"p cnf 1 1\n170141183460469231731687303715884105728 0\n",
     ];
     for text in rows {
-        assert_eq!(rt; read(rt.alloc(), text, 2).err(), Some(NOT_PLAIN));
+        assert_eq!(rt; read(rt.alloc(), text, 2).err(), Some(NO_FORMULA));
     }
 }

@@ -1,6 +1,8 @@
-//! The spelling of numbers in texts.
+//! Numbers, words and lines of texts.
 #![tactic(auto)]
 
+mod cuts;
 mod numbers;
 
-pub use numbers::put_i128;
+pub use cuts::{Cut, next_line, next_word};
+pub use numbers::{NumberWord, classify, put_i128, read_plain};

@@ -1,3 +1,14 @@
 pub mod LawfulLists
+pub mod LawfulOptions
+pub mod OptionSteps
 pub mod Streams
 pub mod KeptClauses
+pub mod PureRuns
+pub mod SetLines
+pub mod Founds
+pub mod PurePairs
+pub mod PureForms
+pub mod Passed
+pub mod Accepted
+pub mod GoodInputs
+pub mod Results

@@ -1,11 +1,17 @@
 -- What was written and read so far.
-use Rattle.std.proofs.Common.{◌≡◌, ℕ, ◌+◌, ◌-◌, ◌^◌, ◌≤◌, Bool, List, ◌++◌, length, take, drop, Option, Some, None, sym, ap, ◌∙◌, append_assoc, arith}
+use Rattle.std.proofs.Common.{◌≡◌, ℕ, ◌+◌, ◌-◌, ◌^◌, ◌≤◌, Bool, List, [], ◌++◌, length, take, drop, Option, Some, None, sym, ap, subst, ◌∙◌, append_assoc, arith}
 use Rattle.std.specs.Prelude.{IsTrue}
-use Rattle.std.specs.Io.KnownBytes.{Appends, Consumes}
+use Rattle.std.specs.Io.KnownBytes.{Appends, Consumes, IsAtEnd}
 use Rattle.std.proofs.Math.Seq.{take-add, take-length}
-use Rattle.std.proofs.lemmas.List.{length-drop}
+use Rattle.std.proofs.lemmas.List.{append-nil, length-drop}
 use Rattle.lk_outside.specs.Causes.{HasCause, Rose}
+use Rattle.lk_model.specs.Dimacs.{Spells}
 use Rattle.dimacs_reader.specs.Reading.{Reading}
+use Rattle.dimacs_reader.specs.Faults.{Because, SpellsNone}
+use Rattle.dimacs_reader.specs.declared.reader.Refused.{Refused}
+use Rattle.dimacs_reader.specs.declared.reader.Refused.TheVariants as refused
+use Rattle.workbench.specs.Causes.{StopsReading}
+use Rattle.workbench.specs.Stops.{stop_of}
 
 -- so many bytes of the text were taken, and the count of faults has not fallen
 pub record Written (before now : Option (List ℕ)) (faults_before faults_now : ℕ) (text : List ℕ) (at : ℕ) : Type 0 where
@@ -53,3 +59,15 @@ Rose-from a b c p q = omega arith
 -- a count that rose behind another one's keeping
 pub Cause-then : {P Q : Type 0} (a b c : ℕ) → HasCause a b P → HasCause b c Q → HasCause a c Q
 Cause-then a b c p q = record { later = omega (arith, p.later, q.later); failed = λ x. Rose-from a b c p.later (q.failed x) }
+
+-- what was fed, up to the end, is all of the text
+all_fed : (a b fed : List ℕ) → a ≡ fed ++ b → b ≡ [] → a ≡ fed
+all_fed a b fed p e = p ∙ ap (λ (s : List ℕ). fed ++ s) e ∙ append-nil fed
+
+-- a refusal of what was fed is one of the whole text
+pub stops_at_end : (before now : Option (List ℕ)) (fed : List ℕ) (ailing : Bool) (r : Refused) → Consumes before now fed → IsAtEnd now → Because r (SpellsNone fed) → StopsReading before ailing (stop_of r)
+stops_at_end None now fed ailing (refused.BadToken line) p e h = tt
+stops_at_end (Some a) None fed ailing (refused.BadToken line) p e h = absurd p
+stops_at_end (Some a) (Some b) fed ailing (refused.BadToken line) p e h = (h.0, λ F s. h.1 F (subst (λ (bytes : List ℕ). Spells bytes F) (all_fed a b fed p e) s))
+stops_at_end before now fed ailing (refused.TooLong line) p e h = absurd h
+stops_at_end before now fed ailing refused.OutOfMemory p e h = tt

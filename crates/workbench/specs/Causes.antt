@@ -3,7 +3,7 @@ use Rattle.std.specs.Prelude.{◌≡◌, ℕ, ◌<◌, List, length, Bool, IfSom
 use Rattle.std.specs.declared.option.Option.{Option}
 use Rattle.lk_model.specs.Limits.{max_bytes}
 use Rattle.lk_model.specs.Lines.{Word}
-use Rattle.dimacs_reader.specs.Faults.{IsNoPlainText}
+use Rattle.dimacs_reader.specs.Faults.{SpellsNone}
 use Rattle.dimacs_reader.specs.declared.reader.Refused.{Refused}
 use Rattle.dimacs_reader.specs.declared.reader.Refused.TheVariants as refused
 use Rattle.workbench.specs.declared.stop.Stop.{Stop}
@@ -13,9 +13,9 @@ use Rattle.workbench.specs.declared.stop.Stop.TheVariants.{Words, Formula, Read,
 abbrev pub Told : Type 0
 Told = Word → Option (List ℕ)
 
--- the refusal that these bytes deserve: they are more than 2^30, or no formula's plain text
+-- the refusal that these bytes deserve: they are more than 2^30, or spell no formula
 abbrev pub IsRefusal : List ℕ → Refused → Type 0
-IsRefusal bytes (refused.BadToken line) = (line ≡ 1) × IsNoPlainText bytes
+IsRefusal bytes (refused.BadToken line) = (line ≡ 1) × SpellsNone bytes
 IsRefusal bytes (refused.TooLong line) = (line ≡ 1) × (max_bytes < length bytes)
 IsRefusal bytes refused.OutOfMemory = ⊥
 

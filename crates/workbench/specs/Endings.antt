@@ -4,35 +4,19 @@ use Rattle.std.specs.declared.option.Option.{Option}
 use Rattle.std.specs.Io.KnownBytes.{Appends}
 use Rattle.lk_model.specs.Formula.{Cnf}
 use Rattle.lk_model.specs.Lines.{Word}
-use Rattle.lk_model.specs.PlainText.{IsPlainText}
-use Rattle.lk_model.specs.Text.{text_of}
-use Rattle.lk_model.specs.declared.document.Document.{Document}
-use Rattle.lk_model.specs.declared.document.Document.TheVariants.{Done, Unfinished}
-use Rattle.dimacs_reader.specs.Faults.{IsNoPlainText}
+use Rattle.lk_model.specs.Dimacs.{Spells}
+use Rattle.lk_model.specs.Reduction.{ReducesTo}
+use Rattle.dimacs_reader.specs.Faults.{SpellsNone}
 use Rattle.dimacs_reader.specs.declared.reader.Refused.{Refused}
 use Rattle.workbench.specs.Lawful.{Command, Reduce, command_of, IsRefusedAt}
-use Rattle.workbench.specs.PureDocument.{IsPureReduction}
 use Rattle.workbench.specs.Causes.{Told, IsRefusal}
 use Rattle.workbench.specs.Stops.{line_of}
 use Rattle.workbench.specs.declared.stop.Stop.{Stop}
 use Rattle.workbench.specs.declared.stop.Stop.TheVariants.{Words, Formula, Read, Memory}
 
--- a finished document that reduces the formula
-abbrev pub Reduces : Cnf → Document → Type 0
-Reduces F (Done d) = IsPureReduction F d
-Reduces F (Unfinished d) = ⊥
-
--- the bytes are a formula's plain text, and the other text is that of a document that reduces the formula
-pub record IsReductionText (bytes text : List ℕ) : Type 0 where
-  pub formula : Cnf
-  pub document : Document
-  pub plain : IsPlainText bytes formula
-  pub reduces : Reduces formula document
-  pub written : text ≡ text_of document
-
 -- the text is what the command asks for, where its input is told; unlawful words ask for nothing
 abbrev pub IsResult : Option Command → Told → List ℕ → Type 0
-IsResult (Some (Reduce class name)) told text = IfSome (told name) (λ bytes. IsReductionText bytes text)
+IsResult (Some (Reduce class name options)) told text = IfSome (told name) (λ bytes. ReducesTo bytes class options.pivots text)
 IsResult None told text = ⊥
 
 -- the result was written
@@ -49,7 +33,7 @@ pub record TellsWord (words : List Word) (before after : Option (List ℕ)) : Ty
 
 -- the refusal of an input is the one that its bytes deserve, where they are told
 abbrev pub DeservesRefusal : Option Command → Told → Refused → Type 0
-DeservesRefusal (Some (Reduce class name)) told r = IfSome (told name) (λ bytes. IsRefusal bytes r)
+DeservesRefusal (Some (Reduce class name options)) told r = IfSome (told name) (λ bytes. IsRefusal bytes r)
 DeservesRefusal None told r = ⊥
 
 -- that refusal was told
@@ -60,7 +44,7 @@ pub record TellsRefusal (command : Option Command) (told : Told) (before after :
 
 -- the shelf is ailing on an input of the command
 abbrev pub AilsOnInput : Option Command → Bool → Option (List ℕ) → Type 0
-AilsOnInput (Some (Reduce class name)) ailing current = IsTrue ailing × (current ≡ Some name)
+AilsOnInput (Some (Reduce class name options)) ailing current = IsTrue ailing × (current ≡ Some name)
 AilsOnInput None ailing current = ⊥
 
 -- what stands behind a stop: the refused word, or what was met as the input was read
@@ -70,7 +54,12 @@ StopsAt words told ailing current (Formula r) = DeservesRefusal (command_of word
 StopsAt words told ailing current Read = AilsOnInput (command_of words) ailing current
 StopsAt words told ailing current Memory = Unit {0}
 
--- the command's input is told and is no formula's plain text
+-- the command's input is told and spells no formula
 abbrev pub HasBadInput : Option Command → Told → Type 0
-HasBadInput (Some (Reduce class name)) told = IsSomeAnd (told name) IsNoPlainText
+HasBadInput (Some (Reduce class name options)) told = IsSomeAnd (told name) SpellsNone
 HasBadInput None told = ⊥
+
+-- the command's input is told and spells a formula
+abbrev pub HasGoodInput : Option Command → Told → Type 0
+HasGoodInput (Some (Reduce class name options)) told = IsSomeAnd (told name) (λ bytes. (F : Cnf) × Spells bytes F)
+HasGoodInput None told = ⊥

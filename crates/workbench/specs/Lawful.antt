@@ -1,18 +1,25 @@
 -- The lawful words of the command line.
-use Rattle.std.specs.Prelude.{◌≡◌, ℕ, ◌+◌, ◌<◌, ◌≤◌, cond, ◌&&◌, List, [], ◌∷◌, ◌++◌, length, take, Option, Some, None, codes}
+use Rattle.std.specs.Prelude.{◌≡◌, ℕ, ◌+◌, ◌-◌, ◌<◌, ◌≤◌, ◌^◌, Bool, true, cond, not, ◌&&◌, List, [], ◌∷◌, ◌++◌, length, take, Option, Some, None, codes, nat_le, find, option_map, unwrap_or, option_and_then}
+use Rattle.std.specs.List.{list_any, list_all}
 use Rattle.std.specs.Str.{bytes_eq}
 use Rattle.lk_model.specs.declared.class.Class.{Class}
 use Rattle.lk_model.specs.declared.class.Class.TheVariants.{Pure}
 use Rattle.lk_model.specs.Lines.{Word}
+use Rattle.lk_model.specs.NumberWords.{natural}
 use Rattle.lk_model.specs.Text.{class_word}
+
+pub record Options : Type 0 where
+  pub conflicts : ℕ
+  pub pivots : ℕ
+  pub workers : ℕ
 
 -- what lawful words ask for: to reduce a named input for a class
 pub data Command : Type 0 where
-  Reduce : Class → Word → Command
+  Reduce : Class → Word → Options → Command
 
 -- the names of the inputs, in the order of the words
 abbrev pub inputs_of : Command → List Word
-inputs_of (Reduce class name) = name ∷ []
+inputs_of (Reduce class name options) = name ∷ []
 
 abbrev pub reduce : Word
 reduce = codes "reduce"
@@ -20,10 +27,69 @@ reduce = codes "reduce"
 abbrev pub pure : Word
 pure = class_word Pure
 
--- the command that lawful words give: `reduce`, `pure` and a name
+-- an option's word, its least number and its greatest
+pub record Key : Type 0 where
+  pub word : Word
+  pub least : ℕ
+  pub greatest : ℕ
+
+abbrev pub conflicts : Key
+conflicts = record { word = codes "--conflicts"; least = 1; greatest = 2 ^ 63 - 1 }
+
+abbrev pub pivots : Key
+pivots = record { word = codes "--pivots"; least = 0; greatest = 2 ^ 63 - 1 }
+
+abbrev pub workers : Key
+workers = record { word = codes "--workers"; least = 1; greatest = 64 }
+
+-- an option that is given
+abbrev pub Setting : Type 0
+Setting = Word × ℕ
+
+abbrev pub with_setting : Word → Option ℕ → Option (List Setting) → Option (List Setting)
+with_setting word (Some n) (Some more) = Some ((word, n) ∷ more)
+with_setting word _ _ = None
+
+-- pairs of a word and a number
+abbrev pub settings_of : List Word → Option (List Setting)
+settings_of [] = Some []
+settings_of (word ∷ []) = None
+settings_of (word ∷ value ∷ words) = with_setting word (natural value) (settings_of words)
+
+abbrev pub sets : Key → Setting → Bool
+sets key s = bytes_eq key.word s.0
+
+-- the setting has one of the keys and a number in its range
+abbrev pub is_allowed : List Key → Setting → Bool
+is_allowed keys s = list_any (λ (key : Key). sets key s && nat_le key.least s.1 && nat_le s.1 key.greatest) keys
+
+-- no word stands twice
+abbrev pub is_once : List Setting → Bool
+is_once [] = true
+is_once (s ∷ ss) = not (list_any (λ (t : Setting). bytes_eq s.0 t.0) ss) && is_once ss
+
+-- the number that a key is given, or else this one
+abbrev pub chosen : Key → ℕ → List Setting → ℕ
+chosen key default ss = unwrap_or (option_map (λ (s : Setting). s.1) (find (sets key) ss)) default
+
+abbrev pub options_by : List Setting → Options
+options_by ss = record { conflicts = chosen conflicts 100000 ss; pivots = chosen pivots 100000 ss; workers = chosen workers 1 ss }
+
+-- options in any order, each of these keys at most once
+abbrev pub options_of : List Key → List Word → Option Options
+options_of keys words = option_and_then
+    (λ ss. cond (list_all (is_allowed keys) ss && is_once ss) (Some (options_by ss)) None)
+    (settings_of words)
+
+-- the command that lawful words give: `reduce`, `pure`, a name and options
 abbrev pub command_of : List Word → Option Command
-command_of (first ∷ class ∷ name ∷ []) = cond (bytes_eq first reduce && bytes_eq class pure) (Some (Reduce Pure name)) None
+command_of (first ∷ class ∷ name ∷ words) =
+    cond (bytes_eq first reduce && bytes_eq class pure) (option_map (λ o. Reduce Pure name o) (options_of (conflicts ∷ pivots ∷ workers ∷ []) words)) None
 command_of _ = None
+
+-- the command is to reduce this input for this class, with whatever options
+abbrev pub AsksToReduce : Option Command → Class → Word → Type 0
+AsksToReduce command class name = (options : Options) × (command ≡ Some (Reduce class name options))
 
 -- some lawful list begins with these words
 pub record Begins (words : List Word) : Type 0 where

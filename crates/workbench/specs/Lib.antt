@@ -1,4 +1,5 @@
 pub mod Lawful
+pub mod OptionPlaces
 pub mod Stops
 pub mod Causes
 pub mod PureDocument

@@ -1,12 +1,11 @@
 //! The document of a reduction.
 ghost use Rattle.std.specs.Prelude.{◌≡◌, IfOk, IsTrue};
 ghost use Rattle.lk_model.specs.Lean.{are_positions};
-ghost use Rattle.lk_model.specs.declared.document.Document.TheVariants.{Done};
-ghost use Rattle.workbench.specs.PureDocument.{IsSetLine, clauses_at, pure_document};
+ghost use Rattle.lk_model.specs.Reduction.{Reduces};
+ghost use Rattle.lk_model.specs.declared.class.Class.TheVariants.{Pure};
+ghost use Rattle.workbench.specs.PureDocument.{ArePureParts, IsSetLine, clauses_at};
 
-use lk_model::{
-    Body, Document, DoneDocument, Formula, FormulaError, List, Lit, OutOfMemory, PureResult,
-};
+use lk_model::{Body, DoneDocument, Formula, FormulaError, List, Lit, OutOfMemory, PureResult};
 use std::alloc::Global;
 
 /// The literals of the order, ascending by variable.
@@ -38,18 +37,19 @@ fn kept_clauses(alloc: Global, f: &Formula, kept: &[u32]) -> Result<Formula, Out
     Ok(clauses)
 }
 
-/// The document of what the pure reducer found, with its set line.
+/// The document of what the pure reducer found, with its set line. It reduces the formula for the
+/// class pure, and the checks accept it.
 pub(crate) fn pure_document(
     alloc: Global,
     f: &Formula,
     found: PureResult,
     set: List<Lit>,
-) -> Result<Document, OutOfMemory>
-    requires { IsTrue (are_positions f.now found.kept) }
-    ensures { IfOk result (λ d. d ≡ Done (pure_document f.now found set)) }
+) -> Result<DoneDocument, OutOfMemory>
+    requires { ArePureParts f.now found set }
+    ensures { IfOk result (Reduces f.now Pure 0) }
 {
     let texts = kept_clauses(alloc, f, found.kept.as_slice())?;
-    Ok(Document::Done(DoneDocument {
+    Ok(DoneDocument {
         vars: f.vars(),
         clauses: f.len(),
         kept: found.kept,
@@ -59,5 +59,5 @@ pub(crate) fn pure_document(
             pairs: found.pairs,
         },
         texts,
-    }))
+    })
 }

@@ -1,6 +1,6 @@
 //! Reading a whole input.
 ghost use Rattle.std.specs.Prelude.{◌≡◌, ◌≢◌, OnOk, Some, ℕ, ◌<◌, length, IfOk, IfErr, IfSome, IsTrue, IsErrAnd};
-ghost use Rattle.lk_model.specs.PlainText.{IsPlainText};
+ghost use Rattle.lk_model.specs.Dimacs.{Spells};
 ghost use Rattle.lk_outside.specs.Causes.{HasCause};
 ghost use Rattle.workbench.specs.Causes.{StopsReading};
 
@@ -19,7 +19,7 @@ pub(crate) fn read_formula<H: Shelf>(
     shelf: &mut H,
     name: &str,
 ) -> Result<Formula, Stop>
-    ensures formula { IfOk result (λ f. IfSome (H.told shelf.old name.now) (λ bytes. IsPlainText bytes f)) }
+    ensures formula { IfOk result (λ f. IfSome (H.told shelf.old name.now) (λ bytes. Spells bytes f)) }
     ensures stop { IfErr result (StopsReading (H.told shelf.old name.now) (H.ailing shelf.new)) }
     ensures current { IsErrAnd result (λ s. s ≡ Stop.Read) → H.current shelf.new ≡ Some name.now }
     ensures cause { HasCause (H.faults shelf.old) (H.faults shelf.new) (IsErrAnd result (λ s. s ≡ Stop.Read)) }
@@ -44,7 +44,7 @@ fn start_text<H: Shelf>(shelf: &mut H, name: &str) -> Result<(), Stop>
 fn read_started<H: Shelf>(alloc: Global, shelf: &mut H, piece: &mut [u8]) -> Result<Formula, Stop>
     requires started { IsTrue (H.started shelf.old) }
     requires room { 0 < length piece.old }
-    ensures formula { IfOk result (λ f. IfSome (H.left shelf.old) (λ bytes. IsPlainText bytes f)) }
+    ensures formula { IfOk result (λ f. IfSome (H.left shelf.old) (λ bytes. Spells bytes f)) }
     ensures stop { IfErr result (StopsReading (H.left shelf.old) (H.ailing shelf.new)) }
     ensures current { H.current shelf.new ≡ H.current shelf.old }
     ensures cause { HasCause (H.faults shelf.old) (H.faults shelf.new) (IsErrAnd result (λ s. s ≡ Stop.Read)) }

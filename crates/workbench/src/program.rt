@@ -2,11 +2,13 @@
 ghost use Rattle.std.specs.Prelude.{◌≡◌, ◌≢◌, ◌⊎◌, ℕ, List, [], ◌∷◌, map, true, nat_eq, None, IfOk, IfErr, IsErrAnd};
 ghost use Rattle.std.specs.List.{list_any};
 ghost use Rattle.std.specs.Io.KnownBytes.{Appends};
+ghost use Rattle.lk_model.specs.Reduction.{Reduces};
+ghost use Rattle.lk_model.specs.declared.class.Class.TheVariants.{Pure};
 ghost use Rattle.lk_outside.specs.Causes.{HasCause, Rose};
 ghost use Rattle.workbench.specs.Lawful.{command_of};
 ghost use Rattle.workbench.specs.Stops.{status_of, line_of};
 ghost use Rattle.workbench.specs.declared.stop.Stop.TheVariants.{Memory as MemoryStop, Read as ReadStop};
-ghost use Rattle.workbench.specs.Endings.{Reduces, IsResult, WritesResult, StopsAt, TellsWord, TellsRefusal, AilsOnInput, HasBadInput};
+ghost use Rattle.workbench.specs.Endings.{IsResult, WritesResult, StopsAt, TellsWord, TellsRefusal, AilsOnInput, HasBadInput, HasGoodInput};
 
 use crate::document::{pure_document, set_line};
 use crate::input::read_formula;
@@ -15,7 +17,7 @@ use crate::output::write_all;
 use crate::stop::Stop;
 use crate::words::input_of;
 use cert_text::print;
-use lk_model::{Document, Formula, OutOfMemory};
+use lk_model::{Document, DoneDocument, Formula, OutOfMemory};
 use lk_outside::{Gate, Shelf, Sink};
 use pure_strip::pure_kernel;
 use std::alloc::Global;
@@ -23,7 +25,8 @@ use std::thread::Threads;
 
 /// Does what the words ask for, and answers the status with which the program ends:
 ///
-/// - 0: the result stands on `out`.
+/// - 0: the result stands on `out`: the document of the kernel of the input's formula for the class that
+///   the words name, which the checks accept.
 /// - 1: the words are not lawful. `say` has the number of the refused word.
 /// - 2: the text of the formula is outside the grammar. `say` has the line and the kind.
 /// - 3: a call on the shelf failed.
@@ -68,6 +71,13 @@ pub fn run<R: Threads + Sync, H: Shelf, O: Sink, E: Sink, G: Gate>(
         Rose (O.faults out.old) (O.faults out.new) ⊎ Rose (E.faults say.old) (E.faults say.new) }
     ensures memory { result ≡ 9 → Appends (E.written say.old) (E.written say.new) (line_of MemoryStop) }
     ensures nothing_out { result ≢ 0 → result ≢ 4 → O.written out.new ≡ O.written out.old }
+
+    // The result comes for each formula, unless a call or memory fails.
+    ensures complete { HasGoodInput (command_of (map (λ w. w.now) words.now)) (H.told shelf.old) →
+        (Rose (H.faults shelf.old) (H.faults shelf.new) → ⊥) →
+        (Rose (O.faults out.old) (O.faults out.new) → ⊥) →
+        (Rose (E.faults say.old) (E.faults say.new) → ⊥) →
+        (result ≡ 0) ⊎ (result ≡ 9) }
 {
     match perform(alloc, words, shelf) {
         Ok(text) => match write_all(out, text.as_slice()) {
@@ -92,13 +102,14 @@ fn perform<H: Shelf>(alloc: Global, words: &[&str], shelf: &mut H) -> Result<Vec
         Err(number) => return Err(Stop::Words(number)),
     };
     let formula = read_formula(alloc, shelf, name)?;
-    let document = reduce(alloc, &formula)?;
+    let document = Document::Done(reduce(alloc, &formula)?);
     Ok(print(alloc, &document)?)
 }
 
-/// The document of the pure kernel.
-fn reduce(alloc: Global, f: &Formula) -> Result<Document, OutOfMemory>
-    ensures { IfOk result (Reduces f.now) }
+/// The document of the pure kernel. It reduces the formula for the class pure, and the checks accept
+/// it.
+fn reduce(alloc: Global, f: &Formula) -> Result<DoneDocument, OutOfMemory>
+    ensures { IfOk result (Reduces f.now Pure 0) }
 {
     let found = pure_kernel(alloc, f)?;
     let set = set_line(alloc, found.order.as_slice())?;

@@ -77,12 +77,40 @@ fn reduces_texts_to_their_documents(rt: HostRuntime) -> Result<(), Fail> {
             b"p cnf 1 2\n1 0\n1 0\n",
             b"c leank 1 pure\nc formula 1 2\nc keep 0\nc set 1 0\nc order 1 0\np cnf 1 0\n",
         ),
+        (
+            b"p cnf 1 1\n1 1 -1 0\n",
+            b"c leank 1 pure\nc formula 1 1\nc keep 1 0\nc set 0\nc order 0\nc pair 1 1 1\np cnf 1 1\n1 -1 0\n",
+        ),
+        (
+            b"c made by hand\np  cnf 3  3 \n 1 2\n0 -2 3 0\n2 -3\n%\n0\n",
+            THREE_REDUCED,
+        ),
+        (
+            b"c made by hand\r\np  cnf 3  3 \r\n 1 2\r\n0 -2 3 0\r\n2 -3\r\n%\r\n0\r\n",
+            THREE_REDUCED,
+        ),
     ];
     for (text, document) in rows {
         let done = run_over(&rt, rt.alloc(), &["reduce", "pure", "f"], text, 0, 0)?;
         assert_eq!(rt; done.status, 0);
         assert_eq!(rt; done.out.bytes(), document);
         assert_eq!(rt; done.say.bytes(), b"".as_slice());
+    }
+    Ok(())
+}
+
+#[test]
+fn writes_the_same_with_options(rt: HostRuntime) -> Result<(), Fail> {
+    let rows = [
+        ["--workers", "8", "--conflicts", "1"],
+        ["--pivots", "000", "--workers", "064"],
+    ];
+    for options in rows {
+        let [first, one, second, two] = options;
+        let words = ["reduce", "pure", "f", first, one, second, two];
+        let done = run_over(&rt, rt.alloc(), &words, THREE, 0, 0)?;
+        assert_eq!(rt; done.status, 0);
+        assert_eq!(rt; done.out.bytes(), THREE_REDUCED);
     }
     Ok(())
 }
@@ -98,7 +126,19 @@ fn tells_the_refused_word(rt: HostRuntime) -> Result<(), Fail> {
         (&["reduce", "pure"], b"leank: word 3 refused\n"),
         (
             &["reduce", "pure", "f", "--workers"],
-            b"leank: word 4 refused\n",
+            b"leank: word 5 refused\n",
+        ),
+        (
+            &["reduce", "pure", "f", "--workers", "0"],
+            b"leank: word 5 refused\n",
+        ),
+        (
+            &["reduce", "pure", "f", "--workers", "2", "--workers", "2"],
+            b"leank: word 6 refused\n",
+        ),
+        (
+            &["reduce", "pure", "f", "--conflicts", "0"],
+            b"leank: word 5 refused\n",
         ),
     ];
     for (words, line) in rows {
@@ -114,8 +154,8 @@ fn tells_the_refused_word(rt: HostRuntime) -> Result<(), Fail> {
 fn tells_a_text_outside_the_grammar(rt: HostRuntime) -> Result<(), Fail> {
     let rows = [
         b"p cnf 3 2\n1 2 0\n".as_slice(),
-        b"p  cnf 1 1\n1 0\n",
-        b"p cnf 1 1\n1 1 0\n",
+        b"p cnf 1 1\n2 0\n",
+        b"1 0\n",
     ];
     for text in rows {
         let refused = run_over(&rt, rt.alloc(), &["reduce", "pure", "f"], text, 0, 0)?;

@@ -1,0 +1,263 @@
+-- Numbers, cut into runs at each 0, and literals without repeats.
+use Rattle.std.proofs.Common.{◌≡◌, ◌+◌, ◌≤◌, ◌∙◌, Bool, true, false, not, cond, ◌&&◌, ◌||◌, List, [], ◌∷◌, ◌++◌, length, map, refl, sym, ap, arith, inl, inr, ℤ, Some, append_assoc, sum_by}
+use Rattle.std.specs.Prelude.{filter, count_by}
+use Rattle.std.specs.Ordering.{int_eq}
+use Rattle.std.specs.List.{slice_split, onto_first}
+use Rattle.std.proofs.lemmas.Bool.{cases_Bool}
+use Rattle.std.proofs.lemmas.Bool.Decides.{Decides-int_eq}
+use Rattle.std.proofs.lemmas.List.{append-nil, length-append}
+use Rattle.std.proofs.lemmas.List.Elements.{filter-append}
+use Rattle.std.proofs.lemmas.List.Sums.{sum_by-cons, length-filter, count_by-le-length}
+use Rattle.lk_model.specs.Lists.{is_empty, is_zero, is_nonzero}
+use Rattle.lk_model.specs.Literal.{contains}
+use Rattle.lk_model.specs.Lines.{Word}
+use Rattle.lk_model.specs.NumberWords.{number}
+use Rattle.lk_model.specs.Dimacs.{without_empty_last, runs_of, without_repeats}
+
+-- RUNS
+
+-- two cut lists, where the last part of the one goes on in the first of the other
+glue : {X : Type 0} → List (List X) → List (List X) → List (List X)
+glue [] more = more
+glue (run ∷ []) [] = run ∷ []
+glue (run ∷ []) (first ∷ more) = (run ++ first) ∷ more
+glue (run ∷ next ∷ runs) more = run ∷ glue (next ∷ runs) more
+
+-- a cut list has a part
+abbrev HasPart : {X : Type 0} → List (List X) → Type 0
+HasPart {X} parts = (first : List X) × (more : List (List X)) × (parts ≡ first ∷ more)
+
+onto_part : {X : Type 0} (x : X) (parts : List (List X)) → HasPart (onto_first x parts)
+onto_part x [] = (x ∷ [], [], refl)
+onto_part x (part ∷ parts) = (x ∷ part, parts, refl)
+
+split_part : {X : Type 0} (p : X → Bool) (xs : List X) → HasPart (slice_split p xs)
+split_part p [] = ([], [], refl)
+split_part p (x ∷ xs) = elim (cases_Bool (p x)) [
+  | inl e ↦ ([], slice_split p xs, ap (λ (b : Bool). cond b ([] ∷ slice_split p xs) (onto_first x (slice_split p xs))) e)
+  | inr e ↦ let o = onto_part x (slice_split p xs) in (o.0, o.1, ap (λ (b : Bool). cond b ([] ∷ slice_split p xs) (onto_first x (slice_split p xs))) e ∙ o.2)
+]
+
+glue-none : {X : Type 0} (parts : List (List X)) → HasPart parts → glue ([] ∷ []) parts ≡ parts
+unfolding glue
+glue-none parts h = ap (glue ([] ∷ [])) h.2 ∙ sym h.2
+
+glue-skip : {X : Type 0} (parts more : List (List X)) → HasPart parts → glue ([] ∷ parts) more ≡ [] ∷ glue parts more
+unfolding glue
+glue-skip parts more h = ap (λ ps. glue ([] ∷ ps) more) h.2 ∙ sym (ap (λ ps. [] ∷ glue ps more) h.2)
+
+glue-onto : {X : Type 0} (x : X) (parts more : List (List X)) → HasPart parts → HasPart more → glue (onto_first x parts) more ≡ onto_first x (glue parts more)
+unfolding glue
+glue-onto x parts more h k =
+    ap (λ ps. glue (onto_first x ps) more) h.2 ∙ by_rest h.1 ∙ sym (ap (λ ps. onto_first x (glue ps more)) h.2)
+  where
+    by_rest : (rest : List (List _)) → glue ((x ∷ h.0) ∷ rest) more ≡ onto_first x (glue (h.0 ∷ rest) more)
+    by_rest [] = ap (glue ((x ∷ h.0) ∷ [])) k.2 ∙ sym (ap (λ ps. onto_first x (glue (h.0 ∷ []) ps)) k.2)
+    by_rest (next ∷ rest) = refl
+
+-- a joined list is cut as the two are
+split-append : {X : Type 0} (p : X → Bool) (xs ys : List X) → slice_split p (xs ++ ys) ≡ glue (slice_split p xs) (slice_split p ys)
+split-append p [] ys = sym (glue-none (slice_split p ys) (split_part p ys))
+split-append p (x ∷ xs) ys =
+    let rest = split-append p xs ys in
+    elim (cases_Bool (p x)) [
+      | inl e ↦
+          ap (λ (b : Bool). cond b ([] ∷ slice_split p (xs ++ ys)) (onto_first x (slice_split p (xs ++ ys)))) e
+          ∙ ap (λ ps. [] ∷ ps) rest
+          ∙ sym (glue-skip (slice_split p xs) (slice_split p ys) (split_part p xs))
+          ∙ sym (ap (λ (b : Bool). glue (cond b ([] ∷ slice_split p xs) (onto_first x (slice_split p xs))) (slice_split p ys)) e)
+      | inr e ↦
+          ap (λ (b : Bool). cond b ([] ∷ slice_split p (xs ++ ys)) (onto_first x (slice_split p (xs ++ ys)))) e
+          ∙ ap (onto_first x) rest
+          ∙ sym (glue-onto x (slice_split p xs) (slice_split p ys) (split_part p xs) (split_part p ys))
+          ∙ sym (ap (λ (b : Bool). glue (cond b ([] ∷ slice_split p xs) (onto_first x (slice_split p xs))) (slice_split p ys)) e)
+    ]
+
+glue-last : (runs : List (List ℤ)) (last first : List ℤ) (more : List (List ℤ)) → glue (runs ++ last ∷ []) (first ∷ more) ≡ runs ++ (last ++ first) ∷ more
+unfolding glue
+glue-last [] last first more = refl
+glue-last (run ∷ []) last first more = refl
+glue-last (run ∷ next ∷ runs) last first more = ap (λ rs. run ∷ rs) (glue-last (next ∷ runs) last first more)
+
+-- the runs of numbers that go on
+pub split-more : (numbers more : List ℤ) (runs : List (List ℤ)) (last : List ℤ) → slice_split is_zero numbers ≡ runs ++ last ∷ []
+    → (first : List ℤ) × (later : List (List ℤ)) × (slice_split is_zero more ≡ first ∷ later) × (slice_split is_zero (numbers ++ more) ≡ runs ++ (last ++ first) ∷ later)
+split-more numbers more runs last e =
+    let h = split_part is_zero more in
+    (h.0, h.1, h.2, split-append is_zero numbers more ∙ ap (λ ps. glue ps (slice_split is_zero more)) e ∙ ap (glue (runs ++ last ∷ [])) h.2 ∙ glue-last runs last h.0 h.1)
+
+-- a 0 closes the open run, and another number goes into it
+pub split-zero : (numbers : List ℤ) (x : ℤ) (runs : List (List ℤ)) (last : List ℤ) → slice_split is_zero numbers ≡ runs ++ last ∷ [] → is_zero x ≡ true → slice_split is_zero (numbers ++ x ∷ []) ≡ (runs ++ last ∷ []) ++ [] ∷ []
+split-zero numbers x runs last e z =
+    split-append is_zero numbers (x ∷ []) ∙ ap (λ ps. glue ps (slice_split is_zero (x ∷ []))) e
+    ∙ ap (λ (b : Bool). glue (runs ++ last ∷ []) (cond b ([] ∷ [] ∷ []) ((x ∷ []) ∷ []))) z
+    ∙ glue-last runs last [] ([] ∷ []) ∙ ap (λ (r : List ℤ). runs ++ r ∷ [] ∷ []) (append-nil last) ∙ sym (append_assoc runs (last ∷ []) ([] ∷ []))
+
+pub split-other : (numbers : List ℤ) (x : ℤ) (runs : List (List ℤ)) (last : List ℤ) → slice_split is_zero numbers ≡ runs ++ last ∷ [] → is_zero x ≡ false → slice_split is_zero (numbers ++ x ∷ []) ≡ runs ++ (last ++ x ∷ []) ∷ []
+split-other numbers x runs last e z =
+    split-append is_zero numbers (x ∷ []) ∙ ap (λ ps. glue ps (slice_split is_zero (x ∷ []))) e
+    ∙ ap (λ (b : Bool). glue (runs ++ last ∷ []) (cond b ([] ∷ [] ∷ []) ((x ∷ []) ∷ []))) z
+    ∙ glue-last runs last (x ∷ []) []
+
+-- the last run counts if it is not empty
+pub runs-last : (runs : List (List ℤ)) (last : List ℤ) → without_empty_last (runs ++ last ∷ []) ≡ runs ++ cond (is_empty last) [] (last ∷ [])
+runs-last [] [] = refl
+runs-last [] (x ∷ last) = refl
+runs-last ([] ∷ []) last = ap (λ rs. [] ∷ rs) (runs-last [] last)
+runs-last ((x ∷ run) ∷ []) last = ap (λ rs. (x ∷ run) ∷ rs) (runs-last [] last)
+runs-last ([] ∷ next ∷ runs) last = ap (λ rs. [] ∷ rs) (runs-last (next ∷ runs) last)
+runs-last ((x ∷ run) ∷ next ∷ runs) last = ap (λ rs. (x ∷ run) ∷ rs) (runs-last (next ∷ runs) last)
+
+-- at most one run is left out
+few_less : (runs : List (List ℤ)) → length runs ≤ length (without_empty_last runs) + 1
+few_less [] = omega arith
+few_less ([] ∷ []) = omega arith
+few_less ((x ∷ run) ∷ []) = omega arith
+few_less ([] ∷ next ∷ runs) = let h = few_less (next ∷ runs) in omega (arith, h)
+few_less ((x ∷ run) ∷ next ∷ runs) = let h = few_less (next ∷ runs) in omega (arith, h)
+
+-- numbers that go on have no fewer runs than were closed
+pub runs_stay : (numbers more : List ℤ) (runs : List (List ℤ)) (last : List ℤ) → slice_split is_zero numbers ≡ runs ++ last ∷ [] → length runs ≤ length (runs_of (numbers ++ more))
+runs_stay numbers more runs last e =
+    let h = split-more numbers more runs last e in
+    let size : length (slice_split is_zero (numbers ++ more)) ≡ length (runs ++ (last ++ h.0) ∷ h.1) = ap length h.3 in
+    omega (arith, few_less (slice_split is_zero (numbers ++ more)), size, length-append runs ((last ++ h.0) ∷ h.1))
+
+-- the runs hold the numbers that are not 0
+pub runs_count : (numbers : List ℤ) → sum_by length (slice_split is_zero numbers) ≡ count_by is_nonzero numbers
+runs_count [] = refl
+runs_count (x ∷ numbers) =
+    let rest = runs_count numbers in
+    let h = split_part is_zero numbers in
+    elim (cases_Bool (is_zero x)) [
+      | inl e ↦
+          let one : sum_by length (slice_split is_zero (x ∷ numbers)) ≡ 0 + sum_by length (slice_split is_zero numbers) =
+          ap (λ (b : Bool). sum_by length (cond b ([] ∷ slice_split is_zero numbers) (onto_first x (slice_split is_zero numbers)))) e ∙ sum_by-cons length [] (slice_split is_zero numbers) in
+          let two : count_by is_nonzero (x ∷ numbers) ≡ 0 + count_by is_nonzero numbers =
+          sum_by-cons (λ y. cond (is_nonzero y) 1 0) x numbers ∙ ap (λ (b : Bool). cond (not b) 1 0 + count_by is_nonzero numbers) e in
+          omega (arith, one, two, rest)
+      | inr e ↦
+          let onto : sum_by length (onto_first x (h.0 ∷ h.1)) ≡ (1 + length h.0) + sum_by length h.1 = sum_by-cons length (x ∷ h.0) h.1 ∙ (let s : length (x ∷ h.0) + sum_by length h.1 ≡ (1 + length h.0) + sum_by length h.1 = omega arith in s) in
+          let one : sum_by length (slice_split is_zero (x ∷ numbers)) ≡ (1 + length h.0) + sum_by length h.1 =
+          ap (λ (b : Bool). sum_by length (cond b ([] ∷ slice_split is_zero numbers) (onto_first x (slice_split is_zero numbers)))) e ∙ ap (λ ps. sum_by length (onto_first x ps)) h.2 ∙ onto in
+          let two : count_by is_nonzero (x ∷ numbers) ≡ 1 + count_by is_nonzero numbers =
+          sum_by-cons (λ y. cond (is_nonzero y) 1 0) x numbers ∙ ap (λ (b : Bool). cond (not b) 1 0 + count_by is_nonzero numbers) e in
+          let three : sum_by length (slice_split is_zero numbers) ≡ length h.0 + sum_by length h.1 = ap (sum_by length) h.2 ∙ sum_by-cons length h.0 h.1 in
+          omega (arith, one, two, three, rest)
+    ]
+
+-- REPEATS
+
+-- a filter by a test on values keeps a literal where the literal passes
+contains-filter : (t : ℤ → Bool) (c : List ℤ) (x : ℤ) → contains (filter t c) x ≡ (t x && contains c x)
+contains-filter t [] x = elim (cases_Bool (t x)) [ inl e ↦ rw e refl | inr e ↦ rw e refl ]
+contains-filter t (k ∷ c) x =
+    let rest = contains-filter t c x in
+    elim (cases_Bool (int_eq x k)) [
+      | inl e ↦
+          let same : x ≡ k = (Decides-int_eq x k).0 e in
+          elim (cases_Bool (t k)) [
+            | inl y ↦ let here : t x ≡ true = ap t same ∙ y in rw (y, e, here) refl
+            | inr y ↦ let here : t x ≡ false = ap t same ∙ y in rw (y, here) (rest ∙ rw here refl)
+          ]
+      | inr e ↦ elim (cases_Bool (t k)) [ inl y ↦ rw (y, e) rest | inr y ↦ rw (y, e) rest ]
+    ]
+
+-- the same literals stand in a list without its repeats
+pub contains-repeats : (ls : List ℤ) (x : ℤ) → contains (without_repeats ls) x ≡ contains ls x
+contains-repeats [] x = refl
+contains-repeats (l ∷ ls) x =
+    let rest = contains-repeats ls x in
+    elim (cases_Bool (int_eq x l)) [
+      | inl e ↦ rw e refl
+      | inr e ↦
+          let back : int_eq l x ≡ false = elim (cases_Bool (int_eq l x)) [ inl y ↦ absurd (cc (e, (Decides-int_eq x l).1 (sym ((Decides-int_eq l x).0 y)))) | inr y ↦ y ] in
+          rw e (contains-filter (λ k. not (int_eq l k)) (without_repeats ls) x ∙ ap (λ (b : Bool). not b && contains (without_repeats ls) x) back ∙ rest)
+    ]
+
+-- one literal more
+pub repeats-more : (ls : List ℤ) (x : ℤ) → without_repeats (ls ++ x ∷ []) ≡ cond (contains ls x) (without_repeats ls) (without_repeats ls ++ x ∷ [])
+repeats-more [] x = refl
+repeats-more (l ∷ ls) x =
+    let rest = repeats-more ls x in
+    let kept : ℤ → Bool = λ k. not (int_eq l k) in
+    elim (cases_Bool (contains ls x)) [
+      | inl e ↦
+          let in_rest : without_repeats (ls ++ x ∷ []) ≡ without_repeats ls = rest ∙ ap (λ (b : Bool). cond b (without_repeats ls) (without_repeats ls ++ x ∷ [])) e in
+          let there : contains (l ∷ ls) x ≡ true = or_either (int_eq x l) (contains ls x) e in
+          ap (λ ks. l ∷ filter kept ks) in_rest ∙ sym (ap (λ (b : Bool). cond b (without_repeats (l ∷ ls)) (without_repeats (l ∷ ls) ++ x ∷ [])) there)
+      | inr e ↦
+          let in_rest : without_repeats (ls ++ x ∷ []) ≡ without_repeats ls ++ x ∷ [] = rest ∙ ap (λ (b : Bool). cond b (without_repeats ls) (without_repeats ls ++ x ∷ [])) e in
+          let whole : filter kept (without_repeats ls ++ x ∷ []) ≡ filter kept (without_repeats ls) ++ filter kept (x ∷ []) = filter-append kept (without_repeats ls) (x ∷ []) in
+          elim (cases_Bool (int_eq l x)) [
+            | inl y ↦
+                let there : contains (l ∷ ls) x ≡ true = ap (λ (b : Bool). b || contains ls x) ((Decides-int_eq x l).1 (sym ((Decides-int_eq l x).0 y))) in
+                ap (λ ks. l ∷ filter kept ks) in_rest ∙ ap (λ ks. l ∷ ks) (whole ∙ ap (λ (b : Bool). filter kept (without_repeats ls) ++ cond (not b) (x ∷ []) []) y ∙ append-nil (filter kept (without_repeats ls)))
+                ∙ sym (ap (λ (b : Bool). cond b (without_repeats (l ∷ ls)) (without_repeats (l ∷ ls) ++ x ∷ [])) there)
+            | inr y ↦
+                let back : int_eq x l ≡ false = elim (cases_Bool (int_eq x l)) [ inl z ↦ absurd (cc (y, (Decides-int_eq l x).1 (sym ((Decides-int_eq x l).0 z)))) | inr z ↦ z ] in
+                let there : contains (l ∷ ls) x ≡ false = ap (λ (b : Bool). b || contains ls x) back ∙ e in
+                ap (λ ks. l ∷ filter kept ks) in_rest ∙ ap (λ ks. l ∷ ks) (whole ∙ ap (λ (b : Bool). filter kept (without_repeats ls) ++ cond (not b) (x ∷ []) []) y)
+                ∙ sym (ap (λ (b : Bool). cond b (without_repeats (l ∷ ls)) (without_repeats (l ∷ ls) ++ x ∷ [])) there)
+          ]
+    ]
+  where
+    or_either : (a b : Bool) → b ≡ true → (a || b) ≡ true
+    or_either true b e = refl
+    or_either false b e = e
+
+-- no more literals than numbers
+pub repeats-length : (ls : List ℤ) → length (without_repeats ls) ≤ length ls
+repeats-length [] = omega arith
+repeats-length (l ∷ ls) =
+    let rest = repeats-length ls in
+    let less = filter-length (λ k. not (int_eq l k)) (without_repeats ls) in
+    omega (arith, rest, less)
+  where
+    filter-length : (t : ℤ → Bool) (c : List ℤ) → length (filter t c) ≤ length c
+    filter-length t c = omega (arith, length-filter t c, count_by-le-length t c)
+
+-- a list without repeats is empty where the list is
+pub repeats-empty : (ls : List ℤ) → is_empty (without_repeats ls) ≡ is_empty ls
+repeats-empty [] = refl
+repeats-empty (l ∷ ls) = refl
+
+-- READ WORDS
+
+-- what was read before a word, the word, and what comes behind it
+pub record ReadSplit (word : Word) (more : List Word) (numbers before : List ℤ) : Type 0 where
+  pub value : ℤ
+  pub later : List ℤ
+  pub word_is : number word ≡ Some value
+  pub parts : numbers ≡ before ++ value ∷ later
+  pub rest : map number more ≡ map Some later
+
+pub read_split : (words : List Word) (word : Word) (more : List Word) (numbers before : List ℤ) → map number (words ++ word ∷ more) ≡ map Some numbers → map number words ≡ map Some before → ReadSplit word more numbers before
+read_split [] word more [] [] e f = absurd (let g : ⊥ = cc in g)
+read_split [] word more (x ∷ numbers) [] e f = let here : number word ≡ Some x = cc in let later : map number more ≡ map Some numbers = cc in record { value = x; later = numbers; word_is = here; parts = refl; rest = later }
+read_split [] word more numbers (y ∷ before) e f = absurd (let g : ⊥ = cc in g)
+read_split (w ∷ words) word more [] before e f = absurd (let g : ⊥ = cc in g)
+read_split (w ∷ words) word more (x ∷ numbers) [] e f = absurd (let g : ⊥ = cc in g)
+read_split (w ∷ words) word more (x ∷ numbers) (y ∷ before) e f =
+    let here : number w ≡ Some x = cc in
+    let there : number w ≡ Some y = cc in
+    let same : y ≡ x = some_same y x (sym there ∙ here) in
+    let tail : map number (words ++ word ∷ more) ≡ map Some numbers = cc in
+    let front : map number words ≡ map Some before = cc in
+    let r = read_split words word more numbers before tail front in
+    record { value = r.value; later = r.later; word_is = r.word_is; parts = ap (λ ns. x ∷ ns) r.parts ∙ ap (λ z. z ∷ (before ++ r.value ∷ r.later)) (sym same); rest = r.rest }
+  where
+    some_same : (a b : ℤ) → Some a ≡ Some b → a ≡ b
+    some_same a b e = cc
+
+-- words write one list of numbers at most
+pub read_once : (numbers others : List ℤ) → map Some numbers ≡ map Some others → numbers ≡ others
+read_once [] [] e = refl
+read_once [] (y ∷ others) e = absurd (let g : ⊥ = cc in g)
+read_once (x ∷ numbers) [] e = absurd (let g : ⊥ = cc in g)
+read_once (x ∷ numbers) (y ∷ others) e =
+    let here : Some x ≡ Some y = cc in
+    let tail : map Some numbers ≡ map Some others = cc in
+    let rest = read_once numbers others tail in
+    let same : x ≡ y = cc in
+    ap (λ z. z ∷ numbers) same ∙ ap (λ ns. y ∷ ns) rest

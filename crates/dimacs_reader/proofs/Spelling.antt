@@ -1,0 +1,155 @@
+-- Texts and what they spell, by the bytes of their lines.
+use Rattle.std.proofs.Common.{◌≡◌, ℕ, suc, ◌+◌, ◌-◌, ◌≤◌, ◌∙◌, Bool, true, false, not, cond, ◌||◌, ◌==◌, List, [], ◌∷◌, ◌++◌, length, take, map, refl, sym, ap, arith, inl, inr, Some}
+use Rattle.std.specs.Prelude.{filter, flat_map, take_while}
+use Rattle.std.specs.List.{slice_split, prefix_len}
+use Rattle.std.proofs.lemmas.Bool.{cases_Bool}
+use Rattle.std.proofs.lemmas.List.{map-append}
+use Rattle.lk_model.specs.Lists.{is_empty}
+use Rattle.lk_model.specs.Limits.{max_vars, max_bytes}
+use Rattle.lk_model.specs.Formula.{Cnf}
+use Rattle.lk_model.specs.Lines.{Piece, Word, is_newline, is_blank, placed_after, lines_of, words_of, texts}
+use Rattle.lk_model.specs.NumberWords.{number}
+use Rattle.lk_model.specs.Dimacs.{Spells, first_byte, is_blank_line, is_comment, is_end_mark, content_lines, stated_by}
+use Rattle.dimacs_reader.specs.Contents.{words_in, first_of, is_end, is_content, content_of, content_from, IsWritten}
+use Rattle.dimacs_reader.proofs.TextLemmas.{content_line, with_line}
+
+-- PIECES BY THEIR BYTES
+
+texts_placed : (n : ℕ) (parts : List (List ℕ)) → texts (placed_after n parts) ≡ parts
+texts_placed n [] = refl
+texts_placed n (part ∷ parts) = ap (λ ps. part ∷ ps) (texts_placed (n + length part + 1) parts)
+
+texts_filter : (p : List ℕ → Bool) (pieces : List Piece) → texts (filter (λ piece. p piece.bytes) pieces) ≡ filter p (texts pieces)
+texts_filter p [] = refl
+texts_filter p (piece ∷ pieces) = elim (cases_Bool (p piece.bytes)) [
+  | inl e ↦ rw e (ap (λ ps. piece.bytes ∷ ps) (texts_filter p pieces))
+  | inr e ↦ rw e (texts_filter p pieces)
+]
+
+-- the words of a line
+words_by : (line : Piece) → texts (words_of line) ≡ words_in line.bytes
+words_by line =
+    texts_filter (λ word. not (is_empty word)) (placed_after (line.last - length line.bytes) (slice_split is_blank line.bytes))
+    ∙ ap (filter (λ word. not (is_empty word))) (texts_placed (line.last - length line.bytes) (slice_split is_blank line.bytes))
+
+first_by : (words : List Piece) → first_byte words ≡ first_of (texts words)
+first_by [] = refl
+first_by (word ∷ words) = refl
+
+empty_by : (words : List Piece) → is_empty words ≡ is_empty (texts words)
+empty_by [] = refl
+empty_by (word ∷ words) = refl
+
+starts_by : (line : Piece) → first_byte (words_of line) ≡ first_of (words_in line.bytes)
+starts_by line = first_by (words_of line) ∙ ap first_of (words_by line)
+
+end_by : (line : Piece) → is_end_mark line ≡ is_end line.bytes
+end_by line = ap (λ (b : ℕ). b == 37) (starts_by line)
+
+counts_by : (line : Piece) → not (is_blank_line line || is_comment line) ≡ is_content line.bytes
+counts_by line =
+    ap (λ (b : Bool). not (b || is_comment line)) (empty_by (words_of line) ∙ ap (λ (ws : List Word). is_empty ws) (words_by line))
+    ∙ ap (λ (b : ℕ). not (is_empty (words_in line.bytes) || b == 99)) (starts_by line)
+
+abbrev pieces_of : List Piece → List Piece
+pieces_of lines = filter (λ line. not (is_blank_line line || is_comment line)) (take_while (λ line. not (is_end_mark line)) lines)
+
+pieces_line : (line : Piece) (lines : List Piece) → pieces_of (line ∷ lines) ≡ cond (is_end_mark line) [] (cond (not (is_blank_line line || is_comment line)) (line ∷ pieces_of lines) (pieces_of lines))
+pieces_line line lines =
+    let k = prefix_len (λ x. not (is_end_mark x)) lines in
+    let more : 1 + k ≡ suc k = omega arith in
+    elim (cases_Bool (is_end_mark line)) [
+      | inl e ↦
+          ap (λ (b : Bool). filter (λ x. not (is_blank_line x || is_comment x)) (take (cond (not b) (1 + k) 0) (line ∷ lines))) e
+          ∙ sym (ap (λ (b : Bool). cond b [] (cond (not (is_blank_line line || is_comment line)) (line ∷ pieces_of lines) (pieces_of lines))) e)
+      | inr e ↦
+          ap (λ (b : Bool). filter (λ x. not (is_blank_line x || is_comment x)) (take (cond (not b) (1 + k) 0) (line ∷ lines))) e
+          ∙ ap (λ (n : ℕ). filter (λ x. not (is_blank_line x || is_comment x)) (take n (line ∷ lines))) more
+          ∙ sym (ap (λ (b : Bool). cond b [] (cond (not (is_blank_line line || is_comment line)) (line ∷ pieces_of lines) (pieces_of lines))) e)
+    ]
+
+texts_cond : (end kept : Bool) (line : Piece) (rest : List Piece) → texts (cond end [] (cond kept (line ∷ rest) rest)) ≡ cond end [] (cond kept (line.bytes ∷ texts rest) (texts rest))
+texts_cond true kept line rest = refl
+texts_cond false true line rest = refl
+texts_cond false false line rest = refl
+
+content_by_bytes : (lines : List Piece) → texts (pieces_of lines) ≡ content_of (texts lines)
+content_by_bytes [] = refl
+content_by_bytes (line ∷ lines) =
+    ap texts (pieces_line line lines)
+    ∙ texts_cond (is_end_mark line) (not (is_blank_line line || is_comment line)) line (pieces_of lines)
+    ∙ ap (λ (b : Bool). cond b [] (cond (not (is_blank_line line || is_comment line)) (line.bytes ∷ texts (pieces_of lines)) (texts (pieces_of lines)))) (end_by line)
+    ∙ ap (λ (b : Bool). cond (is_end line.bytes) [] (cond b (line.bytes ∷ texts (pieces_of lines)) (texts (pieces_of lines)))) (counts_by line)
+    ∙ ap (with_line line.bytes) (content_by_bytes lines)
+    ∙ sym (content_line line.bytes (texts lines))
+
+-- the lines of a text that count
+lines_by : (text : List ℕ) → texts (content_lines text) ≡ content_from text 0
+lines_by text = content_by_bytes (lines_of text) ∙ ap content_of (texts_placed 0 (slice_split is_newline text))
+
+all_words : (lines : List Piece) → texts (flat_map words_of lines) ≡ flat_map words_in (texts lines)
+all_words [] = refl
+all_words (line ∷ lines) = map-append (λ (p : Piece). p.bytes) (words_of line) (flat_map words_of lines) ∙ ap (λ (ws : List Word). ws ++ texts (flat_map words_of lines)) (words_by line) ∙ ap (λ (ws : List Word). words_in line.bytes ++ ws) (all_words lines)
+
+-- WHAT A TEXT SPELLS
+
+-- a header and what is written behind it
+pub record Spelled (header : List ℕ) (rest : List (List ℕ)) (F : Cnf) : Type 0 where
+  pub stated : stated_by (words_in header) ≡ Some (F.vars, length F.clauses)
+  pub written : IsWritten F.vars (flat_map words_in rest) F
+  pub small : F.vars ≤ max_vars
+
+pub spells_no_line : (text : List ℕ) (F : Cnf) → content_from text 0 ≡ [] → Spells text F → ⊥
+spells_no_line text F none s =
+    let both : [] ≡ s.problem.bytes ∷ texts s.others = sym none ∙ sym (lines_by text) ∙ ap texts s.lines in
+    let f : ⊥ = cc in f
+
+pub spelled_by : (text header : List ℕ) (rest : List (List ℕ)) (F : Cnf) → content_from text 0 ≡ header ∷ rest → Spells text F → Spelled header rest F
+spelled_by text header rest F first s =
+    let both : s.problem.bytes ∷ texts s.others ≡ header ∷ rest = sym (ap texts s.lines) ∙ lines_by text ∙ first in
+    let head : s.problem.bytes ≡ header = cc in
+    let tail : texts s.others ≡ rest = cc in
+    record {
+      stated = ap (λ (h : List ℕ). stated_by (words_in h)) (sym head) ∙ ap stated_by (sym (words_by s.problem)) ∙ s.stated;
+      written = record {
+        numbers = s.numbers;
+        vars = refl;
+        read = ap (map number) (ap (flat_map words_in) (sym tail) ∙ sym (all_words s.others)) ∙ s.read;
+        clauses = s.clauses;
+        variables = s.variables;
+        few_clauses = s.clauses_limit;
+        few_literals = s.literals_limit;
+      };
+      small = s.vars_limit;
+    }
+
+-- the pieces behind bytes
+behind : (pieces : List Piece) (header : List ℕ) (rest : List (List ℕ)) → texts pieces ≡ header ∷ rest → (problem : Piece) × (others : List Piece) × (pieces ≡ problem ∷ others) × (problem.bytes ≡ header) × (texts others ≡ rest)
+behind [] header rest e = absurd (let f : ⊥ = cc in f)
+behind (problem ∷ others) header rest e = (problem, others, refl, (let h : problem.bytes ≡ header = cc in h), (let t : texts others ≡ rest = cc in t))
+
+pub spells : (text header : List ℕ) (rest : List (List ℕ)) (F : Cnf) → content_from text 0 ≡ header ∷ rest → Spelled header rest F → length text ≤ max_bytes → Spells text F
+spells text header rest F first s short =
+    let b = behind (content_lines text) header rest (lines_by text ∙ first) in
+    record {
+      problem = b.0;
+      others = b.1;
+      numbers = s.written.numbers;
+      lines = b.2;
+      stated = ap stated_by (words_by b.0) ∙ ap (λ (h : List ℕ). stated_by (words_in h)) b.3 ∙ s.stated;
+      read = ap (map number) (all_words b.1 ∙ ap (flat_map words_in) b.4) ∙ s.written.read;
+      clauses = s.written.clauses;
+      variables = s.written.variables;
+      vars_limit = s.small;
+      clauses_limit = s.written.few_clauses;
+      literals_limit = s.written.few_literals;
+      bytes_limit = short;
+    }
+
+-- a header states one pair of numbers
+pub same_header : (v c w d : ℕ) (p q : ℕ × ℕ) → p ≡ (v, c) → q ≡ (w, d) → Some p ≡ Some q → (v ≡ w) × (c ≡ d)
+same_header v c w d p q a b e =
+    let same : p ≡ q = cc in
+    let v_same : v ≡ w = sym (ap (λ (x : ℕ × ℕ). x.0) a) ∙ ap (λ (x : ℕ × ℕ). x.0) same ∙ ap (λ (x : ℕ × ℕ). x.0) b in
+    let c_same : c ≡ d = sym (ap (λ (x : ℕ × ℕ). x.1) a) ∙ ap (λ (x : ℕ × ℕ). x.1) same ∙ ap (λ (x : ℕ × ℕ). x.1) b in
+    (v_same, c_same)
