@@ -1,0 +1,84 @@
+#!/usr/bin/env python3
+"""Measures leank beside SAT solvers that do not search: cadical with no conflict, and minisat that
+reads and writes the formula.
+
+    bench/bench.py LEANK [KIND ...]
+
+LEANK is the built program (crates/leank/out holds it after `bin/leank` ran once). Needs Debian's
+packages python3, cadical and minisat. Prints wall seconds, peak memory and ratios as measured;
+nothing fails by time.
+"""
+import os
+import random
+import subprocess
+import sys
+import tempfile
+import time
+
+SEED = 1
+
+
+def random_three(out):
+    """100,000 variables, and 400,000 clauses of three literals each."""
+    draw = random.Random(SEED)
+    out.write("p cnf 100000 400000\n")
+    for _ in range(400000):
+        chosen = draw.sample(range(1, 100001), 3)
+        out.write(" ".join(str(v if draw.random() < 0.5 else -v) for v in chosen) + " 0\n")
+
+
+def chain(out):
+    """1,000,000 variables; each pure literal frees the next."""
+    out.write("p cnf 1000000 999999\n1 2 0\n")
+    for v in range(2, 1000000):
+        out.write(f"{-v} {v + 1} 0\n")
+
+
+def near_limits(out):
+    """1,000,000 variables, and 4,000,000 clauses with 20,000,000 literals."""
+    draw = random.Random(SEED)
+    out.write("p cnf 1000000 4000000\n")
+    for _ in range(4000000):
+        chosen = {draw.randrange(1, 1000001) for _ in range(5)}
+        while len(chosen) < 5:
+            chosen.add(draw.randrange(1, 1000001))
+        out.write(" ".join(str(v if draw.random() < 0.5 else -v) for v in chosen) + " 0\n")
+
+
+KINDS = {"random": random_three, "chain": chain, "limits": near_limits}
+
+
+def measure(words):
+    """Wall seconds, peak memory in MB and the status of a command whose output is thrown away."""
+    begin = time.monotonic()
+    with open(os.devnull, "w") as nowhere:
+        process = subprocess.Popen(words, stdout=nowhere, stderr=nowhere)
+        _, status, usage = os.wait4(process.pid, 0)
+    process.returncode = os.waitstatus_to_exitcode(status)
+    return time.monotonic() - begin, usage.ru_maxrss / 1024, process.returncode
+
+
+def main():
+    if len(sys.argv) < 2:
+        sys.exit(__doc__)
+    leank, kinds = sys.argv[1], sys.argv[2:] or list(KINDS)
+    print(f"processors {os.cpu_count()}")
+    for kind in kinds:
+        with tempfile.NamedTemporaryFile("w", suffix=".cnf", delete=False) as file:
+            KINDS[kind](file)
+        commands = {
+            "leank": [leank, "reduce", "pure", file.name],
+            "cadical -c 0": ["cadical", "-q", "-c", "0", file.name],
+            "minisat -dimacs": ["minisat", "-verb=0", "-no-pre", "-dimacs=/dev/null", file.name],
+        }
+        print(f"{kind}: {KINDS[kind].__doc__} {os.path.getsize(file.name)} bytes")
+        own = None
+        for name, words in commands.items():
+            seconds, megabytes, status = measure(words)
+            own = own or seconds
+            print(f"  {name:18} {seconds:7.2f} s {megabytes:7.0f} MB  status {status}  leank/this {own / seconds:.2f}")
+        os.unlink(file.name)
+
+
+if __name__ == "__main__":
+    main()
