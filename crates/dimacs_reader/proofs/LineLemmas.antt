@@ -1,41 +1,67 @@
 -- Kinds of lines, and their words.
-use Rattle.std.proofs.Common.{◌≡◌, ◌≢◌, ℕ, ◌+◌, ◌-◌, ◌<◌, ◌≤◌, ◌∙◌, Bool, true, false, not, cond, ◌&&◌, ◌||◌, ◌==◌, List, [], ◌∷◌, ◌++◌, length, take, drop, get_or, refl, sym, ap, arith, inl, inr, length-drop, Option, Some, None}
-use Rattle.std.specs.Prelude.{slice_range, nat_eq}
+use Rattle.std.proofs.Common.{◌≡◌, ◌≢◌, ℕ, ◌+◌, ◌-◌, ◌<◌, ◌≤◌, ◌^◌, ◌∙◌, Bool, true, false, not, cond, ◌&&◌, ◌||◌, ◌==◌, List, [], ◌∷◌, ◌++◌, length, take, drop, get_or, refl, sym, ap, arith, inl, inr, length-drop, Option, Some, None, min}
+use Rattle.std.specs.Prelude.{slice_range, nat_eq, option_map, codes}
 use Rattle.std.specs.Str.{bytes_eq}
 use Rattle.std.specs.Option.{option_zip}
-use Rattle.std.specs.Prelude.{codes}
 use Rattle.std.proofs.lemmas.Bool.{cases_Bool, eqb-true}
 use Rattle.std.proofs.lemmas.List.{take-append-drop, take_all, get_or-take, get_or-drop}
 use Rattle.std.proofs.lemmas.List.Folds.{list_all-append}
 use Rattle.lk_model.specs.Lists.{is_empty}
-use Rattle.lk_model.specs.Lines.{Word}
+use Rattle.lk_model.specs.Lines.{Piece, Word, texts}
 use Rattle.lk_model.specs.Dimacs.{stated_by}
 use Rattle.lk_model.specs.NumberWords.{natural}
 use Rattle.lk_model.proofs.Booleans.{and_true}
 use Rattle.lk_text.specs.Cutting.{is_one_line, IsNextWord, IsNextLine}
 use Rattle.lk_text.specs.declared.cuts.Cut.{Cut}
-use Rattle.dimacs_reader.specs.Contents.{words_in, first_of, is_end, is_content, content_from}
+use Rattle.dimacs_reader.specs.Contents.{words_after, first_of, content_from}
 use Rattle.dimacs_reader.specs.LineKinds.{kind_by}
-use Rattle.dimacs_reader.specs.Headers.{StatesNone}
+use Rattle.dimacs_reader.specs.Headers.{capped}
 use Rattle.dimacs_reader.specs.declared.kinds.LineKind.{LineKind}
-use Rattle.dimacs_reader.specs.declared.kinds.LineKind.TheVariants.{Skipped, EndMark, Content}
-use Rattle.dimacs_reader.proofs.TextLemmas.{words_next, with_line, content_next}
+use Rattle.dimacs_reader.specs.declared.kinds.LineKind.TheVariants.{Skipped, EndMark, Problem, Numbers}
+use Rattle.dimacs_reader.proofs.TextLemmas.{length-range, content_next}
+use Rattle.dimacs_reader.proofs.PieceLemmas.{words_next, words_texts}
 
--- the kind of a line with these words
-abbrev kind_with : List Word → LineKind
-kind_with words = cond (first_of words == 37) EndMark (cond (not (is_empty words || first_of words == 99)) Content Skipped)
-
-pub kind_blank : (line : List ℕ) → words_in line ≡ [] → kind_by line ≡ Skipped
-kind_blank line e = ap kind_with e
+-- the kind by the first byte that is no blank, and its place
+abbrev kind_at : ℕ → ℕ → LineKind
+kind_at byte first = cond (byte == 37) (EndMark first) (cond (byte == 99) Skipped (cond (byte == 112) (Problem first) (Numbers first)))
 
 -- the byte at which the first word begins
-pub kind_first : (line : List ℕ) (cut : Cut) → IsNextWord line 0 cut → kind_by line ≡ cond (get_or line cut.begin 0 == 37) EndMark (cond (not (get_or line cut.begin 0 == 99)) Content Skipped)
-kind_first line cut h =
+kind_first : (line : List ℕ) (before : ℕ) (cut : Cut) → IsNextWord line 0 cut → kind_by (words_after before line) ≡ kind_at (get_or line cut.begin 0) (before + cut.begin + 1)
+kind_first line before cut h =
+    let word = slice_range line cut.begin cut.end in
+    let order : cut.begin ≤ cut.end = omega (arith, h.some) in
+    let size : length word ≡ cut.end - cut.begin = length-range line cut.begin cut.end order h.within in
     let some : 0 < cut.end - cut.begin = omega (arith, h.some) in
     let place : cut.begin + 0 ≡ cut.begin = omega arith in
-    let first : get_or (slice_range line cut.begin cut.end) 0 0 ≡ get_or line cut.begin 0 =
+    let first : get_or word 0 0 ≡ get_or line cut.begin 0 =
     get_or-take (cut.end - cut.begin) (drop cut.begin line) 0 0 some ∙ get_or-drop cut.begin line 0 0 ∙ ap (λ (n : ℕ). get_or line n 0) place in
-    ap kind_with (words_next line 0 cut h) ∙ ap (λ (b : ℕ). cond (b == 37) EndMark (cond (not (b == 99)) Content Skipped)) first
+    let begins : before + cut.end + 1 - length word ≡ before + cut.begin + 1 = omega (arith, size, h.some) in
+    let start : before + 0 ≡ before = omega arith in
+    ap (λ (n : ℕ). kind_by (words_after n line)) (sym start)
+    ∙ ap kind_by (words_next line 0 before cut h)
+    ∙ ap (λ (b : ℕ). kind_at b (before + cut.end + 1 - length word)) first
+    ∙ ap (kind_at (get_or line cut.begin 0)) begins
+
+not_equal : (a b : ℕ) → a ≢ b → (a == b) ≡ false
+not_equal a b ne = elim (cases_Bool (a == b)) [ inl e ↦ absurd (ne (eqb-true a b e)) | inr e ↦ e ]
+
+pub kind_end : (line : List ℕ) (before : ℕ) (cut : Cut) → IsNextWord line 0 cut → get_or line cut.begin 0 ≡ 37 → EndMark (before + cut.begin + 1) ≡ kind_by (words_after before line)
+kind_end line before cut h e = sym (kind_first line before cut h ∙ ap (λ (b : ℕ). kind_at b (before + cut.begin + 1)) e)
+
+pub kind_comment : (line : List ℕ) (before : ℕ) (cut : Cut) → IsNextWord line 0 cut → get_or line cut.begin 0 ≡ 99 → Skipped ≡ kind_by (words_after before line)
+kind_comment line before cut h e = sym (kind_first line before cut h ∙ ap (λ (b : ℕ). kind_at b (before + cut.begin + 1)) e)
+
+pub kind_problem : (line : List ℕ) (before : ℕ) (cut : Cut) → IsNextWord line 0 cut → get_or line cut.begin 0 ≡ 112 → Problem (before + cut.begin + 1) ≡ kind_by (words_after before line)
+kind_problem line before cut h e = sym (kind_first line before cut h ∙ ap (λ (b : ℕ). kind_at b (before + cut.begin + 1)) e)
+
+pub kind_other : (line : List ℕ) (before : ℕ) (cut : Cut) → IsNextWord line 0 cut → get_or line cut.begin 0 ≢ 37 → get_or line cut.begin 0 ≢ 99 → get_or line cut.begin 0 ≢ 112 → Numbers (before + cut.begin + 1) ≡ kind_by (words_after before line)
+kind_other line before cut h no_end no_comment no_problem =
+    let byte = get_or line cut.begin 0 in
+    let first = before + cut.begin + 1 in
+    sym (kind_first line before cut h
+    ∙ ap (λ (b : Bool). cond b (EndMark first) (cond (byte == 99) Skipped (cond (byte == 112) (Problem first) (Numbers first)))) (not_equal byte 37 no_end)
+    ∙ ap (λ (b : Bool). cond b Skipped (cond (byte == 112) (Problem first) (Numbers first))) (not_equal byte 99 no_comment)
+    ∙ ap (λ (b : Bool). cond b (Problem first) (Numbers first)) (not_equal byte 112 no_problem))
 
 -- the rest of a line
 pub rest_is : (line : List ℕ) (n : ℕ) → slice_range line n (length line) ≡ drop n line
@@ -46,35 +72,37 @@ one_line_rest line n h =
     let parts : is_one_line (take n line ++ drop n line) ≡ true = ap is_one_line (take-append-drop n line) ∙ h in
     (and_true _ _ (sym (list_all-append (λ b. not (b == 10)) (take n line) (drop n line)) ∙ parts)).1
 
--- HEADERS
-
--- too few words or too many
-pub states_few : (words : List Word) → length words < 4 → StatesNone words
-states_few [] h v c e lv lc = cc
-states_few (a ∷ []) h v c e lv lc = cc
-states_few (a ∷ b ∷ []) h v c e lv lc = cc
-states_few (a ∷ b ∷ d ∷ []) h v c e lv lc = cc
-states_few (a ∷ b ∷ d ∷ f ∷ words) h v c e lv lc = absurd (omega (arith, h))
-
-pub states_many : (a b d f g : Word) (words : List Word) → StatesNone (a ∷ b ∷ d ∷ f ∷ g ∷ words)
-states_many a b d f g words v c e lv lc = cc
+-- CONTENTS
 
 -- what counts of a line of a kind, and of those behind it
 abbrev pub by_kind : LineKind → List ℕ → List (List ℕ) → List (List ℕ)
-by_kind EndMark line rest = []
-by_kind Content line rest = line ∷ rest
+by_kind (EndMark first) line rest = []
+by_kind (Problem first) line rest = line ∷ rest
+by_kind (Numbers first) line rest = line ∷ rest
 by_kind Skipped line rest = rest
 
-with_line_by : (line : List ℕ) (rest : List (List ℕ)) → with_line line rest ≡ by_kind (kind_by line) line rest
-with_line_by line rest = elim (cases_Bool (is_end line)) [
+-- what counts of a line with these words
+abbrev by_words : List Word → List ℕ → List (List ℕ) → List (List ℕ)
+by_words words line rest = cond (first_of words == 37) [] (cond (not (is_empty words || first_of words == 99)) (line ∷ rest) rest)
+
+same_kind : (words : List Piece) (line : List ℕ) (rest : List (List ℕ)) → by_words (texts words) line rest ≡ by_kind (kind_by words) line rest
+same_kind [] line rest = refl
+same_kind (word ∷ words) line rest = elim (cases_Bool (get_or word.bytes 0 0 == 37)) [
   | inl e ↦ rw e refl
-  | inr e ↦ elim (cases_Bool (is_content line)) [ inl y ↦ rw (e, y) refl | inr y ↦ rw (e, y) refl ]
+  | inr e ↦ elim (cases_Bool (get_or word.bytes 0 0 == 99)) [
+    | inl c ↦ rw (e, c) refl
+    | inr c ↦ elim (cases_Bool (get_or word.bytes 0 0 == 112)) [ inl p ↦ rw (e, c, p) refl | inr p ↦ rw (e, c, p) refl ]
+  ]
 ]
 
-pub content_by : (text : List ℕ) (at : ℕ) (cut : Cut) (kind : LineKind) → IsNextLine text at cut → kind ≡ kind_by (slice_range text cut.begin cut.end) → content_from text at ≡ by_kind kind (slice_range text cut.begin cut.end) (content_from text cut.next)
+pub content_by : (text : List ℕ) (at : ℕ) (cut : Cut) (kind : LineKind) → IsNextLine text at cut → kind ≡ kind_by (words_after cut.begin (slice_range text cut.begin cut.end))
+    → content_from text at ≡ by_kind kind (slice_range text cut.begin cut.end) (content_from text cut.next)
 content_by text at cut kind h k =
     let line = slice_range text cut.begin cut.end in
-    content_next text at cut h ∙ with_line_by line (content_from text cut.next) ∙ ap (λ (o : LineKind). by_kind o line (content_from text cut.next)) (sym k)
+    content_next text at cut h
+    ∙ ap (λ (words : List Word). by_words words line (content_from text cut.next)) (sym (words_texts cut.begin line))
+    ∙ same_kind (words_after cut.begin line) line (content_from text cut.next)
+    ∙ ap (λ (o : LineKind). by_kind o line (content_from text cut.next)) (sym k)
 
 pub next_within : (text : List ℕ) (at : ℕ) (cut : Cut) → IsNextLine text at cut → cut.next ≤ length text
 next_within text at cut h = elim h.ends [ inl e ↦ (let f = e.0 in let g = e.2 in omega (arith, f, g)) | inr e ↦ (let f = e.0 in let g = e.1 in omega (arith, f, g)) ]
@@ -90,29 +118,54 @@ pub some_test : {X : Type 0} (xs : List X) (b : Bool) → b ≡ nat_eq (length x
 some_test [] b e t = absurd (cc (e, t))
 some_test (x ∷ xs) b e t = refl
 
+-- HEADERS
+
+-- too few words or too many
+pub states_few : (words : List Word) → length words < 4 → stated_by words ≡ None
+states_few [] h = refl
+states_few (a ∷ []) h = refl
+states_few (a ∷ b ∷ []) h = refl
+states_few (a ∷ b ∷ d ∷ []) h = refl
+states_few (a ∷ b ∷ d ∷ f ∷ words) h = absurd (omega (arith, h))
+
+pub states_many : (a b d f g : Word) (words : List Word) → stated_by (a ∷ b ∷ d ∷ f ∷ g ∷ words) ≡ None
+states_many a b d f g words = refl
+
 -- words that state no header
-pub states_other : (a b d f : Word) → (bytes_eq a (codes "p") && bytes_eq b (codes "cnf")) ≡ false → StatesNone (a ∷ b ∷ d ∷ f ∷ [])
-states_other a b d f no_header v c e lv lc =
-    let none : stated_by (a ∷ b ∷ d ∷ f ∷ []) ≡ None = ap (λ (t : Bool). cond t (option_zip (natural d) (natural f)) None) no_header in
-    absurd (cc (e, none))
+pub states_other : (a b d f : Word) → (bytes_eq a (codes "p") && bytes_eq b (codes "cnf")) ≡ false → stated_by (a ∷ b ∷ d ∷ f ∷ []) ≡ None
+states_other a b d f no_header = ap (λ (t : Bool). cond t (option_zip (natural d) (natural f)) None) no_header
 
--- the kind by the first byte
-pub kind_end : (line : List ℕ) (cut : Cut) → IsNextWord line 0 cut → get_or line cut.begin 0 ≡ 37 → EndMark ≡ kind_by line
-kind_end line cut h e = sym (kind_first line cut h ∙ ap (λ (b : ℕ). cond (b == 37) EndMark (cond (not (b == 99)) Content Skipped)) e)
+-- the numbers of a header
+abbrev capped_at : Option ℕ → Option ℕ
+capped_at o = option_map (λ n. min n (2 ^ 127)) o
 
-not_equal : (a b : ℕ) → a ≢ b → (a == b) ≡ false
-not_equal a b ne = elim (cases_Bool (a == b)) [ inl e ↦ absurd (ne (eqb-true a b e)) | inr e ↦ e ]
+zip_capped : (v c : Option ℕ) (x y : ℕ) → Some x ≡ capped_at v → Some y ≡ capped_at c → option_map capped (option_zip v c) ≡ Some (x, y)
+zip_capped None c x y e f = absurd (let g : ⊥ = cc in g)
+zip_capped (Some v) None x y e f = absurd (let g : ⊥ = cc in g)
+zip_capped (Some v) (Some c) x y e f =
+    let left : x ≡ min v (2 ^ 127) = cc in
+    let right : y ≡ min c (2 ^ 127) = cc in
+    ap (λ (n : ℕ). Some (n, min c (2 ^ 127))) (sym left) ∙ ap (λ (n : ℕ). Some (x, n)) (sym right)
 
-pub kind_comment : (line : List ℕ) (cut : Cut) → IsNextWord line 0 cut → get_or line cut.begin 0 ≡ 99 → Skipped ≡ kind_by line
-kind_comment line cut h e = sym (kind_first line cut h ∙ ap (λ (b : ℕ). cond (b == 37) EndMark (cond (not (b == 99)) Content Skipped)) e)
+pub states_header : (a b d f : Word) (x y : ℕ) → (bytes_eq a (codes "p") && bytes_eq b (codes "cnf")) ≡ true
+    → Some x ≡ capped_at (natural d) → Some y ≡ capped_at (natural f) → option_map capped (stated_by (a ∷ b ∷ d ∷ f ∷ [])) ≡ Some (x, y)
+states_header a b d f x y header vars clauses =
+    ap (λ (t : Bool). option_map capped (cond t (option_zip (natural d) (natural f)) None)) header ∙ zip_capped (natural d) (natural f) x y vars clauses
 
-pub kind_other : (line : List ℕ) (cut : Cut) → IsNextWord line 0 cut → get_or line cut.begin 0 ≢ 37 → get_or line cut.begin 0 ≢ 99 → Content ≡ kind_by line
-kind_other line cut h no_end no_comment =
-    sym (kind_first line cut h
-    ∙ ap (λ (b : Bool). cond b EndMark (cond (not (get_or line cut.begin 0 == 99)) Content Skipped)) (not_equal (get_or line cut.begin 0) 37 no_end)
-    ∙ ap (λ (b : Bool). cond (not b) Content Skipped) (not_equal (get_or line cut.begin 0) 99 no_comment))
+-- a header without one of its numbers
+pub states_no_vars : (a b d f : Word) → None ≡ capped_at (natural d) → stated_by (a ∷ b ∷ d ∷ f ∷ []) ≡ None
+states_no_vars a b d f e = by_header (bytes_eq a (codes "p") && bytes_eq b (codes "cnf")) (natural d) e
+  where
+    by_header : (t : Bool) (o : Option ℕ) → None ≡ capped_at o → cond t (option_zip o (natural f)) None ≡ None
+    by_header true None h = refl
+    by_header true (Some v) h = absurd (let g : ⊥ = cc in g)
+    by_header false o h = refl
 
--- the words of a header
-pub states_header : (a b d f : Word) (v c : ℕ) → (bytes_eq a (codes "p") && bytes_eq b (codes "cnf")) ≡ true → natural d ≡ Some v → natural f ≡ Some c → stated_by (a ∷ b ∷ d ∷ f ∷ []) ≡ Some (v, c)
-states_header a b d f v c header vars clauses =
-    ap (λ (t : Bool). cond t (option_zip (natural d) (natural f)) None) header ∙ ap (λ (o : Option ℕ). option_zip o (natural f)) vars ∙ ap (option_zip (Some v)) clauses
+pub states_no_clauses : (a b d f : Word) → None ≡ capped_at (natural f) → stated_by (a ∷ b ∷ d ∷ f ∷ []) ≡ None
+states_no_clauses a b d f e = by_header (bytes_eq a (codes "p") && bytes_eq b (codes "cnf")) (natural d) (natural f) e
+  where
+    by_header : (t : Bool) (v o : Option ℕ) → None ≡ capped_at o → cond t (option_zip v o) None ≡ None
+    by_header true None None h = refl
+    by_header true (Some v) None h = refl
+    by_header true v (Some c) h = absurd (let g : ⊥ = cc in g)
+    by_header false v o h = refl

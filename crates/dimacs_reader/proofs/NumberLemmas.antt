@@ -1,37 +1,35 @@
 -- Numbers, cut into runs at each 0, and literals without repeats.
-use Rattle.std.proofs.Common.{◌≡◌, ◌+◌, ◌≤◌, ◌∙◌, Bool, true, false, not, cond, ◌&&◌, ◌||◌, List, [], ◌∷◌, ◌++◌, length, map, refl, sym, ap, arith, inl, inr, ℤ, Some, append_assoc, sum_by}
+use Rattle.std.proofs.Common.{◌≡◌, ◌+◌, ◌≤◌, ◌∙◌, Bool, true, false, not, cond, ◌&&◌, ◌||◌, List, [], ◌∷◌, ◌++◌, length, refl, sym, ap, arith, inl, inr, ℤ, append_assoc}
 use Rattle.std.specs.Prelude.{filter, count_by}
 use Rattle.std.specs.Ordering.{int_eq}
 use Rattle.std.specs.List.{slice_split, onto_first}
 use Rattle.std.proofs.lemmas.Bool.{cases_Bool}
 use Rattle.std.proofs.lemmas.Bool.Decides.{Decides-int_eq}
-use Rattle.std.proofs.lemmas.List.{append-nil, length-append}
+use Rattle.std.proofs.lemmas.List.{append-nil}
 use Rattle.std.proofs.lemmas.List.Elements.{filter-append}
 use Rattle.std.proofs.lemmas.List.Sums.{sum_by-cons, length-filter, count_by-le-length}
-use Rattle.lk_model.specs.Lists.{is_empty, is_zero, is_nonzero}
+use Rattle.lk_model.specs.Lists.{is_empty, is_zero}
 use Rattle.lk_model.specs.Literal.{contains}
-use Rattle.lk_model.specs.Lines.{Word}
-use Rattle.lk_model.specs.NumberWords.{number}
-use Rattle.lk_model.specs.Dimacs.{without_empty_last, runs_of, without_repeats}
+use Rattle.lk_model.specs.Dimacs.{without_empty_last, without_repeats}
 
 -- RUNS
 
 -- two cut lists, where the last part of the one goes on in the first of the other
-glue : {X : Type 0} → List (List X) → List (List X) → List (List X)
+unfoldable pub glue : {X : Type 0} → List (List X) → List (List X) → List (List X)
 glue [] more = more
 glue (run ∷ []) [] = run ∷ []
 glue (run ∷ []) (first ∷ more) = (run ++ first) ∷ more
 glue (run ∷ next ∷ runs) more = run ∷ glue (next ∷ runs) more
 
 -- a cut list has a part
-abbrev HasPart : {X : Type 0} → List (List X) → Type 0
+abbrev pub HasPart : {X : Type 0} → List (List X) → Type 0
 HasPart {X} parts = (first : List X) × (more : List (List X)) × (parts ≡ first ∷ more)
 
 onto_part : {X : Type 0} (x : X) (parts : List (List X)) → HasPart (onto_first x parts)
 onto_part x [] = (x ∷ [], [], refl)
 onto_part x (part ∷ parts) = (x ∷ part, parts, refl)
 
-split_part : {X : Type 0} (p : X → Bool) (xs : List X) → HasPart (slice_split p xs)
+pub split_part : {X : Type 0} (p : X → Bool) (xs : List X) → HasPart (slice_split p xs)
 split_part p [] = ([], [], refl)
 split_part p (x ∷ xs) = elim (cases_Bool (p x)) [
   | inl e ↦ ([], slice_split p xs, ap (λ (b : Bool). cond b ([] ∷ slice_split p xs) (onto_first x (slice_split p xs))) e)
@@ -56,7 +54,7 @@ glue-onto x parts more h k =
     by_rest (next ∷ rest) = refl
 
 -- a joined list is cut as the two are
-split-append : {X : Type 0} (p : X → Bool) (xs ys : List X) → slice_split p (xs ++ ys) ≡ glue (slice_split p xs) (slice_split p ys)
+pub split-append : {X : Type 0} (p : X → Bool) (xs ys : List X) → slice_split p (xs ++ ys) ≡ glue (slice_split p xs) (slice_split p ys)
 split-append p [] ys = sym (glue-none (slice_split p ys) (split_part p ys))
 split-append p (x ∷ xs) ys =
     let rest = split-append p xs ys in
@@ -78,13 +76,6 @@ unfolding glue
 glue-last [] last first more = refl
 glue-last (run ∷ []) last first more = refl
 glue-last (run ∷ next ∷ runs) last first more = ap (λ rs. run ∷ rs) (glue-last (next ∷ runs) last first more)
-
--- the runs of numbers that go on
-pub split-more : (numbers more : List ℤ) (runs : List (List ℤ)) (last : List ℤ) → slice_split is_zero numbers ≡ runs ++ last ∷ []
-    → (first : List ℤ) × (later : List (List ℤ)) × (slice_split is_zero more ≡ first ∷ later) × (slice_split is_zero (numbers ++ more) ≡ runs ++ (last ++ first) ∷ later)
-split-more numbers more runs last e =
-    let h = split_part is_zero more in
-    (h.0, h.1, h.2, split-append is_zero numbers more ∙ ap (λ ps. glue ps (slice_split is_zero more)) e ∙ ap (glue (runs ++ last ∷ [])) h.2 ∙ glue-last runs last h.0 h.1)
 
 -- a 0 closes the open run, and another number goes into it
 pub split-zero : (numbers : List ℤ) (x : ℤ) (runs : List (List ℤ)) (last : List ℤ) → slice_split is_zero numbers ≡ runs ++ last ∷ [] → is_zero x ≡ true → slice_split is_zero (numbers ++ x ∷ []) ≡ (runs ++ last ∷ []) ++ [] ∷ []
@@ -108,42 +99,27 @@ runs-last ((x ∷ run) ∷ []) last = ap (λ rs. (x ∷ run) ∷ rs) (runs-last 
 runs-last ([] ∷ next ∷ runs) last = ap (λ rs. [] ∷ rs) (runs-last (next ∷ runs) last)
 runs-last ((x ∷ run) ∷ next ∷ runs) last = ap (λ rs. (x ∷ run) ∷ rs) (runs-last (next ∷ runs) last)
 
--- at most one run is left out
-few_less : (runs : List (List ℤ)) → length runs ≤ length (without_empty_last runs) + 1
-few_less [] = omega arith
-few_less ([] ∷ []) = omega arith
-few_less ((x ∷ run) ∷ []) = omega arith
-few_less ([] ∷ next ∷ runs) = let h = few_less (next ∷ runs) in omega (arith, h)
-few_less ((x ∷ run) ∷ next ∷ runs) = let h = few_less (next ∷ runs) in omega (arith, h)
-
--- numbers that go on have no fewer runs than were closed
-pub runs_stay : (numbers more : List ℤ) (runs : List (List ℤ)) (last : List ℤ) → slice_split is_zero numbers ≡ runs ++ last ∷ [] → length runs ≤ length (runs_of (numbers ++ more))
-runs_stay numbers more runs last e =
-    let h = split-more numbers more runs last e in
-    let size : length (slice_split is_zero (numbers ++ more)) ≡ length (runs ++ (last ++ h.0) ∷ h.1) = ap length h.3 in
-    omega (arith, few_less (slice_split is_zero (numbers ++ more)), size, length-append runs ((last ++ h.0) ∷ h.1))
-
--- the runs hold the numbers that are not 0
-pub runs_count : (numbers : List ℤ) → sum_by length (slice_split is_zero numbers) ≡ count_by is_nonzero numbers
-runs_count [] = refl
-runs_count (x ∷ numbers) =
-    let rest = runs_count numbers in
+-- there is one run more than zeros
+pub split_count : (numbers : List ℤ) → length (slice_split is_zero numbers) ≡ count_by is_zero numbers + 1
+split_count [] = refl
+split_count (x ∷ numbers) =
+    let rest = split_count numbers in
     let h = split_part is_zero numbers in
+    let parts : length (slice_split is_zero numbers) ≡ 1 + length h.1 = ap length h.2 ∙ (let s : length (h.0 ∷ h.1) ≡ 1 + length h.1 = omega arith in s) in
     elim (cases_Bool (is_zero x)) [
       | inl e ↦
-          let one : sum_by length (slice_split is_zero (x ∷ numbers)) ≡ 0 + sum_by length (slice_split is_zero numbers) =
-          ap (λ (b : Bool). sum_by length (cond b ([] ∷ slice_split is_zero numbers) (onto_first x (slice_split is_zero numbers)))) e ∙ sum_by-cons length [] (slice_split is_zero numbers) in
-          let two : count_by is_nonzero (x ∷ numbers) ≡ 0 + count_by is_nonzero numbers =
-          sum_by-cons (λ y. cond (is_nonzero y) 1 0) x numbers ∙ ap (λ (b : Bool). cond (not b) 1 0 + count_by is_nonzero numbers) e in
+          let one : length (slice_split is_zero (x ∷ numbers)) ≡ 1 + length (slice_split is_zero numbers) =
+          ap (λ (b : Bool). length (cond b ([] ∷ slice_split is_zero numbers) (onto_first x (slice_split is_zero numbers)))) e ∙ (let s : length ([] ∷ slice_split is_zero numbers) ≡ 1 + length (slice_split is_zero numbers) = omega arith in s) in
+          let two : count_by is_zero (x ∷ numbers) ≡ 1 + count_by is_zero numbers =
+          sum_by-cons (λ y. cond (is_zero y) 1 0) x numbers ∙ ap (λ (b : Bool). cond b 1 0 + count_by is_zero numbers) e in
           omega (arith, one, two, rest)
       | inr e ↦
-          let onto : sum_by length (onto_first x (h.0 ∷ h.1)) ≡ (1 + length h.0) + sum_by length h.1 = sum_by-cons length (x ∷ h.0) h.1 ∙ (let s : length (x ∷ h.0) + sum_by length h.1 ≡ (1 + length h.0) + sum_by length h.1 = omega arith in s) in
-          let one : sum_by length (slice_split is_zero (x ∷ numbers)) ≡ (1 + length h.0) + sum_by length h.1 =
-          ap (λ (b : Bool). sum_by length (cond b ([] ∷ slice_split is_zero numbers) (onto_first x (slice_split is_zero numbers)))) e ∙ ap (λ ps. sum_by length (onto_first x ps)) h.2 ∙ onto in
-          let two : count_by is_nonzero (x ∷ numbers) ≡ 1 + count_by is_nonzero numbers =
-          sum_by-cons (λ y. cond (is_nonzero y) 1 0) x numbers ∙ ap (λ (b : Bool). cond (not b) 1 0 + count_by is_nonzero numbers) e in
-          let three : sum_by length (slice_split is_zero numbers) ≡ length h.0 + sum_by length h.1 = ap (sum_by length) h.2 ∙ sum_by-cons length h.0 h.1 in
-          omega (arith, one, two, three, rest)
+          let onto : length (onto_first x (h.0 ∷ h.1)) ≡ 1 + length h.1 = omega arith in
+          let one : length (slice_split is_zero (x ∷ numbers)) ≡ 1 + length h.1 =
+          ap (λ (b : Bool). length (cond b ([] ∷ slice_split is_zero numbers) (onto_first x (slice_split is_zero numbers)))) e ∙ ap (λ ps. length (onto_first x ps)) h.2 ∙ onto in
+          let two : count_by is_zero (x ∷ numbers) ≡ 0 + count_by is_zero numbers =
+          sum_by-cons (λ y. cond (is_zero y) 1 0) x numbers ∙ ap (λ (b : Bool). cond b 1 0 + count_by is_zero numbers) e in
+          omega (arith, one, two, parts, rest)
     ]
 
 -- REPEATS
@@ -221,43 +197,3 @@ repeats-length (l ∷ ls) =
 pub repeats-empty : (ls : List ℤ) → is_empty (without_repeats ls) ≡ is_empty ls
 repeats-empty [] = refl
 repeats-empty (l ∷ ls) = refl
-
--- READ WORDS
-
--- what was read before a word, the word, and what comes behind it
-pub record ReadSplit (word : Word) (more : List Word) (numbers before : List ℤ) : Type 0 where
-  pub value : ℤ
-  pub later : List ℤ
-  pub word_is : number word ≡ Some value
-  pub parts : numbers ≡ before ++ value ∷ later
-  pub rest : map number more ≡ map Some later
-
-pub read_split : (words : List Word) (word : Word) (more : List Word) (numbers before : List ℤ) → map number (words ++ word ∷ more) ≡ map Some numbers → map number words ≡ map Some before → ReadSplit word more numbers before
-read_split [] word more [] [] e f = absurd (let g : ⊥ = cc in g)
-read_split [] word more (x ∷ numbers) [] e f = let here : number word ≡ Some x = cc in let later : map number more ≡ map Some numbers = cc in record { value = x; later = numbers; word_is = here; parts = refl; rest = later }
-read_split [] word more numbers (y ∷ before) e f = absurd (let g : ⊥ = cc in g)
-read_split (w ∷ words) word more [] before e f = absurd (let g : ⊥ = cc in g)
-read_split (w ∷ words) word more (x ∷ numbers) [] e f = absurd (let g : ⊥ = cc in g)
-read_split (w ∷ words) word more (x ∷ numbers) (y ∷ before) e f =
-    let here : number w ≡ Some x = cc in
-    let there : number w ≡ Some y = cc in
-    let same : y ≡ x = some_same y x (sym there ∙ here) in
-    let tail : map number (words ++ word ∷ more) ≡ map Some numbers = cc in
-    let front : map number words ≡ map Some before = cc in
-    let r = read_split words word more numbers before tail front in
-    record { value = r.value; later = r.later; word_is = r.word_is; parts = ap (λ ns. x ∷ ns) r.parts ∙ ap (λ z. z ∷ (before ++ r.value ∷ r.later)) (sym same); rest = r.rest }
-  where
-    some_same : (a b : ℤ) → Some a ≡ Some b → a ≡ b
-    some_same a b e = cc
-
--- words write one list of numbers at most
-pub read_once : (numbers others : List ℤ) → map Some numbers ≡ map Some others → numbers ≡ others
-read_once [] [] e = refl
-read_once [] (y ∷ others) e = absurd (let g : ⊥ = cc in g)
-read_once (x ∷ numbers) [] e = absurd (let g : ⊥ = cc in g)
-read_once (x ∷ numbers) (y ∷ others) e =
-    let here : Some x ≡ Some y = cc in
-    let tail : map Some numbers ≡ map Some others = cc in
-    let rest = read_once numbers others tail in
-    let same : x ≡ y = cc in
-    ap (λ z. z ∷ numbers) same ∙ ap (λ ns. y ∷ ns) rest

@@ -7,30 +7,18 @@ use Rattle.std.proofs.lemmas.List.{map-append}
 use Rattle.lk_model.specs.Lists.{is_empty}
 use Rattle.lk_model.specs.Limits.{max_vars, max_bytes}
 use Rattle.lk_model.specs.Formula.{Cnf}
-use Rattle.lk_model.specs.Lines.{Piece, Word, is_newline, is_blank, placed_after, lines_of, words_of, texts}
+use Rattle.lk_model.specs.Lines.{Piece, Word, is_newline, lines_of, words_of, texts}
 use Rattle.lk_model.specs.NumberWords.{number}
 use Rattle.lk_model.specs.Dimacs.{Spells, first_byte, is_blank_line, is_comment, is_end_mark, content_lines, stated_by}
 use Rattle.dimacs_reader.specs.Contents.{words_in, first_of, is_end, is_content, content_of, content_from, IsWritten}
 use Rattle.dimacs_reader.proofs.TextLemmas.{content_line, with_line}
+use Rattle.dimacs_reader.proofs.PieceLemmas.{texts_placed, words_texts}
 
 -- PIECES BY THEIR BYTES
 
-texts_placed : (n : ℕ) (parts : List (List ℕ)) → texts (placed_after n parts) ≡ parts
-texts_placed n [] = refl
-texts_placed n (part ∷ parts) = ap (λ ps. part ∷ ps) (texts_placed (n + length part + 1) parts)
-
-texts_filter : (p : List ℕ → Bool) (pieces : List Piece) → texts (filter (λ piece. p piece.bytes) pieces) ≡ filter p (texts pieces)
-texts_filter p [] = refl
-texts_filter p (piece ∷ pieces) = elim (cases_Bool (p piece.bytes)) [
-  | inl e ↦ rw e (ap (λ ps. piece.bytes ∷ ps) (texts_filter p pieces))
-  | inr e ↦ rw e (texts_filter p pieces)
-]
-
 -- the words of a line
 words_by : (line : Piece) → texts (words_of line) ≡ words_in line.bytes
-words_by line =
-    texts_filter (λ word. not (is_empty word)) (placed_after (line.last - length line.bytes) (slice_split is_blank line.bytes))
-    ∙ ap (filter (λ word. not (is_empty word))) (texts_placed (line.last - length line.bytes) (slice_split is_blank line.bytes))
+words_by line = words_texts (line.last - length line.bytes) line.bytes
 
 first_by : (words : List Piece) → first_byte words ≡ first_of (texts words)
 first_by [] = refl
@@ -99,30 +87,6 @@ pub record Spelled (header : List ℕ) (rest : List (List ℕ)) (F : Cnf) : Type
   pub written : IsWritten F.vars (flat_map words_in rest) F
   pub small : F.vars ≤ max_vars
 
-pub spells_no_line : (text : List ℕ) (F : Cnf) → content_from text 0 ≡ [] → Spells text F → ⊥
-spells_no_line text F none s =
-    let both : [] ≡ s.problem.bytes ∷ texts s.others = sym none ∙ sym (lines_by text) ∙ ap texts s.lines in
-    let f : ⊥ = cc in f
-
-pub spelled_by : (text header : List ℕ) (rest : List (List ℕ)) (F : Cnf) → content_from text 0 ≡ header ∷ rest → Spells text F → Spelled header rest F
-spelled_by text header rest F first s =
-    let both : s.problem.bytes ∷ texts s.others ≡ header ∷ rest = sym (ap texts s.lines) ∙ lines_by text ∙ first in
-    let head : s.problem.bytes ≡ header = cc in
-    let tail : texts s.others ≡ rest = cc in
-    record {
-      stated = ap (λ (h : List ℕ). stated_by (words_in h)) (sym head) ∙ ap stated_by (sym (words_by s.problem)) ∙ s.stated;
-      written = record {
-        numbers = s.numbers;
-        vars = refl;
-        read = ap (map number) (ap (flat_map words_in) (sym tail) ∙ sym (all_words s.others)) ∙ s.read;
-        clauses = s.clauses;
-        variables = s.variables;
-        few_clauses = s.clauses_limit;
-        few_literals = s.literals_limit;
-      };
-      small = s.vars_limit;
-    }
-
 -- the pieces behind bytes
 behind : (pieces : List Piece) (header : List ℕ) (rest : List (List ℕ)) → texts pieces ≡ header ∷ rest → (problem : Piece) × (others : List Piece) × (pieces ≡ problem ∷ others) × (problem.bytes ≡ header) × (texts others ≡ rest)
 behind [] header rest e = absurd (let f : ⊥ = cc in f)
@@ -145,11 +109,3 @@ spells text header rest F first s short =
       literals_limit = s.written.few_literals;
       bytes_limit = short;
     }
-
--- a header states one pair of numbers
-pub same_header : (v c w d : ℕ) (p q : ℕ × ℕ) → p ≡ (v, c) → q ≡ (w, d) → Some p ≡ Some q → (v ≡ w) × (c ≡ d)
-same_header v c w d p q a b e =
-    let same : p ≡ q = cc in
-    let v_same : v ≡ w = sym (ap (λ (x : ℕ × ℕ). x.0) a) ∙ ap (λ (x : ℕ × ℕ). x.0) same ∙ ap (λ (x : ℕ × ℕ). x.0) b in
-    let c_same : c ≡ d = sym (ap (λ (x : ℕ × ℕ). x.1) a) ∙ ap (λ (x : ℕ × ℕ). x.1) same ∙ ap (λ (x : ℕ × ℕ). x.1) b in
-    (v_same, c_same)

@@ -14,7 +14,7 @@ use Rattle.lk_text.specs.declared.cuts.Cut.{Cut}
 use Rattle.dimacs_reader.specs.Contents.{words_in, is_end, is_content, content_of, content_from}
 
 -- a test that passes nowhere
-none_pass : (p : ℕ → Bool) (xs : List ℕ) → list_all (λ b. not (p b)) xs ≡ true → All (λ b. p b ≡ false) xs
+pub none_pass : (p : ℕ → Bool) (xs : List ℕ) → list_all (λ b. not (p b)) xs ≡ true → All (λ b. p b ≡ false) xs
 none_pass p [] h k d lt = absurd (omega (arith, lt))
 none_pass p (x ∷ xs) h zero d lt = not_not (p x) (and_true _ _ h).0
   where
@@ -53,11 +53,11 @@ word_last : (word : List ℕ) → is_empty word ≡ false → has_no_blank word 
 word_last word some h =
     ap (filter (λ w. not (is_empty w))) (slice_split_none is_blank word (none_pass is_blank word h)) ∙ ap (λ (t : Bool). cond (not t) (word ∷ []) []) some
 
-not_empty : (xs : List ℕ) → 0 < length xs → is_empty xs ≡ false
+pub not_empty : (xs : List ℕ) → 0 < length xs → is_empty xs ≡ false
 not_empty [] h = absurd (omega (arith, h))
 not_empty (x ∷ xs) h = refl
 
-length-range : (xs : List ℕ) (a b : ℕ) → a ≤ b → b ≤ length xs → length (slice_range xs a b) ≡ b - a
+pub length-range : (xs : List ℕ) (a b : ℕ) → a ≤ b → b ≤ length xs → length (slice_range xs a b) ≡ b - a
 length-range xs a b low high = omega (arith, length-take (b - a) (drop a xs), length-drop a xs, low, high)
 
 -- the next word, and the words behind it

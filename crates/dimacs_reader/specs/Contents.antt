@@ -1,11 +1,11 @@
 -- The lines and words of a text that count, as bytes.
-use Rattle.std.specs.Prelude.{◌≡◌, ◌≤◌, ℕ, Bool, not, ◌||◌, ◌==◌, List, [], ◌∷◌, ◌++◌, drop, filter, flat_map, slice_index, take_while, length, map, ℤ, Some, IsTrue, nat_le, count_by}
+use Rattle.std.specs.Prelude.{◌≡◌, ◌≤◌, ℕ, Bool, not, ◌||◌, ◌==◌, List, [], ◌∷◌, drop, filter, flat_map, slice_index, take_while, length, map, ℤ, Some, IsTrue, nat_le, count_by}
 use Rattle.std.specs.List.{slice_split, list_all}
 use Rattle.lk_model.specs.Lists.{is_empty, is_nonzero}
 use Rattle.lk_model.specs.Limits.{max_clauses, max_literals}
 use Rattle.lk_model.specs.Literal.{variable}
 use Rattle.lk_model.specs.Formula.{Cnf}
-use Rattle.lk_model.specs.Lines.{Word, is_newline, is_blank}
+use Rattle.lk_model.specs.Lines.{Piece, Word, is_newline, is_blank, placed_after}
 use Rattle.lk_model.specs.NumberWords.{number}
 use Rattle.lk_model.specs.Dimacs.{runs_of, without_repeats}
 
@@ -48,6 +48,10 @@ pub record IsWritten (n : ℕ) (words : List Word) (F : Cnf) : Type 0 where
   pub few_clauses : length F.clauses ≤ max_clauses
   pub few_literals : count_by is_nonzero numbers ≤ max_literals
 
--- no words that begin so write a formula over the variables up to n
-abbrev pub WritesNone : ℕ → List Word → Type 0
-WritesNone n words = (more : List Word) (F : Cnf) → IsWritten n (words ++ more) F → ⊥
+-- the lines from a place on, each with the number of its last byte in the text
+abbrev pub lines_from : List ℕ → ℕ → List Piece
+lines_from text at = placed_after at (slice_split is_newline (drop at text))
+
+-- the words of bytes that stand in a line behind so many bytes of the text
+abbrev pub words_after : ℕ → List ℕ → List Piece
+words_after before bytes = filter (λ word. not (is_empty word.bytes)) (placed_after before (slice_split is_blank bytes))

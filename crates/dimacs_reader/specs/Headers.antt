@@ -1,19 +1,35 @@
 -- The header of a text.
-use Rattle.std.specs.Prelude.{◌≡◌, ◌≤◌, ◌∷◌, ℕ, List, Some, length, slice_range, IsTrue}
+use Rattle.std.specs.Prelude.{◌≡◌, ◌≤◌, ◌+◌, ◌^◌, ◌||◌, min, nat_lt, ◌∷◌, ℕ, List, Option, Some, None, cond, length, slice_range, IsTrue}
+use Rattle.lk_model.specs.Limits.{max_vars, max_clauses}
 use Rattle.lk_model.specs.Lines.{Word}
 use Rattle.lk_model.specs.Dimacs.{stated_by}
+use Rattle.lk_model.specs.declared.text_fault.FaultKind.{FaultKind}
+use Rattle.lk_model.specs.declared.text_fault.FaultKind.TheVariants.{BadHeader, Limit}
 use Rattle.lk_text.specs.Cutting.{is_one_line}
 use Rattle.lk_text.specs.declared.cuts.Cut.{Cut}
-use Rattle.dimacs_reader.specs.Contents.{content_from}
+use Rattle.dimacs_reader.specs.Contents.{words_in, content_from, lines_from}
+use Rattle.dimacs_reader.specs.FirstFaults.{text_fault, header_fault}
 
--- the first of the lines that count, behind which the others go on
-pub record IsFirstLine (text : List ℕ) (cut : Cut) : Type 0 where
+-- The line is the first that counts, and a header. The first fault of the text is that of the header and the lines behind.
+pub record IsHeaderLine (text : List ℕ) (cut : Cut) : Type 0 where
   pub order : cut.begin ≤ cut.end
   pub within : cut.end ≤ length text
   pub next_within : cut.next ≤ length text
   pub one_line : IsTrue (is_one_line (slice_range text cut.begin cut.end))
   pub first : content_from text 0 ≡ slice_range text cut.begin cut.end ∷ content_from text cut.next
+  pub told : text_fault text ≡ header_fault (stated_by (words_in (slice_range text cut.begin cut.end))) cut.end (lines_from text cut.next) (length text + 1)
 
--- the words state no numbers within the limits
-abbrev pub StatesNone : List Word → Type 0
-StatesNone words = (v c : ℕ) → stated_by words ≡ Some (v, c) → v ≤ 1000000 → c ≤ 4000000 → ⊥
+-- the numbers, where one past 2^127 counts for 2^127
+abbrev pub capped : ℕ × ℕ → ℕ × ℕ
+capped (v, c) = (min v (2 ^ 127), min c (2 ^ 127))
+
+-- what is wrong with a header that states these numbers, or none
+abbrev pub header_kind : Option (ℕ × ℕ) → Option FaultKind
+header_kind None = Some BadHeader
+header_kind (Some (vars, clauses)) = cond (nat_lt max_vars vars || nat_lt max_clauses clauses) (Some Limit) None
+
+-- the words are a header that states these numbers, within the limits
+pub record States (words : List Word) (header : ℕ × ℕ) : Type 0 where
+  pub stated : stated_by words ≡ Some header
+  pub vars : header.0 ≤ max_vars
+  pub clauses : header.1 ≤ max_clauses

@@ -1,9 +1,9 @@
 pub mod Growing
 pub mod Contents
-pub mod Added
+pub mod LineKinds
+pub mod FirstFaults
 pub mod Numbers
 pub mod Bodies
-pub mod LineKinds
 pub mod Headers
 pub mod Faults
 pub mod Reading

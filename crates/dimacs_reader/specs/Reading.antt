@@ -1,7 +1,7 @@
 -- A reader, by what was fed and by its refusal.
 use Rattle.std.specs.Prelude.{ℕ, List}
 use Rattle.std.specs.declared.option.Option.{Option}
-use Rattle.dimacs_reader.specs.declared.reader.Refused.{Refused}
+use Rattle.dimacs_reader.specs.declared.refusal.Refused.{Refused}
 
 -- the bytes of all pieces that were taken, and the refusal after which no more are
 pub record Reading : Type 0 where

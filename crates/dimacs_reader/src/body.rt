@@ -1,63 +1,57 @@
 //! The numbers behind the header.
-ghost use Rattle.std.specs.Prelude.{◌≡◌, ◌<◌, ◌≤◌, ◌∷◌, [], length, OnOk, OnErr, IfOk, IfErr, IfSome, IsNone, IsTrue, false};
+ghost use Rattle.std.specs.Prelude.{◌≡◌, ◌<◌, ◌≤◌, ◌+◌, ◌∷◌, [], length, OnOk, IfOk, IfErr, IfSome, IsNone, IsTrue, None};
 ghost use Rattle.lk_model.specs.Literal.{is_literal};
-ghost use Rattle.lk_model.specs.Formula.{Cnf};
+ghost use Rattle.lk_model.specs.Limits.{max_clauses};
+ghost use Rattle.lk_model.specs.NumberWords.{number};
 ghost use Rattle.lk_text.specs.Cutting.{is_one_line};
-ghost use Rattle.dimacs_reader.specs.Added.{PassesLimit};
-ghost use Rattle.dimacs_reader.specs.Faults.{Because};
-ghost use Rattle.dimacs_reader.specs.Contents.{words_in, words_from, IsWritten};
+ghost use Rattle.dimacs_reader.specs.Contents.{words_after, lines_from};
+ghost use Rattle.dimacs_reader.specs.Faults.{ForFault};
+ghost use Rattle.dimacs_reader.specs.FirstFaults.{fault_behind};
 ghost use Rattle.dimacs_reader.specs.Numbers.{IsNumber};
-ghost use Rattle.dimacs_reader.specs.Bodies.{IsOneSize, Leads, LeadsNowhere, Writes, WritesNothing, closed, with_literal};
+ghost use Rattle.dimacs_reader.specs.Bodies.{Fits, Leads, HasFault, HasFaultFrom, HasFaultAtEnd, Ends, Closes, Writes, IsRead, closed, with_literal};
 
 use crate::kinds::{LineKind, kind_of};
 use crate::open_clause::OpenClause;
-use crate::reader::Refused;
-use lk_model::{Formula, FormulaError, Lit};
+use crate::stop::Stop;
+use lk_model::{Fault, FaultKind, Formula, FormulaError, Lit, OutOfMemory};
 use lk_text::{NumberWord, classify, next_line, next_word};
 use std::alloc::Global;
 
 /// How many literals may be written, repeats counted.
 const MAX_LITERALS: u32 = 20_000_000;
 
-/// The refusal of every text that spells no formula.
-pub(crate) const NO_FORMULA: Refused = Refused::BadToken { line: 1 };
-
-/// What was read so far: the closed clauses, the one that is open, and how many numbers other than 0
-/// were written.
+/// What was read so far: the closed clauses and the one that is open, of how many clauses the header
+/// states, and how many numbers other than 0 were written.
 #[derive(Drop)]
 pub(crate) struct Body {
     pub formula: Formula,
     pub growing: OpenClause,
+    pub stated: u32,
     pub written: u32,
 }
 
 /// Closes the clause that is open.
-fn close(body: &mut Body) -> Result<(), Refused>
-    requires { IsOneSize body.old }
-    ensures ok { OnOk result (body.new ≡ closed body.old) }
-    ensures few { OnOk result (length body.new.formula.clauses ≤ 4000000) }
-    ensures fault { IfErr result (λ r. Because r (PassesLimit body.old.formula (length body.old.growing.literals))) }
+fn close(body: &mut Body) -> Result<(), OutOfMemory>
+    requires fits { Fits body.old }
+    requires more { length body.old.formula.clauses < body.old.stated }
+    ensures { OnOk result (body.new ≡ closed body.old) }
 {
     match body.formula.push_clause(body.growing.literals()) {
         Ok(()) => {
             body.growing.clear();
             Ok(())
         }
-        Err(FormulaError::Limit) => Err(NO_FORMULA),
-        Err(FormulaError::OutOfMemory) => Err(Refused::OutOfMemory),
+        Err(FormulaError::Limit) => unreachable!(),
+        Err(FormulaError::OutOfMemory) => Err(OutOfMemory),
     }
 }
 
 /// Counts a literal, and adds it to the open clause unless that holds it.
-fn add_literal(body: &mut Body, lit: Lit) -> Result<(), Refused>
-    requires { IsTrue (is_literal body.old.growing.vars lit) }
-    ensures ok { OnOk result (body.new ≡ with_literal lit body.old) }
-    ensures room { OnOk result (body.old.written < 20000000) }
-    ensures fault { IfErr result (λ r. Because r (20000000 ≤ body.old.written)) }
+fn add_literal(body: &mut Body, lit: Lit) -> Result<(), OutOfMemory>
+    requires literal { IsTrue (is_literal body.old.growing.vars lit) }
+    requires room { body.old.written < 20000000 }
+    ensures { OnOk result (body.new ≡ with_literal lit body.old) }
 {
-    if body.written >= MAX_LITERALS {
-        return Err(NO_FORMULA);
-    }
     if !body.growing.holds(lit) {
         body.growing.push(lit)?;
     }
@@ -66,86 +60,110 @@ fn add_literal(body: &mut Body, lit: Lit) -> Result<(), Refused>
 }
 
 /// What a number is behind the header.
+#[derive(Drop)]
 enum Number {
     /// The 0 that closes a clause.
     Zero,
     Literal(Lit),
-    /// It is no literal over the variables from 1 to n.
+    /// Its variable is not among those from 1 to n.
     Past,
 }
 
-/// What the number is over the variables from 1 to n.
-fn number_of(x: i128, n: u32) -> Number
+/// The number that a word writes, over the variables from 1 to n.
+fn number_of(word: &[u8], n: u32) -> Option<Number>
     requires { n ≤ 1000000 }
-    ensures { IsNumber n x result }
+    ensures number { IfSome result (IsNumber n (number word.now)) }
+    ensures none { IsNone result → number word.now ≡ None }
 {
-    let Ok(number) = i32::try_from(x) else {
-        return Number::Past;
+    let number = match classify(word) {
+        NumberWord::Not => return None,
+        NumberWord::Past => return Some(Number::Past),
+        NumberWord::Is(number) => number,
+    };
+    let Ok(number) = i32::try_from(number) else {
+        return Some(Number::Past);
     };
     match Lit::new(number) {
-        Some(lit) if lit.var() <= n => Number::Literal(lit),
-        None if number == 0 => Number::Zero,
-        _ => Number::Past,
+        Some(lit) if lit.var() <= n => Some(Number::Literal(lit)),
+        None if number == 0 => Some(Number::Zero),
+        _ => Some(Number::Past),
     }
 }
 
-/// Takes the next word: a literal, or the 0 that closes a clause.
-fn add_word(body: &mut Body, word: &[u8]) -> Result<(), Refused>
-    requires { IsOneSize body.old }
-    ensures ok { OnOk result (Leads (word.now ∷ []) body.old body.new) }
-    ensures fault { IfErr result (λ r. Because r (LeadsNowhere (word.now ∷ []) body.old)) }
+/// Takes the next word, whose last byte is at the place: a literal, or the 0 that closes a clause.
+fn add_word(body: &mut Body, word: &[u8], place: usize) -> Result<(), Stop>
+    requires { Fits body.old }
+    ensures ok { OnOk result (Leads (record { bytes = word.now; last = place } ∷ []) body.old body.new) }
+    ensures fault { IfErr result (λ s. ForFault s (HasFault (record { bytes = word.now; last = place } ∷ []) body.old)) }
 {
-    let vars = body.growing.vars();
-    let NumberWord::Is(number) = classify(word) else {
-        return Err(NO_FORMULA);
+    let Some(number) = number_of(word, body.growing.vars()) else {
+        return Err(stop_at(FaultKind::BadToken, place));
     };
-    match number_of(number, vars) {
-        Number::Zero => close(body),
-        Number::Literal(lit) => add_literal(body, lit),
-        Number::Past => Err(NO_FORMULA),
+    if body.formula.len() >= body.stated {
+        return Err(stop_at(FaultKind::TooManyClauses, place));
     }
+    match number {
+        Number::Zero => close(body)?,
+        Number::Past => return Err(stop_at(FaultKind::BeyondStated, place)),
+        Number::Literal(lit) => {
+            if body.written >= MAX_LITERALS {
+                return Err(stop_at(FaultKind::Limit, place));
+            }
+            add_literal(body, lit)?;
+        }
+    }
+    Ok(())
 }
 
-/// Takes the words of a line.
-fn add_words(body: &mut Body, line: &[u8]) -> Result<(), Refused>
-    requires one_size { IsOneSize body.old }
+/// The stop at a fault.
+fn stop_at(kind: FaultKind, place: usize) -> Stop
+    ensures { result ≡ Stop.Fault (record { kind = kind; place = place }) }
+{
+    Stop::Fault(Fault { kind, place })
+}
+
+/// Takes the words of a line that stands behind so many bytes of the text.
+fn add_words(body: &mut Body, line: &[u8], before: usize) -> Result<(), Stop>
+    requires fits { Fits body.old }
     requires one_line { IsTrue (is_one_line line.now) }
-    ensures ok { OnOk result (Leads (words_in line.now) body.old body.new) }
-    ensures fault { IfErr result (λ r. Because r (LeadsNowhere (words_in line.now) body.old)) }
+    requires room { before + length line.now < usize.MAX }
+    ensures ok { OnOk result (Leads (words_after before line.now) body.old body.new) }
+    ensures fault { IfErr result (λ s. ForFault s (HasFault (words_after before line.now) body.old)) }
 {
     let mut from = 0;
     while let Some(cut) = next_word(line, from) {
-        add_word(body, &line[cut.begin..cut.end])?;
+        add_word(body, &line[cut.begin..cut.end], before + cut.end)?;
         from = cut.next;
     }
     Ok(())
 }
 
-/// Takes the words of all lines from a place on, up to an end mark.
-fn add_lines(body: &mut Body, text: &[u8], begin: usize) -> Result<(), Refused>
-    requires one_size { IsOneSize body.old }
+/// Takes the words of all lines from a place on, and answers where they end: at the byte `%` of an end
+/// mark, or at the end of the text.
+fn add_lines(body: &mut Body, text: &[u8], begin: usize) -> Result<usize, Stop>
+    requires fits { Fits body.old }
     requires within { begin ≤ length text.now }
-    ensures ok { OnOk result (Leads (words_from text.now begin) body.old body.new) }
-    ensures fault { IfErr result (λ r. Because r (LeadsNowhere (words_from text.now begin) body.old)) }
+    ensures ok { IfOk result (Ends text.now begin body.old body.new) }
+    ensures fault { IfErr result (λ s. ForFault s (HasFaultFrom text.now begin body.old)) }
 {
     let mut from = begin;
     while let Some(cut) = next_line(text, from) {
         let line = &text[cut.begin..cut.end];
-        match kind_of(line) {
-            LineKind::EndMark => return Ok(()),
+        match kind_of(line, cut.begin) {
             LineKind::Skipped => {}
-            LineKind::Content => add_words(body, line)?,
+            LineKind::EndMark { first } => return Ok(first),
+            LineKind::Problem { first } => return Err(stop_at(FaultKind::SecondHeader, first)),
+            LineKind::Numbers { .. } => add_words(body, line, cut.begin)?,
         }
         from = cut.next;
     }
-    Ok(())
+    Ok(text.len() + 1)
 }
 
-/// The formula, with the last clause closed where its 0 is missing.
-fn finish(body: Body) -> Result<Formula, Refused>
-    requires { IsOneSize body }
-    ensures ok { IfOk result (Writes body) }
-    ensures fault { IfErr result (λ r. Because r (WritesNothing body)) }
+/// The formula of what was read, with the last clause closed where its 0 is missing.
+fn close_last(body: Body) -> Result<Formula, OutOfMemory>
+    requires { Fits body }
+    ensures { IfOk result (Closes body) }
 {
     let mut body = body;
     if body.growing.literals().is_empty() {
@@ -155,24 +173,41 @@ fn finish(body: Body) -> Result<Formula, Refused>
     Ok(body.formula)
 }
 
-/// Reads the clauses that stand from a place on into a formula without a clause.
+/// The formula of words that end at a place.
+fn finish(body: Body, end: usize) -> Result<Formula, Stop>
+    requires { Fits body }
+    ensures ok { IfOk result (Writes body end) }
+    ensures fault { IfErr result (λ s. ForFault s (HasFaultAtEnd body end)) }
+{
+    let stated = body.stated;
+    let formula = close_last(body)?;
+    if formula.len() < stated {
+        return Err(stop_at(FaultKind::TooFewClauses, end));
+    }
+    Ok(formula)
+}
+
+/// Reads the stated number of clauses, which stand from a place on, into a formula without a clause.
 pub(crate) fn read_clauses(
     alloc: Global,
     formula: Formula,
+    stated: u32,
     text: &[u8],
     begin: usize,
-) -> Result<Formula, Refused>
+) -> Result<Formula, Stop>
     requires empty { formula.clauses ≡ [] }
+    requires stated { stated ≤ max_clauses }
     requires within { begin ≤ length text.now }
-    ensures ok { IfOk result (IsWritten formula.vars (words_from text.now begin)) }
-    ensures fault { IfErr result (λ r. Because r ((F : Cnf) → IsWritten formula.vars (words_from text.now begin) F → ⊥)) }
+    ensures ok { IfOk result (IsRead formula.vars stated text.now begin) }
+    ensures fault { IfErr result (λ s. ForFault s (λ f. fault_behind formula.vars stated [] (lines_from text.now begin) (length text.now + 1) ≡ Some f)) }
 {
     let growing = OpenClause::new(alloc, formula.vars())?;
     let mut body = Body {
         formula,
         growing,
+        stated,
         written: 0,
     };
-    add_lines(&mut body, text, begin)?;
-    finish(body)
+    let end = add_lines(&mut body, text, begin)?;
+    finish(body, end)
 }

@@ -1,48 +1,71 @@
 //! The header of a text.
-ghost use Rattle.std.specs.Prelude.{◌≡◌, ◌<◌, ◌≤◌, ◌&&◌, codes, ◌∷◌, [], ℕ, slice_range, length, IfSome, IsNone, Some, IsTrue};
+ghost use Rattle.std.specs.Prelude.{◌≡◌, ◌<◌, ◌&&◌, ◌∷◌, codes, length, IfOk, IfErr, IfSome, IsNone, Some, None, IsTrue, option_map};
 ghost use Rattle.std.specs.Str.{bytes_eq};
-ghost use Rattle.lk_model.specs.NumberWords.{natural};
 ghost use Rattle.lk_model.specs.Dimacs.{stated_by};
+ghost use Rattle.lk_model.specs.Limits.{max_vars, max_clauses};
 ghost use Rattle.lk_text.specs.Cutting.{is_one_line};
-ghost use Rattle.dimacs_reader.specs.Contents.{words_in, content_from};
-ghost use Rattle.dimacs_reader.specs.Headers.{IsFirstLine, StatesNone};
+ghost use Rattle.dimacs_reader.specs.Contents.{words_in};
+ghost use Rattle.dimacs_reader.specs.FirstFaults.{text_fault};
+ghost use Rattle.dimacs_reader.specs.Headers.{IsHeaderLine, States, capped, header_kind};
 
 use crate::kinds::{LineKind, kind_of};
-use lk_text::{Cut, NumberWord, classify, next_line, next_word};
+use lk_model::{Fault, FaultKind};
+use lk_text::{Cut, next_line, next_word, read_natural};
 
-/// The first line that is neither blank nor a comment, up to an end mark.
-pub(crate) fn first_line(text: &[u8]) -> Option<Cut>
-    ensures line { IfSome result (IsFirstLine text.now) }
-    ensures none { IsNone result → content_from text.now 0 ≡ [] }
+/// How many variables a header may state.
+const MAX_VARS: u128 = 1_000_000;
+
+/// How many clauses a header may state.
+const MAX_CLAUSES: u128 = 4_000_000;
+
+/// The header line, before which there are only blank lines and comments.
+pub(crate) fn header_line(text: &[u8]) -> Result<Cut, Fault>
+    ensures line { IfOk result (IsHeaderLine text.now) }
+    ensures fault { IfErr result (λ f. text_fault text.now ≡ Some f) }
 {
     let mut from = 0;
     while let Some(cut) = next_line(text, from) {
-        match kind_of(&text[cut.begin..cut.end]) {
-            LineKind::EndMark => return None,
+        match kind_of(&text[cut.begin..cut.end], cut.begin) {
             LineKind::Skipped => {}
-            LineKind::Content => return Some(cut),
+            LineKind::Problem { .. } => return Ok(cut),
+            LineKind::EndMark { first } => return Err(no_header(first)),
+            LineKind::Numbers { first } => return Err(no_header(first)),
         }
         from = cut.next;
     }
-    None
+    Err(no_header(text.len() + 1))
 }
 
-/// The number without a sign that the word writes, if it fits.
-fn natural_of(word: &[u8]) -> Option<u32>
-    ensures value { IfSome result (λ n. natural word.now ≡ Some n) }
-    ensures none { IsNone result → (n : ℕ) → natural word.now ≡ Some n → 4294967295 < n }
+/// The fault where something else comes before the header.
+fn no_header(place: usize) -> Fault
+    ensures { result ≡ record { kind = FaultKind.NoHeader; place = place } }
 {
-    match classify(word) {
-        NumberWord::Is(number) => u32::try_from(number).ok(),
-        _ => None,
+    Fault {
+        kind: FaultKind::NoHeader,
+        place,
     }
 }
 
-/// The numbers of variables and of clauses that a header line states.
-pub(crate) fn stated(line: &[u8]) -> Option<(u32, u32)>
+/// The numbers of variables and of clauses that a header line states, or what is wrong with it.
+pub(crate) fn stated(line: &[u8]) -> Result<(u32, u32), FaultKind>
     requires { IsTrue (is_one_line line.now) }
-    ensures some { IfSome result (λ h. stated_by (words_in line.now) ≡ Some (h.0, h.1)) }
-    ensures none { IsNone result → StatesNone (words_in line.now) }
+    ensures ok { IfOk result (States (words_in line.now)) }
+    ensures fault { IfErr result (λ k. header_kind (stated_by (words_in line.now)) ≡ Some k) }
+{
+    let Some((vars, clauses)) = stated_numbers(line) else {
+        return Err(FaultKind::BadHeader);
+    };
+    if vars > MAX_VARS || clauses > MAX_CLAUSES {
+        return Err(FaultKind::Limit);
+    }
+    Ok((vars as u32, clauses as u32))
+}
+
+/// The two numbers of a header line, where one past 2^127 counts for 2^127.
+fn stated_numbers(line: &[u8]) -> Option<(u128, u128)>
+    requires { IsTrue (is_one_line line.now) }
+    ensures some { IfSome result (λ h. option_map capped (stated_by (words_in line.now)) ≡ Some h) }
+    ensures none { IsNone result → stated_by (words_in line.now) ≡ None }
 {
     let Some((p, cnf, rest)) = two_words(line) else {
         return None;
@@ -56,10 +79,10 @@ pub(crate) fn stated(line: &[u8]) -> Option<(u32, u32)>
     if let Some(_) = next_word(rest, 0) {
         return None;
     }
-    let Some(vars) = natural_of(vars) else {
+    let Some(vars) = read_natural(vars) else {
         return None;
     };
-    let Some(clauses) = natural_of(clauses) else {
+    let Some(clauses) = read_natural(clauses) else {
         return None;
     };
     Some((vars, clauses))

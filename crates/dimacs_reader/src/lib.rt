@@ -6,8 +6,11 @@ mod header;
 mod kinds;
 mod open_clause;
 mod reader;
+mod refusal;
+mod stop;
 #[cfg(test)]
 mod tests;
 mod text;
 
-pub use reader::{Reader, Refused};
+pub use reader::Reader;
+pub use refusal::Refused;

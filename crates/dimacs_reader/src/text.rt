@@ -1,36 +1,33 @@
 //! Whole texts.
-ghost use Rattle.std.specs.Prelude.{◌≤◌, length, IfOk, IfErr};
-ghost use Rattle.lk_model.specs.Dimacs.{Spells};
-ghost use Rattle.lk_model.specs.Limits.{max_bytes};
-ghost use Rattle.dimacs_reader.specs.Faults.{Because, SpellsNone};
+ghost use Rattle.std.specs.Prelude.{◌≡◌, Some, IfOk, IfErr};
+ghost use Rattle.dimacs_reader.specs.FirstFaults.{text_fault};
+ghost use Rattle.dimacs_reader.specs.Faults.{ForFault, IsReadText};
 
-use crate::body::{NO_FORMULA, read_clauses};
-use crate::header::{first_line, stated};
-use crate::reader::Refused;
-use lk_model::{Formula, FormulaError};
+use crate::body::read_clauses;
+use crate::header::{header_line, stated};
+use crate::stop::Stop;
+use lk_model::{Fault, Formula, FormulaError};
 use std::alloc::Global;
 
-/// The formula that a text spells.
-pub(crate) fn formula_of(alloc: Global, text: &[u8]) -> Result<Formula, Refused>
-    requires { length text.now ≤ max_bytes }
-    ensures ok { IfOk result (Spells text.now) }
-    ensures fault { IfErr result (λ r. Because r (SpellsNone text.now)) }
+/// The formula that a text spells, whose length is not looked at.
+pub(crate) fn formula_of(alloc: Global, text: &[u8]) -> Result<Formula, Stop>
+    ensures ok { IfOk result (IsReadText text.now) }
+    ensures fault { IfErr result (λ s. ForFault s (λ f. text_fault text.now ≡ Some f)) }
 {
-    let Some(cut) = first_line(text) else {
-        return Err(NO_FORMULA);
-    };
-    let Some((vars, count)) = stated(&text[cut.begin..cut.end]) else {
-        return Err(NO_FORMULA);
+    let cut = header_line(text)?;
+    let (vars, clauses) = match stated(&text[cut.begin..cut.end]) {
+        Ok(numbers) => numbers,
+        Err(kind) => {
+            return Err(Stop::Fault(Fault {
+                kind,
+                place: cut.end,
+            }));
+        }
     };
     let empty = match Formula::new(alloc, vars) {
         Ok(formula) => formula,
-        Err(FormulaError::Limit) => return Err(NO_FORMULA),
-        Err(FormulaError::OutOfMemory) => return Err(Refused::OutOfMemory),
+        Err(FormulaError::Limit) => unreachable!(),
+        Err(FormulaError::OutOfMemory) => return Err(Stop::OutOfMemory),
     };
-    let formula = read_clauses(alloc, empty, text, cut.next)?;
-    if formula.len() == count {
-        Ok(formula)
-    } else {
-        Err(NO_FORMULA)
-    }
+    read_clauses(alloc, empty, clauses, text, cut.next)
 }

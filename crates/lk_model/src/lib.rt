@@ -11,6 +11,7 @@ mod lit;
 mod result;
 #[cfg(test)]
 mod tests;
+mod text_fault;
 mod verdict;
 mod wide;
 
@@ -25,5 +26,6 @@ pub use laws::{fault_law, gcd_law, one_kernel, reached_law, reading_law};
 pub use list::{List, OutOfMemory};
 pub use lit::Lit;
 pub use result::{GeneralResult, LinearResult, MatchingResult, PureResult};
+pub use text_fault::{Fault, FaultKind};
 pub use verdict::{Kind, ReadStop, Why};
 pub use wide::{Op, Wide};

@@ -5,4 +5,4 @@ mod cuts;
 mod numbers;
 
 pub use cuts::{Cut, next_line, next_word};
-pub use numbers::{NumberWord, classify, put_i128, read_plain};
+pub use numbers::{NumberWord, classify, put_i128, read_natural, read_plain};

@@ -38,12 +38,12 @@ pub fn classify(word: &[u8]) -> NumberWord
     ensures { result ≡ kind_of (number word.now) }
 {
     match word.split_first() {
-        Some((b'-', digits)) => match natural_of(digits) {
+        Some((b'-', digits)) => match read_natural(digits) {
             None | Some(0) => NumberWord::Not,
             Some(n) if n >= PAST => NumberWord::Past,
             Some(n) => NumberWord::Is(-(n as i128)),
         },
-        _ => match natural_of(word) {
+        _ => match read_natural(word) {
             None => NumberWord::Not,
             Some(n) if n >= PAST => NumberWord::Past,
             Some(n) => NumberWord::Is(n as i128),
@@ -51,23 +51,8 @@ pub fn classify(word: &[u8]) -> NumberWord
     }
 }
 
-/// The number within ±(2^127 - 1) whose shortest spelling the word is.
-pub fn read_plain(word: &[u8]) -> Option<i128>
-    ensures { result ≡ if_in_range (plain_number word.now) }
-{
-    let NumberWord::Is(x) = classify(word) else {
-        return None;
-    };
-    let mut buffer = Buffer::new();
-    if buffer.format(x).as_bytes() == word {
-        Some(x)
-    } else {
-        None
-    }
-}
-
 /// The value of one or more digits, or 2^127 where it is greater.
-fn natural_of(digits: &[u8]) -> Option<u128>
+pub fn read_natural(digits: &[u8]) -> Option<u128>
     ensures { result ≡ option_map (λ n. min n (2 ^ 127)) (natural digits.now) }
 {
     if digits.is_empty() {
@@ -84,6 +69,21 @@ fn natural_of(digits: &[u8]) -> Option<u128>
             .min(PAST);
     }
     Some(value)
+}
+
+/// The number within ±(2^127 - 1) whose shortest spelling the word is.
+pub fn read_plain(word: &[u8]) -> Option<i128>
+    ensures { result ≡ if_in_range (plain_number word.now) }
+{
+    let NumberWord::Is(x) = classify(word) else {
+        return None;
+    };
+    let mut buffer = Buffer::new();
+    if buffer.format(x).as_bytes() == word {
+        Some(x)
+    } else {
+        None
+    }
 }
 
 #[cfg(test)]
@@ -130,6 +130,21 @@ mod tests {
         ];
         for (word, kind) in rows {
             assert_eq!(rt; classify(word), kind);
+        }
+        Ok(())
+    }
+
+    #[test]
+    fn reads_digits_up_to_a_cap(rt: HostRuntime) -> Result<(), Fail> {
+        let rows = [
+            (b"007".as_slice(), Some(7)),
+            (b"", None),
+            (b"-1", None),
+            (b"1a", None),
+            (b"999999999999999999999999999999999999999", Some(PAST)),
+        ];
+        for (word, number) in rows {
+            assert_eq!(rt; read_natural(word), number);
         }
         Ok(())
     }

@@ -1,29 +1,26 @@
 -- Where the input spells a formula, no other stop comes than a failed read and want of memory.
-use Rattle.std.proofs.Common.{◌≡◌, ℕ, List, Bool, refl, subst, arith, ◌⊎◌, inl, inr, Option, Some, None}
-use Rattle.std.specs.Prelude.{IfSome, IsSomeAnd}
-use Rattle.lk_model.specs.Formula.{Cnf}
+use Rattle.std.proofs.Common.{◌≡◌, ◌≢◌, ℕ, List, Bool, refl, ap, subst, ◌⊎◌, inl, inr, Option, Some, None}
+use Rattle.std.specs.Prelude.{IfSome, IsSomeAnd, option_map}
 use Rattle.lk_model.specs.Lines.{Word}
-use Rattle.lk_model.specs.Dimacs.{Spells}
+use Rattle.lk_model.specs.Fault.{fault_of}
 use Rattle.lk_model.specs.Reduction.{ReducesTo}
 use Rattle.lk_model.specs.declared.class.Class.{Class}
-use Rattle.dimacs_reader.specs.Faults.{SpellsNone}
-use Rattle.dimacs_reader.specs.declared.reader.Refused.{Refused}
-use Rattle.dimacs_reader.specs.declared.reader.Refused.TheVariants as refused
+use Rattle.lk_model.proofs.FaultConverse.{faultless}
+use Rattle.dimacs_reader.specs.Faults.{refusal_by, refusal_of}
+use Rattle.dimacs_reader.specs.declared.refusal.Refused.{Refused}
 use Rattle.workbench.specs.Lawful.{Command, Reduce, command_of}
 use Rattle.workbench.specs.Causes.{Told, IsRefusal}
 use Rattle.workbench.specs.Endings.{IsResult, HasGoodInput, HasBadInput, DeservesRefusal, StopsAt}
 use Rattle.workbench.specs.declared.stop.Stop.{Stop}
 use Rattle.workbench.specs.declared.stop.Stop.TheVariants.{Words, Formula, Read, Memory}
 
--- a text that spells a formula deserves no refusal
-not_refused : (bytes : List ℕ) (F : Cnf) (r : Refused) → Spells bytes F → IsRefusal bytes r → ⊥
-not_refused bytes F (refused.BadToken line) spells h = h.1 F spells
-not_refused bytes F (refused.TooLong line) spells h = omega (arith, spells.bytes_limit, h.1)
-not_refused bytes F refused.OutOfMemory spells h = h
-
-not_refused_where : (told : Option (List ℕ)) (r : Refused) → IsSomeAnd told (λ bytes. (F : Cnf) × Spells bytes F) → IfSome told (λ bytes. IsRefusal bytes r) → ⊥
+-- a text without a fault deserves no refusal
+not_refused_where : (told : Option (List ℕ)) (r : Refused) → IsSomeAnd told (λ bytes. fault_of bytes ≡ None) → IfSome told (λ bytes. IsRefusal bytes r) → ⊥
 not_refused_where None r good h = good
-not_refused_where (Some bytes) r good h = not_refused bytes good.0 r good.1 h
+not_refused_where (Some bytes) r good h =
+    let none : refusal_of bytes ≡ None = ap (option_map refusal_by) good in
+    let f : ⊥ = cc in
+    f
 
 -- so the command's input deserves none
 not_deserved : (command : Option Command) (told : Told) (r : Refused) → HasGoodInput command told → DeservesRefusal command told r → ⊥
@@ -37,10 +34,10 @@ good_stop words told ailing current (Formula r) good h = absurd (not_deserved (c
 good_stop words told ailing current Read good h = inl refl
 good_stop words told ailing current Memory good h = inr refl
 
--- what spells no formula has no result
-no_result_where : (told : Option (List ℕ)) (class : Class) (pivots : ℕ) (text : List ℕ) → IfSome told (λ bytes. ReducesTo bytes class pivots text) → IsSomeAnd told SpellsNone → ⊥
+-- what has a fault has no result
+no_result_where : (told : Option (List ℕ)) (class : Class) (pivots : ℕ) (text : List ℕ) → IfSome told (λ bytes. ReducesTo bytes class pivots text) → IsSomeAnd told (λ bytes. fault_of bytes ≢ None) → ⊥
 no_result_where None class pivots text result bad = bad
-no_result_where (Some bytes) class pivots text result bad = bad result.formula result.spells
+no_result_where (Some bytes) class pivots text result bad = bad (faultless bytes result.formula result.spells)
 
 pub no_result : (command : Option Command) (told : Told) (text : List ℕ) → IsResult command told text → HasBadInput command told → ⊥
 no_result None told text result bad = bad

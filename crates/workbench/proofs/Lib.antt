@@ -12,3 +12,4 @@ pub mod Passed
 pub mod Accepted
 pub mod GoodInputs
 pub mod Results
+pub mod Tellings

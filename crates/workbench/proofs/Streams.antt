@@ -5,11 +5,10 @@ use Rattle.std.specs.Io.KnownBytes.{Appends, Consumes, IsAtEnd}
 use Rattle.std.proofs.Math.Seq.{take-add, take-length}
 use Rattle.std.proofs.lemmas.List.{append-nil, length-drop}
 use Rattle.lk_outside.specs.Causes.{HasCause, Rose}
-use Rattle.lk_model.specs.Dimacs.{Spells}
 use Rattle.dimacs_reader.specs.Reading.{Reading}
-use Rattle.dimacs_reader.specs.Faults.{Because, SpellsNone}
-use Rattle.dimacs_reader.specs.declared.reader.Refused.{Refused}
-use Rattle.dimacs_reader.specs.declared.reader.Refused.TheVariants as refused
+use Rattle.dimacs_reader.specs.Faults.{IsRefusalOf, IsSettledAs}
+use Rattle.dimacs_reader.specs.declared.refusal.Refused.{Refused}
+use Rattle.dimacs_reader.specs.declared.refusal.Refused.TheVariants as refused
 use Rattle.workbench.specs.Causes.{StopsReading}
 use Rattle.workbench.specs.Stops.{stop_of}
 
@@ -64,10 +63,40 @@ Cause-then a b c p q = record { later = omega (arith, p.later, q.later); failed 
 all_fed : (a b fed : List ℕ) → a ≡ fed ++ b → b ≡ [] → a ≡ fed
 all_fed a b fed p e = p ∙ ap (λ (s : List ℕ). fed ++ s) e ∙ append-nil fed
 
--- a refusal of what was fed is one of the whole text
-pub stops_at_end : (before now : Option (List ℕ)) (fed : List ℕ) (ailing : Bool) (r : Refused) → Consumes before now fed → IsAtEnd now → Because r (SpellsNone fed) → StopsReading before ailing (stop_of r)
-stops_at_end None now fed ailing (refused.BadToken line) p e h = tt
-stops_at_end (Some a) None fed ailing (refused.BadToken line) p e h = absurd p
-stops_at_end (Some a) (Some b) fed ailing (refused.BadToken line) p e h = (h.0, λ F s. h.1 F (subst (λ (bytes : List ℕ). Spells bytes F) (all_fed a b fed p e) s))
-stops_at_end before now fed ailing (refused.TooLong line) p e h = absurd h
-stops_at_end before now fed ailing refused.OutOfMemory p e h = tt
+-- the stop of a text's refusal
+stop_by : (bytes : List ℕ) (ailing : Bool) (r : Refused) → IsRefusalOf bytes r → StopsReading (Some bytes) ailing (stop_of r)
+stop_by bytes ailing refused.OutOfMemory h = tt
+stop_by bytes ailing (refused.NoHeader line) h = h
+stop_by bytes ailing (refused.BadHeader line) h = h
+stop_by bytes ailing (refused.SecondHeader line) h = h
+stop_by bytes ailing (refused.BadToken line) h = h
+stop_by bytes ailing (refused.BeyondStated line) h = h
+stop_by bytes ailing (refused.TooManyClauses line) h = h
+stop_by bytes ailing (refused.TooFewClauses line) h = h
+stop_by bytes ailing (refused.Limit line) h = h
+stop_by bytes ailing (refused.TooLong line) h = h
+
+-- where nothing is told
+stop_untold : (ailing : Bool) (r : Refused) → StopsReading None ailing (stop_of r)
+stop_untold ailing refused.OutOfMemory = tt
+stop_untold ailing (refused.NoHeader line) = tt
+stop_untold ailing (refused.BadHeader line) = tt
+stop_untold ailing (refused.SecondHeader line) = tt
+stop_untold ailing (refused.BadToken line) = tt
+stop_untold ailing (refused.BeyondStated line) = tt
+stop_untold ailing (refused.TooManyClauses line) = tt
+stop_untold ailing (refused.TooFewClauses line) = tt
+stop_untold ailing (refused.Limit line) = tt
+stop_untold ailing (refused.TooLong line) = tt
+
+-- a refusal of what was fed up to the end is that of the whole text
+pub stops_at_end : (before now : Option (List ℕ)) (fed : List ℕ) (ailing : Bool) (r : Refused) → Consumes before now fed → IsAtEnd now → IsRefusalOf fed r → StopsReading before ailing (stop_of r)
+stops_at_end None now fed ailing r p e h = stop_untold ailing r
+stops_at_end (Some a) None fed ailing r p e h = absurd p
+stops_at_end (Some a) (Some b) fed ailing r p e h = stop_by a ailing r (subst (λ (bytes : List ℕ). IsRefusalOf bytes r) (sym (all_fed a b fed p e)) h)
+
+-- a refusal of what was fed that stays, is that of the whole text
+pub stops_in_midst : (before now : Option (List ℕ)) (fed : List ℕ) (ailing : Bool) (r : Refused) → Consumes before now fed → IsSettledAs fed r → StopsReading before ailing (stop_of r)
+stops_in_midst None now fed ailing r p h = stop_untold ailing r
+stops_in_midst (Some a) None fed ailing r p h = absurd p
+stops_in_midst (Some a) (Some b) fed ailing r p h = stop_by a ailing r (subst (λ (bytes : List ℕ). IsRefusalOf bytes r) (sym p) (h b))

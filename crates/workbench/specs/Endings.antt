@@ -1,13 +1,11 @@
 -- How a run of the program ends.
-use Rattle.std.specs.Prelude.{◌≡◌, ℕ, List, Bool, IfSome, IsSomeAnd, IsTrue, Some, None}
+use Rattle.std.specs.Prelude.{◌≡◌, ◌≢◌, ℕ, List, Bool, IfSome, IsSomeAnd, IsTrue, Some, None}
 use Rattle.std.specs.declared.option.Option.{Option}
 use Rattle.std.specs.Io.KnownBytes.{Appends}
-use Rattle.lk_model.specs.Formula.{Cnf}
 use Rattle.lk_model.specs.Lines.{Word}
-use Rattle.lk_model.specs.Dimacs.{Spells}
+use Rattle.lk_model.specs.Fault.{fault_of}
 use Rattle.lk_model.specs.Reduction.{ReducesTo}
-use Rattle.dimacs_reader.specs.Faults.{SpellsNone}
-use Rattle.dimacs_reader.specs.declared.reader.Refused.{Refused}
+use Rattle.dimacs_reader.specs.declared.refusal.Refused.{Refused}
 use Rattle.workbench.specs.Lawful.{Command, Reduce, command_of, IsRefusedAt}
 use Rattle.workbench.specs.Causes.{Told, IsRefusal}
 use Rattle.workbench.specs.Stops.{line_of}
@@ -54,12 +52,12 @@ StopsAt words told ailing current (Formula r) = DeservesRefusal (command_of word
 StopsAt words told ailing current Read = AilsOnInput (command_of words) ailing current
 StopsAt words told ailing current Memory = Unit {0}
 
--- the command's input is told and spells no formula
+-- the command's input is told and has a fault
 abbrev pub HasBadInput : Option Command → Told → Type 0
-HasBadInput (Some (Reduce class name options)) told = IsSomeAnd (told name) SpellsNone
+HasBadInput (Some (Reduce class name options)) told = IsSomeAnd (told name) (λ bytes. fault_of bytes ≢ None)
 HasBadInput None told = ⊥
 
--- the command's input is told and spells a formula
+-- the command's input is told and has none, so that it spells a formula
 abbrev pub HasGoodInput : Option Command → Told → Type 0
-HasGoodInput (Some (Reduce class name options)) told = IsSomeAnd (told name) (λ bytes. (F : Cnf) × Spells bytes F)
+HasGoodInput (Some (Reduce class name options)) told = IsSomeAnd (told name) (λ bytes. fault_of bytes ≡ None)
 HasGoodInput None told = ⊥

@@ -2,26 +2,36 @@
 use Rattle.std.specs.Prelude.{ℕ, List, ◌++◌, codes, decimal}
 use Rattle.lk_outside.specs.declared.shelf.StartStop.{StartStop}
 use Rattle.lk_outside.specs.declared.shelf.StartStop.TheVariants as start
-use Rattle.dimacs_reader.specs.declared.reader.Refused.{Refused}
-use Rattle.dimacs_reader.specs.declared.reader.Refused.TheVariants as refused
+use Rattle.dimacs_reader.specs.declared.refusal.Refused.{Refused}
+use Rattle.dimacs_reader.specs.declared.refusal.Refused.TheVariants as refused
 use Rattle.workbench.specs.declared.stop.Stop.{Stop}
 use Rattle.workbench.specs.declared.stop.Stop.TheVariants.{Words, Formula, Read, Memory}
 
 -- the stop that a refusal of the reader makes
 abbrev pub stop_of : Refused → Stop
-stop_of (refused.TooLong line) = Formula (refused.TooLong line)
-stop_of (refused.BadToken line) = Formula (refused.BadToken line)
 stop_of refused.OutOfMemory = Memory
+stop_of refusal = Formula refusal
 
 -- the stop that a refused start makes
 abbrev pub start_stop_of : StartStop → Stop
 start_stop_of start.Failed = Read
 start_stop_of start.OutOfMemory = Memory
 
+-- what the program says of a fault at a line of the formula
+abbrev pub formula_line : ℕ → List ℕ → List ℕ
+formula_line line text = codes "leank: formula line " ++ decimal line ++ text
+
 -- what the program says of a refusal
 abbrev pub refusal_line : Refused → List ℕ
-refusal_line (refused.BadToken line) = codes "leank: formula line " ++ decimal line ++ codes ": bad token\n"
-refusal_line (refused.TooLong line) = codes "leank: formula line " ++ decimal line ++ codes ": too long\n"
+refusal_line (refused.NoHeader line) = formula_line line (codes ": no header\n")
+refusal_line (refused.BadHeader line) = formula_line line (codes ": bad header\n")
+refusal_line (refused.SecondHeader line) = formula_line line (codes ": second header\n")
+refusal_line (refused.BadToken line) = formula_line line (codes ": bad token\n")
+refusal_line (refused.BeyondStated line) = formula_line line (codes ": variable beyond header\n")
+refusal_line (refused.TooManyClauses line) = formula_line line (codes ": too many clauses\n")
+refusal_line (refused.TooFewClauses line) = formula_line line (codes ": too few clauses\n")
+refusal_line (refused.Limit line) = formula_line line (codes ": past a limit\n")
+refusal_line (refused.TooLong line) = formula_line line (codes ": too long\n")
 refusal_line refused.OutOfMemory = codes "leank: out of memory\n"
 
 -- what the program says of a stop

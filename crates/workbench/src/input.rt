@@ -1,6 +1,7 @@
 //! Reading a whole input.
-ghost use Rattle.std.specs.Prelude.{◌≡◌, ◌≢◌, OnOk, Some, ℕ, ◌<◌, length, IfOk, IfErr, IfSome, IsTrue, IsErrAnd};
+ghost use Rattle.std.specs.Prelude.{◌≡◌, ◌≢◌, OnOk, Some, ℕ, ◌<◌, ◌≤◌, length, IfOk, IfErr, IfSome, IsTrue, IsErrAnd};
 ghost use Rattle.lk_model.specs.Dimacs.{Spells};
+ghost use Rattle.lk_outside.specs.Reads.{ReadTakes};
 ghost use Rattle.lk_outside.specs.Causes.{HasCause};
 ghost use Rattle.workbench.specs.Causes.{StopsReading};
 
@@ -40,6 +41,20 @@ fn start_text<H: Shelf>(shelf: &mut H, name: &str) -> Result<(), Stop>
     shelf.start(name).map_err(|e| Stop::from(e))
 }
 
+/// Reads the next bytes of the started text, and answers how many they are: 0 at its end.
+fn read_piece<H: Shelf>(shelf: &mut H, piece: &mut [u8]) -> Result<usize, Stop>
+    requires started { IsTrue (H.started shelf.old) }
+    requires room { 0 < length piece.old }
+    ensures bound { IfOk result (λ count. count ≤ length piece.new) }
+    ensures bytes { IfOk result (λ count. ReadTakes (H.left shelf.old) (H.left shelf.new) count piece.new) }
+    ensures started { OnOk result (IsTrue (H.started shelf.new)) }
+    ensures stop { IfErr result (λ s. (s ≡ Stop.Read) × IsTrue (H.ailing shelf.new)) }
+    ensures current { H.current shelf.new ≡ H.current shelf.old }
+    ensures cause { HasCause (H.faults shelf.old) (H.faults shelf.new) (IsErrAnd result (λ s. s ≡ Stop.Read)) }
+{
+    Ok(shelf.read(piece)?)
+}
+
 /// Reads what is left of the started text.
 fn read_started<H: Shelf>(alloc: Global, shelf: &mut H, piece: &mut [u8]) -> Result<Formula, Stop>
     requires started { IsTrue (H.started shelf.old) }
@@ -51,7 +66,7 @@ fn read_started<H: Shelf>(alloc: Global, shelf: &mut H, piece: &mut [u8]) -> Res
 {
     let mut reader = Reader::new(alloc);
     'pieces: loop {
-        let count = shelf.read(piece)?;
+        let count = read_piece(shelf, piece)?;
         if count == 0 {
             break 'pieces;
         }

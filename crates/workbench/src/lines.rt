@@ -1,6 +1,6 @@
 //! The lines that the program says.
 ghost use Rattle.std.specs.Prelude.{◌≡◌, ◌++◌, codes, decimal, IfOk};
-ghost use Rattle.workbench.specs.Stops.{line_of, refusal_line};
+ghost use Rattle.workbench.specs.Stops.{line_of, formula_line, refusal_line};
 
 use crate::stop::Stop;
 use dimacs_reader::Refused;
@@ -25,14 +25,26 @@ fn refusal_line(alloc: Global, refused: Refused) -> Result<Vec<u8>, OutOfMemory>
     ensures { IfOk result (λ line. line.items ≡ refusal_line refused) }
 {
     match refused {
-        Refused::BadToken { line } => {
-            numbered(alloc, b"leank: formula line ", line, b": bad token\n")
+        Refused::NoHeader { line } => formula_line(alloc, line, b": no header\n"),
+        Refused::BadHeader { line } => formula_line(alloc, line, b": bad header\n"),
+        Refused::SecondHeader { line } => formula_line(alloc, line, b": second header\n"),
+        Refused::BadToken { line } => formula_line(alloc, line, b": bad token\n"),
+        Refused::BeyondStated { line } => {
+            formula_line(alloc, line, b": variable beyond header\n")
         }
-        Refused::TooLong { line } => {
-            numbered(alloc, b"leank: formula line ", line, b": too long\n")
-        }
+        Refused::TooManyClauses { line } => formula_line(alloc, line, b": too many clauses\n"),
+        Refused::TooFewClauses { line } => formula_line(alloc, line, b": too few clauses\n"),
+        Refused::Limit { line } => formula_line(alloc, line, b": past a limit\n"),
+        Refused::TooLong { line } => formula_line(alloc, line, b": too long\n"),
         Refused::OutOfMemory => Ok(Vec::from_slice(alloc, b"leank: out of memory\n")?),
     }
+}
+
+/// The line that tells of a fault at a line of the formula.
+fn formula_line(alloc: Global, line: u64, text: &[u8]) -> Result<Vec<u8>, OutOfMemory>
+    ensures { IfOk result (λ told. told.items ≡ formula_line line text.now) }
+{
+    numbered(alloc, b"leank: formula line ", line, text)
 }
 
 /// A number between two texts.

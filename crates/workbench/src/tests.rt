@@ -151,20 +151,53 @@ fn tells_the_refused_word(rt: HostRuntime) -> Result<(), Fail> {
 }
 
 #[test]
-fn tells_a_text_outside_the_grammar(rt: HostRuntime) -> Result<(), Fail> {
+fn tells_the_first_fault_of_a_text_with_its_line(rt: HostRuntime) -> Result<(), Fail> {
     let rows = [
-        b"p cnf 3 2\n1 2 0\n".as_slice(),
-        b"p cnf 1 1\n2 0\n",
-        b"1 0\n",
+        (
+            b"".as_slice(),
+            b"leank: formula line 1: no header\n".as_slice(),
+        ),
+        (b"p cnf 3\n", b"leank: formula line 1: bad header\n"),
+        (b"1 0\np cnf 1 1\n", b"leank: formula line 1: no header\n"),
+        (
+            b"p cnf 1 2\n1 0\n%\n-1 0\n",
+            b"leank: formula line 3: too few clauses\n",
+        ),
+        (b"p cnf 3 1\n-0 0\n", b"leank: formula line 2: bad token\n"),
+        (
+            b"p cnf 2 1\n1 c 2 0\n",
+            b"leank: formula line 2: bad token\n",
+        ),
+        (
+            b"p cnf 3 1\n1 99999999999999999999 0\n",
+            b"leank: formula line 2: variable beyond header\n",
+        ),
+        (
+            b"p cnf 1 1\n1 0\n-2 0\n",
+            b"leank: formula line 3: too many clauses\n",
+        ),
+        (
+            b"p cnf 1 2\n1 0\n",
+            b"leank: formula line 3: too few clauses\n",
+        ),
+        (
+            b"p cnf 1 1\np cnf 1 1\n1 0\n",
+            b"leank: formula line 2: second header\n",
+        ),
+        (
+            b"p cnf 1000001 0\n",
+            b"leank: formula line 1: past a limit\n",
+        ),
+        (
+            b"p cnf 1 4000001\n",
+            b"leank: formula line 1: past a limit\n",
+        ),
     ];
-    for text in rows {
+    for (text, line) in rows {
         let refused = run_over(&rt, rt.alloc(), &["reduce", "pure", "f"], text, 0, 0)?;
         assert_eq!(rt; refused.status, 2);
         assert_eq!(rt; refused.out.bytes(), b"".as_slice());
-        assert_eq!(rt;
-            refused.say.bytes(),
-            b"leank: formula line 1: bad token\n".as_slice()
-        );
+        assert_eq!(rt; refused.say.bytes(), line);
     }
     Ok(())
 }

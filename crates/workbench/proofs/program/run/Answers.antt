@@ -1,7 +1,8 @@
-use Rattle.std.proofs.Common.{inl, inr, map, ap, ◌∙◌}
+use Rattle.std.proofs.Common.{inl, inr, map, ap, ◌∙◌, arith}
 use Rattle.workbench.specs.Lawful.{command_of}
 use Rattle.workbench.specs.Stops.{status_of}
 use Rattle.workbench.proofs.GoodInputs.{good_stop, no_result}
+use Rattle.workbench.proofs.Tellings.{tells_refusal}
 use Rattle.workbench.proofs.program.run.Goals as goal
 
 pub returns-clause-complete : goal.returns-clause-complete
@@ -17,3 +18,8 @@ returns-clause-complete g c good read out say =
 
 pub returns-in-Ok-write_all-clause-outside : goal.returns-in-Ok-write_all-clause-outside
 returns-in-Ok-write_all-clause-outside g c bad = absurd (no_result (command_of (map (λ w. w.now) c.args.words.now)) (g.H.Shelf.told c.args.shelf.now) c.in-Ok.text.items c.in-Ok.ensures.ok bad)
+
+pub returns-clause-input : goal.returns-clause-input
+returns-clause-input g c two =
+    tells_refusal (map (λ w. w.now) c.args.words.now) (g.H.Shelf.told c.args.shelf.now) _ _ (g.E.Sink.written c.args.say.now) (g.E.Sink.written c.tell.new.say) c.in-Err.stop c.tell.result two c.tell.ensures.status c.in-Err.ensures.stop
+    (c.tell.ensures.told (λ four. omega (arith, two, four)) (λ nine. omega (arith, two, nine)))

@@ -1,12 +1,12 @@
-use Rattle.std.proofs.Common.{◌∷◌, List, drop, refl, sym, ◌∙◌, ap, subst}
-use Rattle.std.specs.Prelude.{slice_range}
+use Rattle.std.proofs.Common.{◌∷◌, List, drop, refl, sym, ◌∙◌, ap}
+use Rattle.std.specs.Prelude.{slice_range, option_map}
 use Rattle.lk_model.specs.Lines.{Word}
 use Rattle.lk_model.specs.Dimacs.{stated_by}
 use Rattle.dimacs_reader.specs.Contents.{words_in}
-use Rattle.dimacs_reader.specs.Headers.{StatesNone}
+use Rattle.dimacs_reader.specs.Headers.{capped}
 use Rattle.dimacs_reader.proofs.TextLemmas.{words_none, words_next}
 use Rattle.dimacs_reader.proofs.LineLemmas.{states_many, states_header}
-use Rattle.dimacs_reader.proofs.header.stated.Goals as goal
+use Rattle.dimacs_reader.proofs.header.stated_numbers.Goals as goal
 
 pub returns-in-Some-next_word-clause-none : goal.returns-in-Some-next_word-clause-none
 returns-in-Some-next_word-clause-none c e =
@@ -14,8 +14,8 @@ returns-in-Some-next_word-clause-none c e =
     let all =
     c.in-Some.ensures.words
     ∙ ap (λ (ws : List Word). c.in-Some.p.now ∷ c.in-Some.cnf.now ∷ ws) (c.in-Some-two_words.ensures.words ∙ ap (λ (ws : List Word). c.in-Some-two_words.vars.now ∷ c.in-Some-two_words.clauses.now ∷ ws) five) in
-    subst StatesNone (sym all) (states_many c.in-Some.p.now c.in-Some.cnf.now c.in-Some-two_words.vars.now c.in-Some-two_words.clauses.now
-    (slice_range c.in-Some-two_words.rest.now c.in-Some-next_word.field-0.begin c.in-Some-next_word.field-0.end) (words_in (drop c.in-Some-next_word.field-0.next c.in-Some-two_words.rest.now)))
+    ap stated_by all ∙ states_many c.in-Some.p.now c.in-Some.cnf.now c.in-Some-two_words.vars.now c.in-Some-two_words.clauses.now
+    (slice_range c.in-Some-two_words.rest.now c.in-Some-next_word.field-0.begin c.in-Some-next_word.field-0.end) (words_in (drop c.in-Some-next_word.field-0.next c.in-Some-two_words.rest.now))
 
 pub returns-clause-some : goal.returns-clause-some
 returns-clause-some c =
@@ -23,5 +23,5 @@ returns-clause-some c =
     let all =
     c.in-Some.ensures.words
     ∙ ap (λ (ws : List Word). c.in-Some.p.now ∷ c.in-Some.cnf.now ∷ ws) (c.in-Some-two_words.ensures.words ∙ ap (λ (ws : List Word). c.in-Some-two_words.vars.now ∷ c.in-Some-two_words.clauses.now ∷ ws) none) in
-    ap stated_by all
-    ∙ states_header c.in-Some.p.now c.in-Some.cnf.now c.in-Some-two_words.vars.now c.in-Some-two_words.clauses.now c.in-Some-natural_of.vars c.in-Some-natural_of-2.clauses (sym c.are_first_words.ensures ∙ c.if-not-are_first_words.false) c.in-Some-natural_of.ensures.value c.in-Some-natural_of-2.ensures.value
+    ap (λ (ws : List Word). option_map capped (stated_by ws)) all
+    ∙ states_header c.in-Some.p.now c.in-Some.cnf.now c.in-Some-two_words.vars.now c.in-Some-two_words.clauses.now c.in-Some-read_natural.vars c.in-Some-read_natural-2.clauses (sym c.are_first_words.ensures ∙ c.if-not-are_first_words.false) c.in-Some-read_natural.ensures c.in-Some-read_natural-2.ensures

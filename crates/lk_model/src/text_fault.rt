@@ -1,0 +1,33 @@
+//! Faults of the texts of formulas.
+
+/// What is wrong with a text that spells no formula (DIMACS CNF 1993, with leank's rules and limits).
+#[derive(Clone, Copy, PartialEq, Eq, Debug)]
+pub enum FaultKind {
+    /// A number, the end mark or the end of the text comes before the problem line.
+    NoHeader,
+    /// The first line that begins with `p` is not `p cnf V C`.
+    BadHeader,
+    /// A further line begins with `p`.
+    SecondHeader,
+    /// A word behind the problem line is no number.
+    BadToken,
+    /// The variable of a literal is past V.
+    BeyondStated,
+    /// A number comes when C clauses are closed.
+    TooManyClauses,
+    /// Fewer than C clauses are closed at the end.
+    TooFewClauses,
+    /// V or C, or the number of literals as written, is past its limit.
+    Limit,
+    /// There are more than 2^30 bytes.
+    TooLong,
+}
+
+/// A fault of a text.
+#[derive(Clone, Copy, PartialEq, Eq, Debug)]
+pub struct Fault {
+    pub kind: FaultKind,
+    /// The number of the byte at which the fault shows, counted from 1; the end of the text counts as
+    /// the byte behind the last one.
+    pub place: usize,
+}
