@@ -1,4 +1,4 @@
--- Which documents are printed so far.
+-- Which documents are printed and read so far.
 use Rattle.std.specs.Prelude.{⊤}
 use Rattle.lk_model.specs.declared.document.Body.{Body}
 use Rattle.lk_model.specs.declared.document.Body.TheVariants.{Pure, Matching, Linear, General}

@@ -1,2 +1,8 @@
 pub mod Spaced
 pub mod Built
+pub mod Drafts
+pub mod Fields
+pub mod FieldLists
+pub mod Readings
+pub mod Taking
+pub mod LastVars

@@ -1,11 +1,21 @@
-//! The text of a document.
+//! The texts of documents, both ways.
 #![tactic(auto)]
 
 mod document;
+mod draft;
+mod fields;
 mod formula;
+mod laws;
 mod line;
+mod lists;
 mod pure;
+#[cfg(test)]
+mod read_tests;
+mod reading;
+mod steps;
 #[cfg(test)]
 mod tests;
 
 pub use document::print;
+pub use laws::text_law;
+pub use reading::read;

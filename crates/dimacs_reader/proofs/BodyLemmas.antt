@@ -24,7 +24,7 @@ use Rattle.dimacs_reader.specs.Bodies.{HasRead, Fits, Leads, HasFault, Closes, f
 use Rattle.dimacs_reader.specs.declared.body.Body.{Body}
 use Rattle.dimacs_reader.specs.declared.body.Number.{Number}
 use Rattle.dimacs_reader.specs.declared.body.Number.TheVariants.{Zero, Literal, Past}
-use Rattle.dimacs_reader.proofs.Literals.{and_both}
+use Rattle.lk_model.proofs.Literals.{and_both}
 use Rattle.dimacs_reader.proofs.NumberLemmas.{split-zero, split-other, split_count, runs-last, repeats-more, contains-repeats, repeats-empty}
 use Rattle.dimacs_reader.proofs.WordKinds.{literal_nonzero, literal_fits}
 

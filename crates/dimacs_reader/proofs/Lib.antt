@@ -1,5 +1,3 @@
-pub mod Literals
-pub mod Flags
 pub mod Least
 pub mod Placing
 pub mod LineSteps

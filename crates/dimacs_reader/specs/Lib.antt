@@ -1,4 +1,3 @@
-pub mod Growing
 pub mod Contents
 pub mod LineKinds
 pub mod FirstFaults

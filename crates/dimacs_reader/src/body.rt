@@ -11,9 +11,8 @@ ghost use Rattle.dimacs_reader.specs.Numbers.{IsNumber};
 ghost use Rattle.dimacs_reader.specs.Bodies.{Fits, Leads, HasFault, HasFaultFrom, HasFaultAtEnd, Ends, Closes, Writes, IsRead, closed, with_literal};
 
 use crate::kinds::{LineKind, kind_of};
-use crate::open_clause::OpenClause;
 use crate::stop::Stop;
-use lk_model::{Fault, FaultKind, Formula, FormulaError, Lit, OutOfMemory};
+use lk_model::{Fault, FaultKind, Formula, FormulaError, Lit, OpenClause, OutOfMemory};
 use lk_text::{NumberWord, classify, next_line, next_word};
 use std::alloc::Global;
 

@@ -4,7 +4,6 @@
 mod body;
 mod header;
 mod kinds;
-mod open_clause;
 mod reader;
 mod refusal;
 mod stop;

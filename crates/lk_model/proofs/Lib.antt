@@ -14,3 +14,5 @@ pub mod Extensions
 pub mod ReachedLaws
 pub mod ReadingLaws
 pub mod Examples
+pub mod Literals
+pub mod Flags

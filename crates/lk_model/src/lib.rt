@@ -8,6 +8,7 @@ mod formula;
 mod laws;
 mod list;
 mod lit;
+mod open_clause;
 mod result;
 #[cfg(test)]
 mod tests;
@@ -25,6 +26,7 @@ pub use formula::{Formula, FormulaError};
 pub use laws::{fault_law, gcd_law, one_kernel, reached_law, reading_law};
 pub use list::{List, OutOfMemory};
 pub use lit::Lit;
+pub use open_clause::OpenClause;
 pub use result::{GeneralResult, LinearResult, MatchingResult, PureResult};
 pub use text_fault::{Fault, FaultKind};
 pub use verdict::{Kind, ReadStop, Why};

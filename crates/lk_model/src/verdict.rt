@@ -1,4 +1,8 @@
 //! What a check or a reader of documents says.
+ghost use Rattle.std.specs.Prelude.{◌≡◌};
+ghost use Rattle.lk_model.specs.declared.verdict.ReadStop.TheVariants.{OutOfMemory as MemoryOut};
+
+use crate::list::OutOfMemory;
 
 /// Which check fails.
 #[derive(Clone, Copy, PartialEq, Eq, Debug)]
@@ -37,4 +41,12 @@ pub struct Why {
 pub enum ReadStop {
     Line(u64),
     OutOfMemory,
+}
+
+impl From<OutOfMemory> for ReadStop {
+    ghost from_gives = { λ _ stop. stop ≡ MemoryOut };
+
+    fn from(_e: OutOfMemory) -> ReadStop {
+        ReadStop::OutOfMemory
+    }
 }

@@ -1,0 +1,52 @@
+-- Words of a line between its spaces.
+use Rattle.std.proofs.Common.{◌≡◌, ℕ, zero, suc, ◌+◌, ◌-◌, ◌<◌, ◌∙◌, Bool, true, false, not, ◌==◌, List, [], ◌∷◌, ◌++◌, length, take, drop, get_or, refl, sym, ap, arith, length-drop}
+use Rattle.std.specs.List.{list_all, All}
+use Rattle.std.proofs.lemmas.List.{take-append-drop, take_all}
+use Rattle.std.proofs.Math.Seq.{drop-cons, take-length}
+use Rattle.std.proofs.lemmas.List.Splits.{slice_split_at, slice_split_none}
+use Rattle.lk_model.proofs.Booleans.{and_true}
+use Rattle.cert_text.specs.Drafts.{fields}
+use Rattle.cert_text.specs.Fields.{has_no_space}
+
+-- a test that passes nowhere
+none_pass : (p : ℕ → Bool) (xs : List ℕ) → list_all (λ b. not (p b)) xs ≡ true → All (λ b. p b ≡ false) xs
+none_pass p [] h k d lt = absurd (omega (arith, lt))
+none_pass p (x ∷ xs) h zero d lt = not_not (p x) (and_true _ _ h).0
+  where
+    not_not : (b : Bool) → not b ≡ true → b ≡ false
+    not_not true e = absurd (let f : ⊥ = cc in f)
+    not_not false e = refl
+none_pass p (x ∷ xs) h (suc k) d lt = none_pass p xs (and_true _ _ h).1 k d (omega (arith, lt))
+
+-- a line without a space is one word
+pub one_field : (line : List ℕ) → has_no_space line ≡ true → fields line ≡ line ∷ []
+one_field line h = slice_split_none (λ b. b == 32) line (none_pass (λ b. b == 32) line h)
+
+-- a word, and what stands behind its space
+pub field_then : (word rest : List ℕ) → has_no_space word ≡ true → fields (word ++ 32 ∷ rest) ≡ word ∷ fields rest
+field_then word rest h = slice_split_at (λ b. b == 32) word 32 rest (none_pass (λ b. b == 32) word h) refl
+
+-- the line up to a space, and behind it
+pub field_at : (line : List ℕ) (end : ℕ) → end < length line → get_or line end 0 ≡ 32 → has_no_space (take (end - 0) line) ≡ true
+    → fields line ≡ take end line ∷ fields (drop (end + 1) line)
+field_at line end h space none =
+    let size : end - 0 ≡ end = omega arith in
+    let front : has_no_space (take end line) ≡ true = ap (λ (n : ℕ). has_no_space (take n line)) (sym size) ∙ none in
+    let tail : drop end line ≡ 32 ∷ drop (suc end) line = drop-cons line end 0 h ∙ ap (λ (b : ℕ). b ∷ drop (suc end) line) space in
+    let next : suc end ≡ end + 1 = omega arith in
+    ap fields (sym (take-append-drop end line) ∙ ap (λ (bs : List ℕ). take end line ++ bs) tail)
+    ∙ field_then (take end line) (drop (suc end) line) front
+    ∙ ap (λ (n : ℕ). take end line ∷ fields (drop n line)) next
+
+-- the rest of a line from a place on
+pub rest_is : (line : List ℕ) (n : ℕ) → take (length line - n) (drop n line) ≡ drop n line
+rest_is line n = take_all (length line - n) (drop n line) (let h = length-drop n line in omega (arith, h))
+
+pub whole_field : (line : List ℕ) (end : ℕ) → end ≡ length line → has_no_space (take (end - 0) line) ≡ true → fields line ≡ line ∷ []
+whole_field line end e none =
+    let size : end - 0 ≡ length line = omega (arith, e) in
+    one_field line (ap has_no_space (sym (take-length line)) ∙ ap (λ (n : ℕ). has_no_space (take n line)) (sym size) ∙ none)
+
+pub field_before : (line : List ℕ) (end : ℕ) → end < length line → get_or line end 0 ≡ 32 → has_no_space (take (end - 0) line) ≡ true
+    → fields line ≡ take end line ∷ fields (take (length line - (end + 1)) (drop (end + 1) line))
+field_before line end h space none = field_at line end h space none ∙ ap (λ (bs : List ℕ). take end line ∷ fields bs) (sym (rest_is line (end + 1)))

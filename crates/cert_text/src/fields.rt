@@ -1,0 +1,132 @@
+//! The words of a line between its spaces.
+ghost use Rattle.std.specs.Prelude.{◌≡◌, ◌≤◌, ◌+◌, ◌∷◌, [], ℕ, codes, length, slice_index, slice_range, ◌<◌, IsTrue, IsNone, IfSome, List, ℤ};
+ghost use Rattle.lk_model.specs.NumberWords.{plain_number};
+ghost use Rattle.lk_model.specs.Lines.{Word};
+ghost use Rattle.cert_text.specs.Drafts.{fields};
+ghost use Rattle.cert_text.specs.Fields.{has_no_space, rest_fields, number_within, literal_within, pair_within, two_within};
+
+use lk_model::{Lit, Pair};
+use lk_text::read_plain;
+
+/// The bytes up to the first space, and those behind it where there is one.
+pub(crate) fn first_field(line: &[u8]) -> (&[u8], Option<&[u8]>)
+    ensures words { fields line.now ≡ result.0.now ∷ rest_fields result.1 }
+    ensures shorter { IfSome result.1 (λ rest. length rest.now < length line.now) }
+{
+    let end = field_end(line);
+    if end == line.len() {
+        (line, None)
+    } else {
+        (&line[..end], Some(&line[end + 1..]))
+    }
+}
+
+/// The place of the first space, or the end.
+fn field_end(line: &[u8]) -> usize
+    ensures high { result ≤ length line.now }
+    ensures passed { IsTrue (has_no_space (slice_range line.now 0 result)) }
+    ensures stopped { result < length line.now → slice_index line.now result ≡ 32 }
+{
+    for i in 0..line.len() {
+        if line[i] == b' ' {
+            return i;
+        }
+    }
+    line.len()
+}
+
+/// What stands behind `c` and a keyword, where at least one word does.
+pub(crate) fn behind_keyword<'a>(line: &'a [u8], keyword: &[u8]) -> Option<&'a [u8]>
+    ensures some { IfSome result (λ rest. fields line.now ≡ codes "c" ∷ keyword.now ∷ fields rest.now) }
+    ensures none { IsNone result → (word : Word) (words : List Word) → fields line.now ≡ codes "c" ∷ keyword.now ∷ word ∷ words → ⊥ }
+{
+    let (c, Some(rest)) = first_field(line) else {
+        return None;
+    };
+    let (second, Some(rest)) = first_field(rest) else {
+        return None;
+    };
+    if c != b"c".as_slice() {
+        return None;
+    }
+    if second != keyword {
+        return None;
+    }
+    Some(rest)
+}
+
+/// The number from the first to the second one whose shortest spelling the word is.
+pub(crate) fn number_in(word: &[u8], low: u32, high: u32) -> Option<u32>
+    ensures { result ≡ number_within low high (plain_number word.now) }
+{
+    let Some(number) = read_plain(word) else {
+        return None;
+    };
+    let Ok(number) = u32::try_from(number) else {
+        return None;
+    };
+    if low <= number && number <= high {
+        Some(number)
+    } else {
+        None
+    }
+}
+
+/// The literal over the variables from 1 to n whose shortest spelling the word is.
+pub(crate) fn literal_in(word: &[u8], n: u32) -> Option<Lit>
+    requires { n ≤ 1000000 }
+    ensures { result ≡ literal_within n (plain_number word.now) }
+{
+    let Some(number) = read_plain(word) else {
+        return None;
+    };
+    let Ok(number) = i32::try_from(number) else {
+        return None;
+    };
+    let Some(literal) = Lit::new(number) else {
+        return None;
+    };
+    if literal.var() <= n {
+        Some(literal)
+    } else {
+        None
+    }
+}
+
+/// The two numbers of a line, up to these.
+pub(crate) fn two_numbers(line: &[u8], first: u32, second: u32) -> Option<(u32, u32)>
+    ensures { result ≡ two_within first second (fields line.now) }
+{
+    let (x, Some(rest)) = first_field(line) else {
+        return None;
+    };
+    let (y, behind) = first_field(rest);
+    if behind.is_some() {
+        return None;
+    }
+    let x = number_in(x, 0, first)?;
+    let y = number_in(y, 0, second)?;
+    Some((x, y))
+}
+
+/// The pair of a line, for a variable above the last one and up to n, and for two positions up to m.
+pub(crate) fn pair_in(line: &[u8], last: u32, n: u32, m: u32) -> Option<Pair>
+    requires { last ≤ 1000000 }
+    ensures { result ≡ pair_within last n m (fields line.now) }
+{
+    let (var, Some(rest)) = first_field(line) else {
+        return None;
+    };
+    let (with, Some(rest)) = first_field(rest) else {
+        return None;
+    };
+    let (against, behind) = first_field(rest);
+    if behind.is_some() {
+        return None;
+    }
+    Some(Pair {
+        var: number_in(var, last + 1, n)?,
+        with: number_in(with, 1, m)?,
+        against: number_in(against, 1, m)?,
+    })
+}
