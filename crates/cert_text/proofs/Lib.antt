@@ -3,6 +3,7 @@ pub mod NumberTexts
 pub mod FieldTexts
 pub mod ListSteps
 pub mod ListForms
+pub mod NumberForms
 pub mod Words
 pub mod Spelled
 pub mod DraftForms

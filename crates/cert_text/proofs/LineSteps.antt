@@ -1,21 +1,19 @@
 -- Lines of sizes and lists.
-use Rattle.std.proofs.Common.{◌≡◌, ℕ, ◌≤◌, ◌∙◌, true, false, List, [], ◌∷◌, refl, sym, ap, arith, ℤ, pos, Option, Some, None}
+use Rattle.std.proofs.Common.{◌≡◌, ℕ, ◌≤◌, ◌∙◌, true, false, List, [], ◌∷◌, refl, sym, ap, arith, ℤ, Some, None}
 use Rattle.std.specs.Prelude.{codes, decimal, nat_le}
 use Rattle.std.specs.List.{join_with_byte}
-use Rattle.std.specs.Option.{option_zip}
 use Rattle.std.proofs.lemmas.Bool.{leb-true, le-leb}
 use Rattle.std.proofs.lemmas.List.Splits.{join_with_byte-slice_split}
 use Rattle.lk_model.specs.Lines.{Word}
-use Rattle.lk_model.specs.NumberWords.{plain_number}
 use Rattle.lk_model.specs.PlainText.{ended, literal_words, number_words}
 use Rattle.lk_model.proofs.Booleans.{and_true}
 use Rattle.cert_text.specs.Drafts.{NextSizes, NextKeep, NextSet, NextOrder, fields, class_line}
-use Rattle.cert_text.specs.Fields.{number_within, two_within}
+use Rattle.cert_text.specs.Fields.{two_within}
 use Rattle.cert_text.specs.FieldLists.{rising_from, literals_from}
 use Rattle.cert_text.specs.declared.draft.Draft.{Draft}
 use Rattle.cert_text.specs.declared.draft.Stage.TheVariants.{Keep, Set, Order, Pairs}
-use Rattle.cert_text.proofs.ListForms.{ended_parts, read_number, number_read, rising_form, rising_back, literals_form, literals_back, any_literals, rising_literals, literals_rising}
-use Rattle.cert_text.proofs.NumberTexts.{spelled}
+use Rattle.cert_text.proofs.ListForms.{ended_parts, rising_form, rising_back, literals_form, literals_back, any_literals, rising_literals, literals_rising}
+use Rattle.cert_text.proofs.NumberForms.{two_form, two_back}
 
 -- a line of the words of the class is that line
 pub class_words : (line : List ℕ) → fields line ≡ class_line → line ≡ codes "c leank 1 pure"
@@ -71,41 +69,6 @@ order_none d next words rest small w e n =
     let f : ⊥ = cc in f
 
 -- SIZES
-
--- two numbers that were read
-pub record Two (first second : ℕ) (words : List Word) (h : ℕ × ℕ) : Type 0 where
-  pub spelled_so : words ≡ decimal h.0 ∷ decimal h.1 ∷ []
-  pub small : h.0 ≤ first
-  pub few : h.1 ≤ second
-
-two_parts : (first second : ℕ) (x y : Word) (o p : Option ℕ) (h : ℕ × ℕ) → o ≡ number_within 0 first (plain_number x) → p ≡ number_within 0 second (plain_number y) → option_zip o p ≡ Some h → Two first second (x ∷ y ∷ []) h
-two_parts first second x y None p h a b e = absurd (let f : ⊥ = cc in f)
-two_parts first second x y (Some v) None h a b e = absurd (let f : ⊥ = cc in f)
-two_parts first second x y (Some v) (Some c) h a b e =
-    let same : h ≡ (v, c) = sym (some_pair (v, c) h e) in
-    let l = read_number 0 first v (plain_number x) (sym a) in
-    let r = read_number 0 second c (plain_number y) (sym b) in
-    let left : v ≡ h.0 = sym (ap (λ (q : ℕ × ℕ). q.0) same) in
-    let right : c ≡ h.1 = sym (ap (λ (q : ℕ × ℕ). q.1) same) in
-    record {
-      spelled_so = ap (λ (w : Word). w ∷ y ∷ []) (spelled x (pos v) l.0 ∙ ap decimal left) ∙ ap (λ (w : Word). decimal h.0 ∷ w ∷ []) (spelled y (pos c) r.0 ∙ ap decimal right);
-      small = (let m = leb-true v first (and_true (nat_le 0 v) (nat_le v first) l.1).1 in omega (arith, m, left));
-      few = (let m = leb-true c second (and_true (nat_le 0 c) (nat_le c second) r.1).1 in omega (arith, m, right));
-    }
-  where
-    some_pair : (p q : ℕ × ℕ) → Some p ≡ Some q → p ≡ q
-    some_pair p q e = cc
-
-pub two_form : (first second : ℕ) (words : List Word) (h : ℕ × ℕ) → two_within first second words ≡ Some h → Two first second words h
-two_form first second [] h e = absurd (let f : ⊥ = cc in f)
-two_form first second (x ∷ []) h e = absurd (let f : ⊥ = cc in f)
-two_form first second (x ∷ y ∷ []) h e = two_parts first second x y (number_within 0 first (plain_number x)) (number_within 0 second (plain_number y)) h refl refl e
-two_form first second (x ∷ y ∷ z ∷ words) h e = absurd (let f : ⊥ = cc in f)
-
-pub two_back : (first second n m : ℕ) → first ≤ 4000000 → second ≤ 4000000 → n ≤ first → m ≤ second → two_within first second (decimal n ∷ decimal m ∷ []) ≡ Some (n, m)
-two_back first second n m a b c d =
-    ap (λ (o : Option ℕ). option_zip o (number_within 0 second (plain_number (decimal m)))) (number_read 0 first n a (omega arith) c)
-    ∙ ap (λ (o : Option ℕ). option_zip (Some n) o) (number_read 0 second m b (omega arith) d)
 
 pub sizes_taken : (d : Draft) (words rest : List Word) (h : ℕ × ℕ) → words ≡ codes "c" ∷ codes "formula" ∷ rest → Some h ≡ two_within 1000000 4000000 rest
     → NextSizes d words (record d { stage = Keep; vars = h.0; clauses = h.1; texts = record { vars = h.0; clauses = [] } })

@@ -1,5 +1,5 @@
 -- One pair line more.
-use Rattle.std.proofs.Common.{◌≡◌, ℕ, zero, suc, ◌+◌, ◌-◌, ◌<◌, ◌≤◌, ◌∙◌, true, List, [], ◌∷◌, ◌++◌, length, map, refl, sym, ap, arith, pos, Option, Some, None}
+use Rattle.std.proofs.Common.{◌≡◌, ℕ, zero, suc, ◌+◌, ◌-◌, ◌<◌, ◌≤◌, ◌∙◌, true, List, [], ◌∷◌, ◌++◌, length, map, refl, sym, ap, arith, Option, Some, None}
 use Rattle.std.specs.Prelude.{nat_le, codes, decimal, slice_get}
 use Rattle.std.proofs.lemmas.Bool.{leb-true, le-leb, lt-ltb}
 use Rattle.std.proofs.lemmas.List.{map-append}
@@ -16,23 +16,9 @@ use Rattle.cert_text.specs.Drafts.{IsDraft, NextPair}
 use Rattle.cert_text.specs.Fields.{number_within, pair_by, pair_within}
 use Rattle.cert_text.specs.LastVars.{last_or}
 use Rattle.cert_text.specs.declared.draft.Draft.{Draft}
-use Rattle.cert_text.proofs.NumberTexts.{spelled}
-use Rattle.cert_text.proofs.ListForms.{read_number, number_read}
+use Rattle.cert_text.proofs.ListForms.{number_read}
+use Rattle.cert_text.proofs.NumberForms.{number_form}
 use Rattle.cert_text.proofs.ClauseSteps.{few_vars, few_clauses}
-
--- NUMBERS
-
--- a word for a number between two
-pub record IsWordOf (low high n : ℕ) (word : Word) : Type 0 where
-  pub spelled : word ≡ decimal n
-  pub least : low ≤ n
-  pub most : n ≤ high
-
-pub number_form : (low high n : ℕ) (word : Word) → number_within low high (plain_number word) ≡ Some n → IsWordOf low high n word
-number_form low high n word e =
-    let r = read_number low high n (plain_number word) e in
-    let between = and_true (nat_le low n) (nat_le n high) r.1 in
-    record { spelled = spelled word (pos n) r.0; least = leb-true low n between.0; most = leb-true n high between.1 }
 
 -- PAIRS
 

@@ -1,44 +1,17 @@
 -- The problem line of the kept clauses.
-use Rattle.std.proofs.Common.{◌≡◌, ℕ, ◌≤◌, ◌∙◌, List, [], ◌∷◌, length, refl, sym, ap, arith, Option, Some, None}
-use Rattle.std.specs.Prelude.{codes, decimal}
-use Rattle.std.specs.Option.{option_zip}
+use Rattle.std.proofs.Common.{◌≡◌, ℕ, ◌∙◌, List, [], ◌∷◌, length, sym, ap, arith, Option, Some, None}
+use Rattle.std.specs.Prelude.{codes}
 use Rattle.lk_model.specs.Lines.{Word}
-use Rattle.lk_model.specs.NumberWords.{plain_number}
 use Rattle.lk_model.specs.PlainText.{number_words}
 use Rattle.cert_text.specs.Drafts.{IsDraft, problem_line}
-use Rattle.cert_text.specs.Fields.{number_within, two_within}
+use Rattle.cert_text.specs.Fields.{two_within}
 use Rattle.cert_text.specs.declared.draft.Draft.{Draft}
 use Rattle.cert_text.proofs.ClauseSteps.{few_vars, few_kept}
-use Rattle.cert_text.proofs.ListForms.{number_read}
-use Rattle.cert_text.proofs.PairSteps.{number_form}
+use Rattle.cert_text.proofs.NumberForms.{two_form, two_back}
 
 -- two numbers that are the same two
 same_two : (s t : ℕ × ℕ) → Some s ≡ Some t → (s.0 ≡ t.0) × (s.1 ≡ t.1)
 same_two s t e = let same : s ≡ t = cc in (ap (λ (r : ℕ × ℕ). r.0) same, ap (λ (r : ℕ × ℕ). r.1) same)
-
--- both of two numbers
-both_there : (o p : Option ℕ) (x y : ℕ) → option_zip o p ≡ Some (x, y) → (o ≡ Some x) × (p ≡ Some y)
-both_there None p x y e = absurd (let f : ⊥ = cc in f)
-both_there (Some a) None x y e = absurd (let f : ⊥ = cc in f)
-both_there (Some a) (Some b) x y e = let same = same_two (a, b) (x, y) e in (ap Some same.0, ap Some same.1)
-
--- two words that are read are written
-two_form : (first second x y : ℕ) (words : List Word) → two_within first second words ≡ Some (x, y) → words ≡ number_words (x ∷ y ∷ [])
-two_form first second x y [] e = absurd (let f : ⊥ = cc in f)
-two_form first second x y (v ∷ []) e = absurd (let f : ⊥ = cc in f)
-two_form first second x y (v ∷ w ∷ word ∷ words) e = absurd (let f : ⊥ = cc in f)
-two_form first second x y (v ∷ w ∷ []) e =
-    let parts = both_there (number_within 0 first (plain_number v)) (number_within 0 second (plain_number w)) x y e in
-    let a = number_form 0 first x v parts.0 in
-    let b = number_form 0 second y w parts.1 in
-    cc (a.spelled, b.spelled)
-
--- two numbers that are written are read
-two_back : (first second x y : ℕ) → first ≤ 4000000 → second ≤ 4000000 → x ≤ first → y ≤ second → two_within first second (number_words (x ∷ y ∷ [])) ≡ Some (x, y)
-two_back first second x y few small h k =
-    let a : number_within 0 first (plain_number (decimal x)) ≡ Some x = number_read 0 first x few (omega arith) h in
-    let b : number_within 0 second (plain_number (decimal y)) ≡ Some y = number_read 0 second y small (omega arith) k in
-    rw (a, b) refl
 
 -- the numbers of the problem line
 problem_found : (d : Draft) (words rest : List Word) (found : Option (ℕ × ℕ)) → IsDraft d → words ≡ codes "p" ∷ codes "cnf" ∷ rest → found ≡ two_within 1000000 4000000 rest
@@ -51,7 +24,7 @@ problem_found d words rest found h e is line =
 -- a line with these numbers
 pub problem_told : (d : Draft) (words rest : List Word) (n count : ℕ) → words ≡ codes "p" ∷ codes "cnf" ∷ rest → Some (n, count) ≡ two_within 1000000 4000000 rest
     → n ≡ d.vars → count ≡ length d.kept → words ≡ problem_line d.vars (length d.kept)
-problem_told d words rest n count e is vars kept = cc (two_form 1000000 4000000 n count rest (sym is))
+problem_told d words rest n count e is vars kept = cc (two_form 1000000 4000000 rest (n, count) (sym is)).spelled_so
 
 -- the numbers that were found are those of the line
 pub record AreNumbers (d : Draft) (n count : ℕ) : Type 0 where

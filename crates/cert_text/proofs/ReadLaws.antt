@@ -192,7 +192,7 @@ never_stops bytes d line p s =
       built = p.built;
     })
 
--- another text stops at one line
+-- no text stops at two lines
 pub stops_at_one_line : StopsAtOneLine
 stops_at_one_line bytes k line p q = elim (cases_order k line) [
   | inl same ↦ same

@@ -38,6 +38,6 @@ IsSpelledOnce = (a b : List ℕ) (d : Document) → IsReadAs a d → IsReadAs b 
 abbrev pub NeverStops : Type 0
 NeverStops = (bytes : List ℕ) (d : Document) (line : ℕ) → IsReadAs bytes d → StopsAtLine bytes line → ⊥
 
--- another text stops at one line
+-- no text stops at two lines
 abbrev pub StopsAtOneLine : Type 0
 StopsAtOneLine = (bytes : List ℕ) (k line : ℕ) → StopsAtLine bytes k → StopsAtLine bytes line → k ≡ line

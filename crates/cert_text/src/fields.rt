@@ -1,5 +1,5 @@
 //! The words of a line between its spaces.
-ghost use Rattle.std.specs.Prelude.{◌≡◌, ◌≤◌, ◌+◌, ◌∷◌, [], ℕ, codes, length, slice_index, slice_range, ◌<◌, IsTrue, IsNone, IfSome, List, ℤ};
+ghost use Rattle.std.specs.Prelude.{◌≡◌, ◌≤◌, ◌+◌, ◌∷◌, [], ℕ, length, slice_index, slice_range, ◌<◌, IsTrue, IsNone, IfSome, List, ℤ};
 ghost use Rattle.lk_model.specs.NumberWords.{plain_number};
 ghost use Rattle.lk_model.specs.Lines.{Word};
 ghost use Rattle.cert_text.specs.Drafts.{fields};
@@ -35,21 +35,21 @@ fn field_end(line: &[u8]) -> usize
     line.len()
 }
 
-/// What stands behind `c` and a keyword, where at least one word does.
-pub(crate) fn behind_keyword<'a>(line: &'a [u8], keyword: &[u8]) -> Option<&'a [u8]>
-    ensures some { IfSome result (λ rest. fields line.now ≡ codes "c" ∷ keyword.now ∷ fields rest.now) }
-    ensures none { IsNone result → (word : Word) (words : List Word) → fields line.now ≡ codes "c" ∷ keyword.now ∷ word ∷ words → ⊥ }
+/// What stands behind these two words, where at least one word does.
+pub(crate) fn behind<'a>(line: &'a [u8], first: &[u8], second: &[u8]) -> Option<&'a [u8]>
+    ensures some { IfSome result (λ rest. fields line.now ≡ first.now ∷ second.now ∷ fields rest.now) }
+    ensures none { IsNone result → (word : Word) (words : List Word) → fields line.now ≡ first.now ∷ second.now ∷ word ∷ words → ⊥ }
 {
-    let (c, Some(rest)) = first_field(line) else {
+    let (one, Some(rest)) = first_field(line) else {
         return None;
     };
-    let (second, Some(rest)) = first_field(rest) else {
+    let (other, Some(rest)) = first_field(rest) else {
         return None;
     };
-    if c != b"c".as_slice() {
+    if one != first {
         return None;
     }
-    if second != keyword {
+    if other != second {
         return None;
     }
     Some(rest)

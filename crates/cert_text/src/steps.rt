@@ -1,5 +1,5 @@
 //! One line more of a document.
-ghost use Rattle.std.specs.Prelude.{◌≡◌, ◌≤◌, ◌<◌, ℕ, [], ◌∷◌, ◌↔◌, IfOk, IfSome, IsNone, IsTrue, codes, length, map};
+ghost use Rattle.std.specs.Prelude.{◌≡◌, ◌≤◌, ◌<◌, [], ◌↔◌, IfOk, IsTrue, length, map};
 ghost use Rattle.lk_model.specs.Limits.{max_vars, max_clauses};
 ghost use Rattle.lk_model.specs.declared.document.Pair.{Pair};
 ghost use Rattle.cert_text.specs.Drafts.{IsDraft, fields, problem_line};
@@ -7,16 +7,10 @@ ghost use Rattle.cert_text.specs.LastVars.{last_or};
 ghost use Rattle.cert_text.specs.Taking.{IsReady, IsReadyAgain, Takes, TakesPairOrProblem, TakesClass, TakesSizes, TakesKeep, TakesSet, TakesOrder, TakesPair, TakesProblem, TakesClause};
 
 use crate::draft::{Draft, Stage};
-use crate::fields::{behind_keyword, first_field, pair_in, two_numbers};
+use crate::fields::{behind, pair_in, two_numbers};
 use crate::lists::{literals_in, numbers_in, read_clause};
-use lk_model::{Formula, FormulaError, List, OpenClause, OutOfMemory, Pair};
+use lk_model::{Formula, FormulaError, List, MAX_CLAUSES, MAX_VARS, OpenClause, OutOfMemory, Pair};
 use std::alloc::Global;
-
-/// How many variables a formula may have.
-const MAX_VARS: u32 = 1_000_000;
-
-/// How many clauses a formula may have.
-const MAX_CLAUSES: u32 = 4_000_000;
 
 /// Takes the line that is to come next, or answers that this line is none. The clause is one over the
 /// draft's variables without a literal, and is so again where the line was taken.
@@ -63,7 +57,7 @@ fn take_class(draft: &mut Draft, line: &[u8]) -> bool
 fn take_sizes(alloc: Global, draft: &mut Draft, line: &[u8]) -> Result<bool, OutOfMemory>
     ensures { IfOk result (λ taken. TakesSizes draft.old line.now taken draft.new) }
 {
-    let Some(rest) = behind_keyword(line, b"formula") else {
+    let Some(rest) = behind(line, b"c", b"formula") else {
         return Ok(false);
     };
     let Some((vars, clauses)) = two_numbers(rest, MAX_VARS, MAX_CLAUSES) else {
@@ -86,7 +80,7 @@ fn take_keep(alloc: Global, draft: &mut Draft, line: &[u8]) -> Result<bool, OutO
     requires { draft.old.clauses ≤ max_clauses }
     ensures { IfOk result (λ taken. TakesKeep draft.old line.now taken draft.new) }
 {
-    let Some(rest) = behind_keyword(line, b"keep") else {
+    let Some(rest) = behind(line, b"c", b"keep") else {
         return Ok(false);
     };
     let Some(kept) = numbers_in(alloc, rest, draft.clauses)? else {
@@ -102,7 +96,7 @@ fn take_set(alloc: Global, draft: &mut Draft, line: &[u8]) -> Result<bool, OutOf
     requires { draft.old.vars ≤ max_vars }
     ensures { IfOk result (λ taken. TakesSet draft.old line.now taken draft.new) }
 {
-    let Some(rest) = behind_keyword(line, b"set") else {
+    let Some(rest) = behind(line, b"c", b"set") else {
         return Ok(false);
     };
     let Some(set) = literals_in(alloc, rest, draft.vars, true)? else {
@@ -118,7 +112,7 @@ fn take_order(alloc: Global, draft: &mut Draft, line: &[u8]) -> Result<bool, Out
     requires { draft.old.vars ≤ max_vars }
     ensures { IfOk result (λ taken. TakesOrder draft.old line.now taken draft.new) }
 {
-    let Some(rest) = behind_keyword(line, b"order") else {
+    let Some(rest) = behind(line, b"c", b"order") else {
         return Ok(false);
     };
     let Some(order) = literals_in(alloc, rest, draft.vars, false)? else {
@@ -145,7 +139,7 @@ fn take_pair(draft: &mut Draft, line: &[u8]) -> Result<bool, OutOfMemory>
     requires { IsDraft draft.old }
     ensures { IfOk result (λ taken. TakesPair draft.old line.now taken draft.new) }
 {
-    let Some(rest) = behind_keyword(line, b"pair") else {
+    let Some(rest) = behind(line, b"c", b"pair") else {
         return Ok(false);
     };
     let last = last_var(draft.pairs.as_slice());
@@ -167,32 +161,12 @@ fn take_pair_or_problem(draft: &mut Draft, line: &[u8]) -> Result<bool, OutOfMem
     Ok(take_problem(draft, line))
 }
 
-/// What stands behind `p` and `cnf`, where at least one word does.
-fn behind_p_cnf(line: &[u8]) -> Option<&[u8]>
-    ensures some { IfSome result (λ rest. fields line.now ≡ codes "p" ∷ codes "cnf" ∷ fields rest.now) }
-    ensures none { IsNone result → (n count : ℕ) → fields line.now ≡ problem_line n count → ⊥ }
-{
-    let (p, Some(rest)) = first_field(line) else {
-        return None;
-    };
-    let (cnf, Some(rest)) = first_field(rest) else {
-        return None;
-    };
-    if p != b"p".as_slice() {
-        return None;
-    }
-    if cnf != b"cnf".as_slice() {
-        return None;
-    }
-    Some(rest)
-}
-
 /// Whether the line is the problem line of the kept clauses.
 fn is_problem(draft: &Draft, line: &[u8]) -> bool
     requires { IsDraft draft.now }
     ensures { IsTrue result ↔ (fields line.now ≡ problem_line draft.now.vars (length draft.now.kept)) }
 {
-    let Some(rest) = behind_p_cnf(line) else {
+    let Some(rest) = behind(line, b"p", b"cnf") else {
         return false;
     };
     match two_numbers(rest, MAX_VARS, MAX_CLAUSES) {

@@ -12,12 +12,11 @@ ghost use Rattle.dimacs_reader.specs.Bodies.{Fits, Leads, HasFault, HasFaultFrom
 
 use crate::kinds::{LineKind, kind_of};
 use crate::stop::Stop;
-use lk_model::{Fault, FaultKind, Formula, FormulaError, Lit, OpenClause, OutOfMemory};
+use lk_model::{
+    Fault, FaultKind, Formula, FormulaError, Lit, MAX_LITERALS, OpenClause, OutOfMemory,
+};
 use lk_text::{NumberWord, classify, next_line, next_word};
 use std::alloc::Global;
-
-/// How many literals may be written, repeats counted.
-const MAX_LITERALS: u32 = 20_000_000;
 
 /// What was read so far: the closed clauses and the one that is open, of how many clauses the header
 /// states, and how many numbers other than 0 were written.

@@ -9,14 +9,8 @@ ghost use Rattle.dimacs_reader.specs.FirstFaults.{text_fault};
 ghost use Rattle.dimacs_reader.specs.Headers.{IsHeaderLine, States, capped, header_kind};
 
 use crate::kinds::{LineKind, kind_of};
-use lk_model::{Fault, FaultKind};
+use lk_model::{Fault, FaultKind, MAX_CLAUSES, MAX_VARS};
 use lk_text::{Cut, next_line, next_word, read_natural};
-
-/// How many variables a header may state.
-const MAX_VARS: u128 = 1_000_000;
-
-/// How many clauses a header may state.
-const MAX_CLAUSES: u128 = 4_000_000;
 
 /// The header line, before which there are only blank lines and comments.
 pub(crate) fn header_line(text: &[u8]) -> Result<Cut, Fault>
@@ -55,7 +49,7 @@ pub(crate) fn stated(line: &[u8]) -> Result<(u32, u32), FaultKind>
     let Some((vars, clauses)) = stated_numbers(line) else {
         return Err(FaultKind::BadHeader);
     };
-    if vars > MAX_VARS || clauses > MAX_CLAUSES {
+    if vars > u128::from(MAX_VARS) || clauses > u128::from(MAX_CLAUSES) {
         return Err(FaultKind::Limit);
     }
     Ok((vars as u32, clauses as u32))

@@ -9,11 +9,14 @@ use crate::lit::Lit;
 use std::alloc::{AllocError, AllocFailed, Global};
 use std::marker::Model;
 
-const MAX_VARS: u32 = 1_000_000;
+/// How many variables a formula may have.
+pub const MAX_VARS: u32 = 1_000_000;
 
-const MAX_CLAUSES: usize = 4_000_000;
+/// How many clauses a formula may have.
+pub const MAX_CLAUSES: u32 = 4_000_000;
 
-const MAX_LITERALS: usize = 20_000_000;
+/// How many literals a formula may have.
+pub const MAX_LITERALS: u32 = 20_000_000;
 
 /// Why a formula is not made, or a clause not taken: a limit would be passed, or there is no memory.
 #[derive(Clone, Copy, PartialEq, Eq, Debug)]
@@ -98,7 +101,9 @@ impl Formula {
         ensures limit { IsErrOf result FormulaError.Limit
             ↔ ((4000000 ≤ length self.old.clauses) ⊎ (20000000 < literal_count self.old + length lits.now)) }
     {
-        if self.ends.len() >= MAX_CLAUSES || lits.len() > MAX_LITERALS - self.literals.len() {
+        if self.ends.len() >= MAX_CLAUSES as usize
+            || lits.len() > MAX_LITERALS as usize - self.literals.len()
+        {
             return Err(FormulaError::Limit);
         }
         self.ends.reserve(1)?;

@@ -22,7 +22,7 @@ pub use document::{
     Body, Document, DoneDocument, Dual, MatchRow, OpenDocument, Own, Pair, Round, Share, Stage,
     Step, Turn, Unit, Weight,
 };
-pub use formula::{Formula, FormulaError};
+pub use formula::{Formula, FormulaError, MAX_CLAUSES, MAX_LITERALS, MAX_VARS};
 pub use laws::{fault_law, gcd_law, one_kernel, reached_law, reading_law};
 pub use list::{List, OutOfMemory};
 pub use lit::Lit;
