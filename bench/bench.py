@@ -1,6 +1,6 @@
 #!/usr/bin/env python3
 """Measures leank beside SAT solvers that do not search: cadical with no conflict, and minisat that
-reads and writes the formula.
+reads and writes the formula. And its check of the document that it wrote, beside the reduction.
 
     bench/bench.py LEANK [KIND ...]
 
@@ -34,6 +34,13 @@ def chain(out):
         out.write(f"{-v} {v + 1} 0\n")
 
 
+def two_clauses(out):
+    """1,000,000 variables; one clause with each of them, and one with each complement: all is kept."""
+    out.write("p cnf 1000000 2\n")
+    out.write(" ".join(str(v) for v in range(1, 1000001)) + " 0\n")
+    out.write(" ".join(str(-v) for v in range(1, 1000001)) + " 0\n")
+
+
 def near_limits(out):
     """1,000,000 variables, and 4,000,000 clauses with 20,000,000 literals."""
     draw = random.Random(SEED)
@@ -45,14 +52,14 @@ def near_limits(out):
         out.write(" ".join(str(v if draw.random() < 0.5 else -v) for v in chosen) + " 0\n")
 
 
-KINDS = {"random": random_three, "chain": chain, "limits": near_limits}
+KINDS = {"random": random_three, "chain": chain, "two": two_clauses, "limits": near_limits}
 
 
-def measure(words):
-    """Wall seconds, peak memory in MB and the status of a command whose output is thrown away."""
+def measure(words, output):
+    """Wall seconds, peak memory in MB and the status of a command that writes to a file."""
     begin = time.monotonic()
-    with open(os.devnull, "w") as nowhere:
-        process = subprocess.Popen(words, stdout=nowhere, stderr=nowhere)
+    with open(output, "w") as out, open(os.devnull, "w") as nowhere:
+        process = subprocess.Popen(words, stdout=out, stderr=nowhere)
         _, status, usage = os.wait4(process.pid, 0)
     process.returncode = os.waitstatus_to_exitcode(status)
     return time.monotonic() - begin, usage.ru_maxrss / 1024, process.returncode
@@ -66,17 +73,20 @@ def main():
     for kind in kinds:
         with tempfile.NamedTemporaryFile("w", suffix=".cnf", delete=False) as file:
             KINDS[kind](file)
+        document = file.name + ".reduced"
         commands = {
-            "leank": [leank, "reduce", "pure", file.name],
-            "cadical -c 0": ["cadical", "-q", "-c", "0", file.name],
-            "minisat -dimacs": ["minisat", "-verb=0", "-no-pre", "-dimacs=/dev/null", file.name],
+            "leank reduce": ([leank, "reduce", "pure", file.name], document),
+            "leank check": ([leank, "check", file.name, document], os.devnull),
+            "cadical -c 0": (["cadical", "-q", "-c", "0", file.name], os.devnull),
+            "minisat -dimacs": (["minisat", "-verb=0", "-no-pre", "-dimacs=/dev/null", file.name], os.devnull),
         }
         print(f"{kind}: {KINDS[kind].__doc__} {os.path.getsize(file.name)} bytes")
         own = None
-        for name, words in commands.items():
-            seconds, megabytes, status = measure(words)
+        for name, (words, output) in commands.items():
+            seconds, megabytes, status = measure(words, output)
             own = own or seconds
-            print(f"  {name:18} {seconds:7.2f} s {megabytes:7.0f} MB  status {status}  leank/this {own / seconds:.2f}")
+            print(f"  {name:18} {seconds:7.2f} s {megabytes:7.0f} MB  status {status}  reduce/this {own / seconds:.2f}")
+        os.unlink(document)
         os.unlink(file.name)
 
 

@@ -17,7 +17,7 @@ use Rattle.lk_model.specs.declared.document.Document.{Document}
 use Rattle.lk_model.proofs.Booleans.{and_true}
 use Rattle.lk_model.proofs.Rising.{rises, rising_count}
 use Rattle.lk_text.specs.Cutting.{is_one_line}
-use Rattle.cert_text.specs.Built.{IsBuilt}
+use Rattle.lk_model.specs.Built.{IsBuilt}
 use Rattle.cert_text.specs.Fields.{has_no_space}
 use Rattle.cert_text.specs.Drafts.{IsDraft, lines_read, front_lines, size_line, keep_line, set_line, order_line, problem_line}
 use Rattle.cert_text.specs.declared.draft.Draft.{Draft}

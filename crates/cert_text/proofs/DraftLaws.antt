@@ -7,7 +7,7 @@ use Rattle.lk_model.specs.Form.{is_in_form, is_done_in_form}
 use Rattle.lk_model.specs.Text.{document_lines}
 use Rattle.lk_model.specs.declared.document.Document.{Document}
 use Rattle.lk_model.specs.declared.document.Document.TheVariants.{Done}
-use Rattle.cert_text.specs.Built.{IsBuilt}
+use Rattle.lk_model.specs.Built.{IsBuilt}
 use Rattle.cert_text.specs.Drafts.{IsDraft, IsNext, IsWhole, lines_read, document_of}
 use Rattle.cert_text.specs.declared.draft.Draft.{Draft}
 use Rattle.cert_text.proofs.DraftForms.{lines_more}

@@ -21,7 +21,7 @@ use Rattle.lk_model.specs.declared.document.DoneDocument.{DoneDocument}
 use Rattle.lk_model.specs.declared.document.Document.{Document}
 use Rattle.lk_model.specs.declared.document.Document.TheVariants.{Done, Unfinished}
 use Rattle.lk_model.proofs.Booleans.{and_true}
-use Rattle.cert_text.specs.Built.{IsBuilt, IsBuiltBody}
+use Rattle.lk_model.specs.Built.{IsBuilt, IsBuiltBody}
 use Rattle.cert_text.specs.Drafts.{IsDraft, IsWhole, lines_read, lines_before, front_lines, problem_line, document_of}
 use Rattle.cert_text.specs.declared.draft.Draft.{Draft}
 use Rattle.cert_text.specs.declared.draft.Stage.{Stage}

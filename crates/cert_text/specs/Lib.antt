@@ -1,5 +1,4 @@
 pub mod Spaced
-pub mod Built
 pub mod Drafts
 pub mod Fields
 pub mod FieldLists

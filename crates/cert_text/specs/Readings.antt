@@ -4,7 +4,7 @@ use Rattle.lk_model.specs.Reading.{IsTextOf, GoesOn}
 use Rattle.lk_model.specs.declared.document.Document.{Document}
 use Rattle.lk_model.specs.declared.verdict.ReadStop.{ReadStop}
 use Rattle.lk_model.specs.declared.verdict.ReadStop.TheVariants.{Line, OutOfMemory}
-use Rattle.cert_text.specs.Built.{IsBuilt}
+use Rattle.lk_model.specs.Built.{IsBuilt}
 
 -- the bytes are the text of the document, which is in form and of a class that is built
 pub record IsReadAs (bytes : List ℕ) (d : Document) : Type 0 where

@@ -5,7 +5,7 @@ ghost use Rattle.lk_model.specs.PlainText.{line};
 ghost use Rattle.lk_model.specs.Documents.{class_of};
 ghost use Rattle.lk_model.specs.Text.{class_lines, class_word, document_lines, text_of};
 ghost use Rattle.lk_model.specs.declared.document.Document.TheVariants.{Done};
-ghost use Rattle.cert_text.specs.Built.{IsBuilt, IsBuiltBody};
+ghost use Rattle.lk_model.specs.Built.{IsBuilt, IsBuiltBody};
 
 use crate::formula::{put_first_lines, put_formula};
 use crate::line::{put_literal_line, put_number_line};

@@ -1,7 +1,7 @@
 //! Printed documents.
 ghost use Rattle.std.specs.Prelude.{◌≡◌, IfOk, IsTrue};
 ghost use Rattle.lk_model.specs.Literal.{is_literal};
-ghost use Rattle.cert_text.specs.Built.{IsBuilt};
+ghost use Rattle.lk_model.specs.Built.{IsBuilt};
 
 use crate::print;
 use lk_model::{Body, Document, DoneDocument, Formula, FormulaError, List, Lit, Pair};

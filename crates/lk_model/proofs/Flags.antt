@@ -11,7 +11,7 @@ use Rattle.lk_model.specs.Growing.{AreFlagged}
 use Rattle.lk_model.proofs.Ranks.{rank_apart, rank_small}
 use Rattle.lk_model.proofs.Literals.{true_or_false, clause-more, clause-less, clause-last, clause-apart}
 
-contains-push : (xs : List ℤ) (l k : ℤ) → contains (xs ++ l ∷ []) k ≡ (contains xs k || (int_eq k l || false))
+pub contains-push : (xs : List ℤ) (l k : ℤ) → contains (xs ++ l ∷ []) k ≡ (contains xs k || (int_eq k l || false))
 contains-push xs l k = list_any-append (int_eq k) xs (l ∷ [])
 
 -- no flag is up at first
@@ -23,14 +23,14 @@ Flagged-none n h = record {
   told = λ l lit. get_or-replicate (2 * n + 2) (rank_of l) false false (rank_small n l lit);
 }
 
-same_false : (k l : ℤ) → k ≢ l → int_eq k l ≡ false
+pub same_false : (k l : ℤ) → k ≢ l → int_eq k l ≡ false
 same_false k l ne = elim (true_or_false (int_eq k l)) [ inl e ↦ absurd (ne ((Decides-int_eq k l).0 e)) | inr e ↦ e ]
 
-or_no : (b : Bool) → (b || (false || false)) ≡ b
+pub or_no : (b : Bool) → (b || (false || false)) ≡ b
 or_no true = refl
 or_no false = refl
 
-or_yes : (b : Bool) → (b || (true || false)) ≡ true
+pub or_yes : (b : Bool) → (b || (true || false)) ≡ true
 or_yes true = refl
 or_yes false = refl
 

@@ -1,6 +1,8 @@
 pub mod Booleans
 pub mod Ranks
 pub mod Rising
+pub mod Founds
+pub mod NoneLeft
 pub mod Cuts
 pub mod FormulaErrors
 pub mod Autarkies
@@ -11,8 +13,17 @@ pub mod GcdLaws
 pub mod Kernels
 pub mod PureLaws
 pub mod Extensions
+pub mod ListTests
 pub mod ReachedLaws
 pub mod ReadingLaws
 pub mod Examples
 pub mod Literals
 pub mod Flags
+pub mod Counting
+pub mod Variables
+pub mod MatchingLaws
+pub mod Keys
+pub mod SetLines
+pub mod KeptLines
+pub mod MatchingResults
+pub mod MatchingReductions

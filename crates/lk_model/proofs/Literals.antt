@@ -1,10 +1,11 @@
 -- Tests of literals.
-use Rattle.std.proofs.Common.{◌≡◌, ℕ, Bool, true, false, ◌&&◌, ◌||◌, List, [], ◌∷◌, ◌++◌, refl, sym, ◌∙◌, arith, ℤ, ◌⊎◌, inl, inr}
+use Rattle.std.proofs.Common.{◌≡◌, ℕ, zero, suc, ◌<◌, Bool, true, false, not, ◌&&◌, ◌||◌, List, [], ◌∷◌, ◌++◌, length, take, get_or, refl, sym, ◌∙◌, arith, ℤ, ◌⊎◌, inl, inr}
 use Rattle.std.specs.Ordering.{int_eq}
 use Rattle.std.proofs.lemmas.Grind.{common_steps}
 use Rattle.std.proofs.lemmas.Bool.Decides.{Decides-int_eq}
-use Rattle.std.proofs.lemmas.List.Folds.{list_any-append, list_all-append}
-use Rattle.std.specs.List.{list_any}
+use Rattle.std.proofs.lemmas.List.Folds.{list_any-append, list_all-append, list_any_at}
+use Rattle.std.specs.List.{list_any, list_all}
+use Rattle.std.proofs.lemmas.Bool.{both_ways, not-true, or_from, false_from_ne_true}
 use Rattle.lk_model.specs.Literal.{contains, is_literal, is_distinct, is_clause}
 use Rattle.lk_model.proofs.Booleans.{and_true}
 
@@ -75,3 +76,21 @@ clause-apart n xs l c = elim (true_or_false (contains xs l)) [
   | inl e ↦ absurd (no_repeat xs l [] (and_true _ _ c).1 e)
   | inr e ↦ e
 ]
+
+-- each literal of a clause is one over its variables
+pub literal_at : (n : ℕ) (c : List ℤ) (i : ℕ) (d : ℤ) → list_all (is_literal n) c ≡ true → i < length c → is_literal n (get_or c i d) ≡ true
+literal_at n [] i d h lt = absurd (omega (arith, lt))
+literal_at n (x ∷ xs) zero d h lt = (and_true _ _ h).0
+literal_at n (x ∷ xs) (suc i) d h lt = literal_at n xs i d (and_true _ _ h).1 (omega (arith, lt))
+
+-- it is none of those before it
+pub new_at : (c : List ℤ) (i : ℕ) (d : ℤ) → is_distinct c ≡ true → i < length c → contains (take i c) (get_or c i d) ≡ false
+new_at [] i d h lt = absurd (omega (arith, lt))
+new_at (x ∷ xs) zero d h lt = refl
+new_at (x ∷ xs) (suc i) d h lt =
+    let parts = and_true (not (contains xs x)) (is_distinct xs) h in
+    let inside : i < length xs = omega (arith, lt) in
+    or_from _ _ (false_from_ne_true _ (λ e.
+    let same = (Decides-int_eq (get_or xs i d) x).0 e in
+    both_ways (contains xs x) (not-true _ parts.0) (list_any_at (int_eq x) xs i d inside ((Decides-int_eq x (get_or xs i d)).1 (sym same)))))
+    (new_at xs i d parts.1 inside)

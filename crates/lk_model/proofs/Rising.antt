@@ -1,6 +1,7 @@
 -- Positions that rise between bounds.
-use Rattle.std.proofs.Common.{◌≡◌, ℕ, zero, suc, ◌+◌, ◌<◌, ◌≤◌, true, ◌&&◌, List, [], ◌∷◌, length, get_or, arith, ◌==◌, nat_lt, nat_le, inl, inr}
-use Rattle.std.proofs.lemmas.Bool.{leb-true, ltb-true, eqb-true}
+use Rattle.std.proofs.Common.{◌≡◌, ℕ, zero, suc, ◌+◌, ◌<◌, ◌≤◌, true, ◌&&◌, List, [], ◌∷◌, length, get_or, refl, arith, ◌==◌, nat_lt, nat_le, inl, inr}
+use Rattle.std.proofs.lemmas.Bool.{leb-true, le-leb, lt-ltb, ltb-true, eqb-true}
+use Rattle.std.specs.List.{range_with_len}
 use Rattle.lk_model.specs.Lists.{among, rises_within}
 use Rattle.lk_model.proofs.Booleans.{and_true, or_true}
 
@@ -41,3 +42,16 @@ rising_bounds low high (p ∷ ps) (suc i) h lt =
     let r = rises low high p ps h in
     let b = rising_bounds p high ps i r.more (omega (arith, lt)) in
     (omega (arith, r.above, b.0), b.1)
+
+-- a lower bound is one too
+pub rises_from : (low mid high : ℕ) (ps : List ℕ) → low ≤ mid → rises_within mid high ps ≡ true → rises_within low high ps ≡ true
+rises_from low mid high [] h r = refl
+rises_from low mid high (p ∷ ps) h r =
+    let s = rises mid high p ps r in
+    rw (lt-ltb low p (omega (arith, h, s.above)), le-leb p high s.within, s.more) refl
+
+-- a range rises
+pub range_rises : (low high a n : ℕ) → low < a → a + n ≤ high + 1 → rises_within low high (range_with_len a n) ≡ true
+range_rises low high a zero above within = refl
+range_rises low high a (suc n) above within =
+    rw (lt-ltb low a above, le-leb a high (omega (arith, within)), range_rises a high (a + 1) n (omega arith) (omega (arith, within))) refl

@@ -23,7 +23,9 @@ pub use document::{
     Step, Turn, Unit, Weight,
 };
 pub use formula::{Formula, FormulaError, MAX_CLAUSES, MAX_LITERALS, MAX_VARS};
-pub use laws::{fault_law, gcd_law, one_kernel, reached_law, reading_law};
+pub use laws::{
+    fault_law, gcd_law, matching_law, matching_result_law, one_kernel, reached_law, reading_law,
+};
 pub use list::{List, OutOfMemory};
 pub use lit::Lit;
 pub use open_clause::OpenClause;

@@ -15,24 +15,17 @@ use Rattle.lk_model.specs.Autarky.{IsAutarky, HasEarlier, IsPureAutarky}
 use Rattle.lk_model.specs.Lean.{all_of}
 use Rattle.lk_model.specs.PureRun.{untouched, least_pure, RunsOn, IsPureRun}
 use Rattle.lk_model.proofs.Booleans.{and_true, or_true, or_left, or_right}
+use Rattle.lk_model.proofs.ListTests.{passes_one}
 use Rattle.pure_strip.proofs.Selections.{among-filter}
 use Rattle.pure_strip.proofs.Runs.{least_is_pure, touches_is, touches-more, mentions_is, mentions_if, no_complement, among_positions}
 use Rattle.pure_strip.proofs.Starts.{touches-none}
 
 -- TESTS OVER LISTS
 
--- one of the list passes where one that stands there does
-any_holding : (t : ℤ → Bool) (c : List ℤ) (l : ℤ) → contains c l ≡ true → t l ≡ true → list_any t c ≡ true
-any_holding t [] l there e = absurd (let f : ⊥ = cc in f)
-any_holding t (k ∷ c) l there e = elim (or_true (int_eq l k) (contains c l) there) [
-  | inl here ↦ or_left (t k) (list_any t c) (ap t (sym ((Decides-int_eq l k).0 here)) ∙ e)
-  | inr later ↦ or_right (t k) (list_any t c) (any_holding t c l later e)
-]
-
 -- where none of the list passes, one that stands there does not
 none_holding : (t : ℤ → Bool) (c : List ℤ) (l : ℤ) → contains c l ≡ true → list_any t c ≡ false → t l ≡ false
 none_holding t c l there none = elim (cases_Bool (t l)) [
-  | inl y ↦ absurd (cc (any_holding t c l there y, none))
+  | inl y ↦ absurd (cc (passes_one t c l there y, none))
   | inr y ↦ y
 ]
 
@@ -236,7 +229,7 @@ pure_autarky F order run =
 satisfied : (φ : Assignment) (c ls : List ℤ) → ((l : ℤ) → contains ls l ≡ true → makes_true φ l ≡ true) → list_any (contains c) ls ≡ true → satisfies φ c ≡ true
 satisfied φ c [] h e = absurd (let f : ⊥ = cc in f)
 satisfied φ c (l ∷ ls) h e = elim (or_true (contains c l) (list_any (contains c) ls) e) [
-  | inl here ↦ any_holding (makes_true φ) c l here (h l (or_left (int_eq l l) (contains ls l) ((Decides-int_eq l l).1 refl)))
+  | inl here ↦ passes_one (makes_true φ) c l here (h l (or_left (int_eq l l) (contains ls l) ((Decides-int_eq l l).1 refl)))
   | inr later ↦ satisfied φ c ls (λ k there. h k (or_right (int_eq k l) (contains ls k) there)) later
 ]
 

@@ -1,32 +1,23 @@
 -- The positions at the ranks of literals.
-use Rattle.std.proofs.Common.{◌≡◌, ◌≢◌, ℕ, zero, suc, take, ◌+◌, ◌*◌, ◌<◌, ◌∙◌, Bool, true, false, not, cond, ◌||◌, List, [], ◌∷◌, ◌++◌, length, get_or, refl, sym, ap, subst, arith, ℤ, IsTrue, inl, inr, get_or-set_same, get_or-set_other}
+use Rattle.std.proofs.Common.{◌≡◌, ◌≢◌, ℕ, take, ◌+◌, ◌*◌, ◌<◌, ◌∙◌, Bool, true, false, cond, ◌||◌, List, [], ◌∷◌, ◌++◌, length, get_or, refl, sym, ap, subst, arith, ℤ, IsTrue, inl, inr, get_or-set_same, get_or-set_other}
 use Rattle.std.specs.Prelude.{replicate, slice_set}
 use Rattle.std.specs.Ordering.{int_eq}
-use Rattle.std.proofs.lemmas.Bool.{cases_Bool, both_ways, not-true, or_from, false_from_ne_true}
+use Rattle.std.proofs.lemmas.Bool.{cases_Bool}
 use Rattle.std.proofs.lemmas.Bool.Decides.{Decides-int_eq}
 use Rattle.std.proofs.lemmas.List.{append-nil, length-set, length-replicate, get_or-replicate, get_or_read, take_more}
-use Rattle.std.specs.List.{list_all}
-use Rattle.std.proofs.lemmas.List.Folds.{list_any-append, list_any_at}
 use Rattle.lk_model.proofs.Booleans.{and_true}
 use Rattle.lk_model.specs.Lists.{up_to}
-use Rattle.lk_model.specs.Literal.{contains, is_literal, is_clause, is_distinct, rank_of}
+use Rattle.lk_model.specs.Literal.{contains, is_literal, is_clause, rank_of}
 use Rattle.lk_model.specs.Formula.{Cnf, clause_at}
 use Rattle.lk_model.proofs.Ranks.{rank_apart, rank_small}
+use Rattle.lk_model.proofs.Flags.{contains-push, or_no}
+use Rattle.lk_model.proofs.Literals.{literal_at, new_at}
 use Rattle.pure_strip.specs.Tables.{if_held, NotesClause, AreHolders}
 use Rattle.pure_strip.proofs.ListLemmas.{filter-up_to-more}
 
 -- no literal is noted at first
 pub Notes-none : (n p : ℕ) (table : List (List ℕ)) → NotesClause n [] p table table
 Notes-none n p table = record { size = refl; noted = λ l lit. sym (append-nil (get_or table (rank_of l) [])) }
-
--- a literal stands in the longer list where it stood before or is the last one
-pub contains-push : (xs : List ℤ) (l k : ℤ) → contains (xs ++ l ∷ []) k ≡ (contains xs k || (int_eq k l || false))
-contains-push xs l k = list_any-append (int_eq k) xs (l ∷ [])
-
--- a test or none
-pub or_no : (b : Bool) → (b || (false || false)) ≡ b
-or_no true = refl
-or_no false = refl
 
 -- one literal more, which is a new one
 pub Notes-more : (n p : ℕ) (xs : List ℤ) (l : ℤ) (before after : List (List ℕ)) → length before ≡ 2 * n + 2 → IsTrue (is_literal n l) → contains xs l ≡ false → NotesClause n xs p before after → NotesClause n (xs ++ l ∷ []) p before (slice_set after (rank_of l) (get_or after (rank_of l) [] ++ p ∷ []))
@@ -52,24 +43,6 @@ Notes-more n p xs l before after size lit out notes = record {
         ∙ ap (λ (b : Bool). get_or before (rank_of k) [] ++ cond b (p ∷ []) []) (sym same)
   ];
 }
-
--- each literal of a clause is one over its variables
-pub literal_at : (n : ℕ) (c : List ℤ) (i : ℕ) (d : ℤ) → list_all (is_literal n) c ≡ true → i < length c → is_literal n (get_or c i d) ≡ true
-literal_at n [] i d h lt = absurd (omega (arith, lt))
-literal_at n (x ∷ xs) zero d h lt = (and_true _ _ h).0
-literal_at n (x ∷ xs) (suc i) d h lt = literal_at n xs i d (and_true _ _ h).1 (omega (arith, lt))
-
--- it is none of those before it
-pub new_at : (c : List ℤ) (i : ℕ) (d : ℤ) → is_distinct c ≡ true → i < length c → contains (take i c) (get_or c i d) ≡ false
-new_at [] i d h lt = absurd (omega (arith, lt))
-new_at (x ∷ xs) zero d h lt = refl
-new_at (x ∷ xs) (suc i) d h lt =
-    let parts = and_true (not (contains xs x)) (is_distinct xs) h in
-    let inside : i < length xs = omega (arith, lt) in
-    or_from _ _ (false_from_ne_true _ (λ e.
-    let same = (Decides-int_eq (get_or xs i d) x).0 e in
-    both_ways (contains xs x) (not-true _ parts.0) (list_any_at (int_eq x) xs i d inside ((Decides-int_eq x (get_or xs i d)).1 (sym same)))))
-    (new_at xs i d parts.1 inside)
 
 -- the position is noted at one literal more of a clause
 pub Notes-next : (n p : ℕ) (c : List ℤ) (i : ℕ) (l : ℤ) (before after : List (List ℕ)) → length before ≡ 2 * n + 2 → IsTrue (is_clause n c) → i < length c → l ≡ get_or c i l → NotesClause n (take i c) p before after → (old new : List ℕ) → old ≡ get_or after (rank_of l) old → new ≡ old ++ p ∷ [] → NotesClause n (take (i + 1) c) p before (slice_set after (rank_of l) new)

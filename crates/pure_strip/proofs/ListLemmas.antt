@@ -1,11 +1,10 @@
 -- What tests keep and find in lists, and the numbers from 1 on.
-use Rattle.std.proofs.Common.{◌≡◌, ℕ, zero, suc, ◌+◌, ◌<◌, ◌≤◌, ◌∙◌, Bool, true, false, cond, ◌||◌, List, [], ◌∷◌, ◌++◌, length, take, get_or, refl, sym, ap, arith, Some, None, is_some, inl, inr}
+use Rattle.std.proofs.Common.{◌≡◌, ℕ, ◌+◌, ◌<◌, ◌≤◌, ◌∙◌, Bool, true, false, cond, ◌||◌, List, [], ◌∷◌, ◌++◌, get_or, refl, sym, ap, arith, is_some, inl, inr}
 use Rattle.std.specs.Prelude.{filter, find}
 use Rattle.std.specs.List.{list_any, All}
-use Rattle.std.proofs.lemmas.Bool.{cases_Bool, cond-true, cond-false}
+use Rattle.std.proofs.lemmas.Bool.{cases_Bool}
 use Rattle.std.proofs.Math.Bool.{or-true}
-use Rattle.std.proofs.lemmas.List.Folds.{find-append}
-use Rattle.std.proofs.lemmas.List.{map-id, take_more, append-nil}
+use Rattle.std.proofs.lemmas.List.{map-id, append-nil}
 use Rattle.std.proofs.lemmas.List.Elements.{filter-append}
 use Rattle.std.proofs.lemmas.List.FromFn.{map-range_with_len_more, get_or-range_with_len, length-range_with_len}
 use Rattle.lk_model.specs.Lists.{up_to}
@@ -39,19 +38,6 @@ find-filter s t (x ∷ xs) = elim (cases_Bool (s x)) [
 pub is_some-find : (test : ℕ → Bool) (xs : List ℕ) → is_some (find test xs) ≡ list_any test xs
 is_some-find test [] = refl
 is_some-find test (x ∷ xs) = elim (cases_Bool (test x)) [ inl e ↦ rw e refl | inr e ↦ rw e (is_some-find test xs) ]
-
--- none among one more
-pub find-none_more : (test : ℕ → Bool) (xs : List ℕ) (i d : ℕ) → i < length xs → find test (take i xs) ≡ None → test (get_or xs i d) ≡ false → find test (take (i + 1) xs) ≡ None
-find-none_more test xs i d lt none e = ap (find test) (take_more xs i d lt) ∙ find-append test (take i xs) (get_or xs i d ∷ []) ∙ rw (none, e) refl
-
--- the first, behind some that fail
-pub find-here : (test : ℕ → Bool) (xs : List ℕ) (i d : ℕ) → i < length xs → find test (take i xs) ≡ None → test (get_or xs i d) ≡ true → Some (get_or xs i d) ≡ find test xs
-find-here test [] i d lt none e = absurd (omega (arith, lt))
-find-here test (x ∷ xs) zero d lt none e = rw e refl
-find-here test (x ∷ xs) (suc i) d lt none e = elim (cases_Bool (test x)) [
-  | inl p ↦ absurd (cc (sym (cond-true (test x) (Some x) (find test (take i xs)) p) ∙ none))
-  | inr p ↦ rw p (find-here test xs i d (omega (arith, lt)) (sym (cond-false (test x) (Some x) (find test (take i xs)) p) ∙ none) e)
-]
 
 -- one of two tests
 pub list_any-or : {X : Type 0} (s t : X → Bool) (xs : List X) → list_any (λ x. s x || t x) xs ≡ (list_any s xs || list_any t xs)

@@ -13,6 +13,7 @@ use Rattle.lk_model.specs.Assignment.{assignment_of, touches}
 use Rattle.lk_model.specs.Lean.{all_of}
 use Rattle.lk_model.specs.PureRun.{untouched, is_pure_at, least_pure, literals_to, RunsOn}
 use Rattle.lk_model.proofs.Booleans.{and_true, or_true, or_left, or_right}
+use Rattle.lk_model.proofs.ListTests.{passes_among}
 use Rattle.pure_strip.specs.Counted.{Counted, count_of, is_lone, least_lone}
 use Rattle.pure_strip.specs.Live.{is_live, AreCounted, AreUntouched, GoDown}
 use Rattle.pure_strip.proofs.Selections.{count_by-filter, any_by_count, none_by_count, filter-agree, among-filter, among-range, length-filter-lt}
@@ -155,19 +156,11 @@ mentions_is c (pos v) e = mentions-or c v ∙ ap (λ (b : Bool). contains c (pos
     or-none false = refl
 mentions_is c (negsuc k) e = mentions-or c (suc k) ∙ ap (λ (b : Bool). b || contains c (negsuc k)) e
 
--- one of some positions that passes is found
-pub any_among : (t : ℕ → Bool) (ps : List ℕ) (p : ℕ) → among ps p ≡ true → t p ≡ true → list_any t ps ≡ true
-any_among t [] p there e = absurd (let f : ⊥ = cc in f)
-any_among t (q ∷ ps) p there e = elim (or_true (q == p) (among ps p) there) [
-  | inl here ↦ or_left (t q) (list_any t ps) (ap t (eqb-true q p here) ∙ e)
-  | inr later ↦ or_right (t q) (list_any t ps) (any_among t ps p later e)
-]
-
 -- no untouched clause holds the complement of a pure literal
 pub no_complement : (F : Cnf) (ps : List ℕ) (l : ℤ) (p : ℕ) → is_pure_at F ps l ≡ true → among ps p ≡ true → contains (clause_at F p) (complement l) ≡ false
 no_complement F ps l p pure there = elim (cases_Bool (contains (clause_at F p) (complement l))) [
   | inl y ↦
-      let some : literal_occurs F ps (complement l) ≡ true = any_among (λ q. contains (clause_at F q) (complement l)) ps p there y in
+      let some : literal_occurs F ps (complement l) ≡ true = passes_among (λ q. contains (clause_at F q) (complement l)) ps p there y in
       let none : not (literal_occurs F ps (complement l)) ≡ true = (and_true (literal_occurs F ps l) (not (literal_occurs F ps (complement l))) pure).1 in
       let no_way : ⊥ = cc in
       absurd no_way

@@ -15,7 +15,8 @@ use Rattle.lk_model.proofs.Ranks.{rank_apart, rank_small}
 use Rattle.pure_strip.specs.Counted.{Counted, count_of, lowered, LowersAll, AreHeld}
 use Rattle.pure_strip.specs.Live.{is_live, holder_count, AreCounted, GoDown}
 use Rattle.pure_strip.proofs.Selections.{weight, count_by-less}
-use Rattle.pure_strip.proofs.HolderLemmas.{contains-push, or_no, literal_at, new_at}
+use Rattle.lk_model.proofs.Flags.{contains-push, or_no}
+use Rattle.lk_model.proofs.Literals.{literal_at, new_at}
 
 -- ONE CLAUSE LESS AT SOME LITERALS
 

@@ -1,32 +1,12 @@
 -- The clauses at some positions are no more than all.
-use Rattle.std.proofs.Common.{◌≡◌, ℕ, zero, suc, ◌+◌, ◌<◌, ◌≤◌, true, List, [], ◌∷◌, ◌++◌, length, map, take, drop, get_or, sym, ◌∙◌, ap, arith, IsTrue, ℤ, sum_by}
+use Rattle.std.proofs.Common.{◌≡◌, ℕ, ◌+◌, ◌<◌, ◌≤◌, List, [], ◌∷◌, ◌++◌, length, map, take, get_or, sym, ◌∙◌, ap, arith, IsTrue, sum_by}
 use Rattle.std.proofs.lemmas.List.{length-map, map-append, take_more, length-take, take-map}
-use Rattle.std.proofs.lemmas.List.Sums.{sum_by-append, sum_by-cons, sum_by-take-drop, sum_by-take-le}
-use Rattle.std.proofs.Math.Seq.{drop-cons}
-use Rattle.lk_model.specs.Lists.{rises_within}
+use Rattle.std.proofs.lemmas.List.Sums.{sum_by-append, sum_by-cons, sum_by-take-le}
 use Rattle.lk_model.specs.Lean.{are_positions}
 use Rattle.lk_model.specs.Formula.{Cnf, clause_at, literal_count, with_clause}
-use Rattle.lk_model.proofs.Rising.{rises, rising_count}
+use Rattle.lk_model.proofs.Rising.{rising_count}
+use Rattle.lk_model.proofs.KeptLines.{kept_le}
 use Rattle.workbench.specs.PureDocument.{clauses_at}
-
--- a later rest has no more literals
-rest_le : (low k : ℕ) (cs : List (List ℤ)) → low ≤ k → sum_by length (drop k cs) ≤ sum_by length (drop low cs)
-rest_le zero k cs h = omega (arith, sum_by-take-drop length cs k)
-rest_le (suc low) zero cs h = absurd (omega (arith, h))
-rest_le (suc low) (suc k) [] h = omega arith
-rest_le (suc low) (suc k) (c ∷ cs) h = rest_le low k cs (omega (arith, h))
-
--- the literals of the clauses at rising positions are among those that lie behind the first bound
-pub kept_le : (F : Cnf) (low : ℕ) (ps : List ℕ) → rises_within low (length F.clauses) ps ≡ true → sum_by length (map (clause_at F) ps) ≤ sum_by length (drop low F.clauses)
-kept_le F low [] h = omega arith
-kept_le F low (zero ∷ ps) h = let r = rises low (length F.clauses) zero ps h in absurd (omega (arith, r.above))
-kept_le F low (suc k ∷ ps) h =
-    let r = rises low (length F.clauses) (suc k) ps h in
-    let before : low ≤ k = omega (arith, r.above) in
-    let inside : k < length F.clauses = omega (arith, r.within) in
-    let here : sum_by length (drop k F.clauses) ≡ length (get_or F.clauses k []) + sum_by length (drop (suc k) F.clauses) =
-    ap (sum_by length) (drop-cons F.clauses k [] inside) ∙ sum_by-cons length (get_or F.clauses k []) (drop (suc k) F.clauses) in
-    omega (arith, rest_le low k F.clauses before, here, kept_le F (suc k) ps r.more, sum_by-cons length (clause_at F (suc k)) (map (clause_at F) ps))
 
 -- one clause more
 pub clauses_more : (F : Cnf) (ps : List ℕ) (i : ℕ) → i < length ps → with_clause (clauses_at F (take i ps)) (clause_at F (get_or ps i 0)) ≡ clauses_at F (take (i + 1) ps)

@@ -1,42 +1,61 @@
 -- From one option to the next.
-use Rattle.std.proofs.Common.{◌≡◌, ℕ, ◌+◌, ◌<◌, ◌∙◌, true, false, not, ◌≤◌, List, [], ◌∷◌, length, map, drop, get_or, Option, Some, None, refl, ap, arith, inl, inr, option_map, subst, sym, Bor}
+use Rattle.std.proofs.Common.{◌≡◌, ℕ, ◌+◌, ◌<◌, ◌∙◌, Bool, true, false, ◌&&◌, ◌||◌, ◌≤◌, List, [], ◌∷◌, length, map, drop, get_or, Option, Some, None, refl, ap, arith, inl, inr, option_map, subst, sym, Bor}
 use Rattle.std.proofs.lemmas.Bool.{cases_Bool}
 use Rattle.std.proofs.Math.ListN.{drop_of_length-le}
 use Rattle.std.proofs.lemmas.List.{drop_more, drop-map, length-map}
 use Rattle.std.proofs.lemmas.Slice.Eq.{bytes_eq-Decides}
 use Rattle.std.specs.Str.{bytes_eq}
 use Rattle.lk_model.specs.Lines.{Word}
+use Rattle.lk_model.specs.NumberWords.{natural}
+use Rattle.workbench.specs.Lawful as lawful
 use Rattle.workbench.specs.Lawful.{conflicts, pivots, workers}
-use Rattle.workbench.specs.declared.words.Key.{Key}
-use Rattle.workbench.specs.declared.words.Key.TheVariants.{Conflicts, Pivots, Workers}
-use Rattle.workbench.specs.declared.words.Given.{Given}
-use Rattle.workbench.specs.OptionPlaces.{named, key_of, is_given, with_key, has, is_new, is_value, refused_place}
+use Rattle.workbench.specs.declared.options.Verb.{Verb}
+use Rattle.workbench.specs.declared.options.Verb.TheVariants.{Reduce, Check}
+use Rattle.workbench.specs.declared.options.Key.{Key}
+use Rattle.workbench.specs.declared.options.Key.TheVariants.{Conflicts, Pivots, Workers}
+use Rattle.workbench.specs.declared.options.Keys.{Keys}
+use Rattle.workbench.specs.OptionPlaces.{named, keys_of, taken_by, key_of, has_key, without_key, is_word_of, is_new, is_number_of, is_number_for, is_value, refused_place}
 
--- the options that are given have their words among these
-abbrev pub AreGiven : List Word → Given → Type 0
-AreGiven before given = (key : Key) → has before (named key).word ≡ is_given given key
+-- these options are the ones whose words may stand behind the earlier words
+abbrev pub AreLeft : Verb → List Word → Keys → Type 0
+AreLeft verb before left = (key : Key) → is_new (keys_of verb) before (named key).word ≡ has_key left key
 
-pub none_given : AreGiven [] (record { conflicts = false; pivots = false; workers = false })
-none_given Conflicts = refl
-none_given Pivots = refl
-none_given Workers = refl
+pub all_left : (verb : Verb) → AreLeft verb [] (taken_by verb)
+all_left Reduce Conflicts = refl
+all_left Reduce Pivots = refl
+all_left Reduce Workers = refl
+all_left Check Conflicts = refl
+all_left Check Pivots = refl
+all_left Check Workers = refl
 
-pub more_given : (before : List Word) (given : Given) (key : Key) → AreGiven before given → AreGiven ((named key).word ∷ before) (with_key given key)
-more_given before given Conflicts h Conflicts = refl
-more_given before given Conflicts h Pivots = h Pivots
-more_given before given Conflicts h Workers = h Workers
-more_given before given Pivots h Conflicts = h Conflicts
-more_given before given Pivots h Pivots = refl
-more_given before given Pivots h Workers = h Workers
-more_given before given Workers h Conflicts = h Conflicts
-more_given before given Workers h Pivots = h Pivots
-more_given before given Workers h Workers = refl
+and_false : (a : Bool) → (a && false) ≡ false
+and_false true = refl
+and_false false = refl
 
--- a word is new if its option is not given
-pub new_if : (before : List Word) (given : Given) (key : Key) → AreGiven before given → is_new before (named key).word ≡ not (is_given given key)
-new_if before given Conflicts h = ap not (h Conflicts)
-new_if before given Pivots h = ap not (h Pivots)
-new_if before given Workers h = ap not (h Workers)
+or_false : (a : Bool) → (a || false) ≡ a
+or_false true = refl
+or_false false = refl
+
+pub fewer_left : (verb : Verb) (before : List Word) (left : Keys) (key : Key) → AreLeft verb before left → AreLeft verb ((named key).word ∷ before) (without_key left key)
+fewer_left verb before left Conflicts h Conflicts = and_false (is_word_of (keys_of verb) conflicts.word)
+fewer_left verb before left Conflicts h Pivots = h Pivots
+fewer_left verb before left Conflicts h Workers = h Workers
+fewer_left verb before left Pivots h Conflicts = h Conflicts
+fewer_left verb before left Pivots h Pivots = and_false (is_word_of (keys_of verb) pivots.word)
+fewer_left verb before left Pivots h Workers = h Workers
+fewer_left verb before left Workers h Conflicts = h Conflicts
+fewer_left verb before left Workers h Pivots = h Pivots
+fewer_left verb before left Workers h Workers = and_false (is_word_of (keys_of verb) workers.word)
+
+-- a number for an option's word lies in the range of that option
+number_for : (verb : Verb) (before : List Word) (key : Key) (n : Option ℕ) → is_new (keys_of verb) before (named key).word ≡ true → is_number_for (keys_of verb) (named key).word n ≡ is_number_of (named key) n
+number_for verb before key None new = refl
+number_for Reduce before Conflicts (Some n) new = or_false (is_number_of conflicts (Some n))
+number_for Reduce before Pivots (Some n) new = or_false (is_number_of pivots (Some n))
+number_for Reduce before Workers (Some n) new = or_false (is_number_of workers (Some n))
+number_for Check before Conflicts (Some n) new = absurd (let f : ⊥ = cc in f)
+number_for Check before Pivots (Some n) new = absurd (let f : ⊥ = cc in f)
+number_for Check before Workers (Some n) new = or_false (is_number_of workers (Some n))
 
 -- the word of the option
 pub word_of : (word : Word) (key : Key) → key_of word ≡ Some key → word ≡ (named key).word
@@ -52,14 +71,14 @@ word_of word key e = elim (cases_Bool (bytes_eq word conflicts.word)) [
 ]
 
 -- a word of no option is not new
-pub of_none : (before : List Word) (word : Word) → key_of word ≡ None → is_new before word ≡ false
-of_none before word e = elim (cases_Bool (bytes_eq word conflicts.word)) [
+of_none : (verb : Verb) (before : List Word) (word : Word) → key_of word ≡ None → is_new (keys_of verb) before word ≡ false
+of_none verb before word e = elim (cases_Bool (bytes_eq word conflicts.word)) [
   | inl c ↦ absurd (cc (e, c))
   | inr c ↦ elim (cases_Bool (bytes_eq word pivots.word)) [
     | inl p ↦ absurd (cc (e, c, p))
     | inr p ↦ elim (cases_Bool (bytes_eq word workers.word)) [
       | inl w ↦ absurd (cc (e, c, p, w))
-      | inr w ↦ rw (turned conflicts.word word c, turned pivots.word word p, turned workers.word word w) refl
+      | inr w ↦ by verb (turned conflicts.word word c) (turned pivots.word word p) (turned workers.word word w)
     ]
   ]
 ]
@@ -70,33 +89,42 @@ of_none before word e = elim (cases_Bool (bytes_eq word conflicts.word)) [
       | inr f ↦ f
     ]
 
--- the place among all words, of the one among those from a place on
-abbrev pub GoesOn : List Word → List Word → ℕ → Type 0
-GoesOn words before place = refused_place [] words ≡ option_map (λ i. i + place) (refused_place before (drop place words))
+    by : (verb : Verb) → bytes_eq conflicts.word word ≡ false → bytes_eq pivots.word word ≡ false → bytes_eq workers.word word ≡ false → is_new (keys_of verb) before word ≡ false
+    by Reduce c p w = rw (c, p, w) refl
+    by Check c p w = rw w refl
 
-pub begin : (words : List Word) → GoesOn words [] 0
-begin words = plus_none (refused_place [] words)
+-- the place among all words, of the one among those from a place on
+abbrev pub GoesOn : List lawful.Key → List Word → List Word → ℕ → Type 0
+GoesOn keys words before place = refused_place keys [] words ≡ option_map (λ i. i + place) (refused_place keys before (drop place words))
+
+pub begin : (keys : List lawful.Key) (words : List Word) → GoesOn keys words [] 0
+begin keys words = plus_none (refused_place keys [] words)
   where
     plus_none : (x : Option ℕ) → x ≡ option_map (λ i. i + 0) x
     plus_none None = refl
     plus_none (Some i) = ap Some (omega arith)
 
+-- what goes on behind a place depends on the words from there on alone
+from_there : (keys : List lawful.Key) (words before : List Word) (place : ℕ) (rest : List Word) → GoesOn keys words before place → drop place words ≡ rest → refused_place keys [] words ≡ option_map (λ i. i + place) (refused_place keys before rest)
+from_there keys words before place rest on here = on ∙ ap (λ (ws : List Word). option_map (λ i. i + place) (refused_place keys before ws)) here
+
 -- here is a word that is not new
-pub stops_here : (words before : List Word) (place : ℕ) (word : Word) (rest : List Word) → GoesOn words before place → drop place words ≡ word ∷ rest → is_new before word ≡ false → refused_place [] words ≡ Some place
-stops_here words before place word [] on here old = on ∙ ap (λ (ws : List Word). option_map (λ i. i + place) (refused_place before ws)) here ∙ rw old (ap Some (omega arith))
-stops_here words before place word (value ∷ rest) on here old = on ∙ ap (λ (ws : List Word). option_map (λ i. i + place) (refused_place before ws)) here ∙ rw old (ap Some (omega arith))
+stops_here : (keys : List lawful.Key) (words before : List Word) (place : ℕ) (word : Word) (rest : List Word) → GoesOn keys words before place → drop place words ≡ word ∷ rest → is_new keys before word ≡ false → refused_place keys [] words ≡ Some place
+stops_here keys words before place word [] on here old = from_there keys words before place (word ∷ []) on here ∙ rw old (ap Some (omega arith))
+stops_here keys words before place word (value ∷ rest) on here old = from_there keys words before place (word ∷ value ∷ rest) on here ∙ rw old (ap Some (omega arith))
 
 -- the value is missing
-pub stops_at_end : (words before : List Word) (place : ℕ) (word : Word) → GoesOn words before place → drop place words ≡ word ∷ [] → is_new before word ≡ true → refused_place [] words ≡ Some (place + 1)
-stops_at_end words before place word on here new = on ∙ ap (λ (ws : List Word). option_map (λ i. i + place) (refused_place before ws)) here ∙ rw new (ap Some (omega arith))
+stops_at_end : (keys : List lawful.Key) (words before : List Word) (place : ℕ) (word : Word) → GoesOn keys words before place → drop place words ≡ word ∷ [] → is_new keys before word ≡ true → refused_place keys [] words ≡ Some (place + 1)
+stops_at_end keys words before place word on here new = from_there keys words before place (word ∷ []) on here ∙ rw new (ap Some (omega arith))
 
 -- the value is none
-pub stops_behind : (words before : List Word) (place : ℕ) (word value : Word) (rest : List Word) → GoesOn words before place → drop place words ≡ word ∷ value ∷ rest → is_new before word ≡ true → is_value word value ≡ false → refused_place [] words ≡ Some (place + 1)
-stops_behind words before place word value rest on here new bad = on ∙ ap (λ (ws : List Word). option_map (λ i. i + place) (refused_place before ws)) here ∙ rw (new, bad) (ap Some (omega arith))
+stops_behind : (keys : List lawful.Key) (words before : List Word) (place : ℕ) (word value : Word) (rest : List Word) → GoesOn keys words before place → drop place words ≡ word ∷ value ∷ rest → is_new keys before word ≡ true → is_value keys word value ≡ false → refused_place keys [] words ≡ Some (place + 1)
+stops_behind keys words before place word value rest on here new bad = from_there keys words before place (word ∷ value ∷ rest) on here ∙ rw (new, bad) (ap Some (omega arith))
 
 -- both pass
-pub goes_on : (words before : List Word) (place : ℕ) (word value : Word) → GoesOn words before place → drop place words ≡ word ∷ value ∷ drop (place + 2) words → is_new before word ≡ true → is_value word value ≡ true → GoesOn words (word ∷ before) (place + 2)
-goes_on words before place word value on here new good = on ∙ ap (λ (ws : List Word). option_map (λ i. i + place) (refused_place before ws)) here ∙ rw (new, good) (plus_two (refused_place (word ∷ before) (drop (place + 2) words)))
+goes_on : (keys : List lawful.Key) (words before : List Word) (place : ℕ) (word value : Word) → GoesOn keys words before place → drop place words ≡ word ∷ value ∷ drop (place + 2) words → is_new keys before word ≡ true → is_value keys word value ≡ true → GoesOn keys words (word ∷ before) (place + 2)
+goes_on keys words before place word value on here new good =
+    from_there keys words before place (word ∷ value ∷ drop (place + 2) words) on here ∙ rw (new, good) (plus_two (refused_place keys (word ∷ before) (drop (place + 2) words)))
   where
     plus_two : (x : Option ℕ) → option_map (λ i. i + place) (option_map (λ i. i + 2) x) ≡ option_map (λ i. i + (place + 2)) x
     plus_two None = refl
@@ -122,33 +150,40 @@ two_more xs i h =
 last_one : (xs : List (Bor Word)) (i : ℕ) → i < length xs → length xs ≤ i + 1 → drop i (texts xs) ≡ text_at xs i ∷ []
 last_one xs i h end = one_more xs i h ∙ ap (λ (ws : List Word). text_at xs i ∷ ws) (drop_of_length-le (texts xs) (omega (arith, end, length-map xs (λ w. w.now))))
 
--- the option at a place is new if it is not given
-new_at : (xs : List (Bor Word)) (before : List Word) (place : ℕ) (given : Given) (key : Key) → AreGiven before given → Some key ≡ key_of (text_at xs place) → is_new before (text_at xs place) ≡ not (is_given given key)
-new_at xs before place given key h e = ap (is_new before) (word_of (text_at xs place) key (sym e)) ∙ new_if before given key h
+-- the option at a place is new if it is left
+new_at : (verb : Verb) (xs : List (Bor Word)) (before : List Word) (place : ℕ) (left : Keys) (key : Key) (b : Bool) → AreLeft verb before left → Some key ≡ key_of (text_at xs place) → b ≡ has_key left key → is_new (keys_of verb) before (text_at xs place) ≡ b
+new_at verb xs before place left key b all e h = ap (is_new (keys_of verb) before) (word_of (text_at xs place) key (sym e)) ∙ all key ∙ sym h
+
+-- the word behind it is its value if it is a number in the range
+value_at : (verb : Verb) (xs : List (Bor Word)) (before : List Word) (place : ℕ) (left : Keys) (key : Key) (b : Bool) → AreLeft verb before left → Some key ≡ key_of (text_at xs place) → true ≡ has_key left key → b ≡ is_number_of (named key) (natural (text_at xs (place + 1))) → is_value (keys_of verb) (text_at xs place) (text_at xs (place + 1)) ≡ b
+value_at verb xs before place left key b all e new h =
+    ap (λ (w : Word). is_value (keys_of verb) w (text_at xs (place + 1))) (word_of (text_at xs place) key (sym e))
+    ∙ number_for verb before key (natural (text_at xs (place + 1))) (all key ∙ sym new)
+    ∙ sym h
 
 -- HOW THE SEARCH ENDS OR GOES ON
 
-pub unknown : (xs : List (Bor Word)) (before : List Word) (place : ℕ) → GoesOn (texts xs) before place → place < length xs → None ≡ key_of (text_at xs place) → Some place ≡ refused_place [] (texts xs)
-unknown xs before place on h e =
-    sym (stops_here (texts xs) before place (text_at xs place) (drop (place + 1) (texts xs)) on (one_more xs place h) (of_none before (text_at xs place) (sym e)))
+pub unknown : (verb : Verb) (xs : List (Bor Word)) (before : List Word) (place : ℕ) → GoesOn (keys_of verb) (texts xs) before place → place < length xs → None ≡ key_of (text_at xs place) → Some place ≡ refused_place (keys_of verb) [] (texts xs)
+unknown verb xs before place on h e =
+    sym (stops_here (keys_of verb) (texts xs) before place (text_at xs place) (drop (place + 1) (texts xs)) on (one_more xs place h) (of_none verb before (text_at xs place) (sym e)))
 
-pub twice : (xs : List (Bor Word)) (before : List Word) (place : ℕ) (given : Given) (key : Key) → AreGiven before given → GoesOn (texts xs) before place → place < length xs → Some key ≡ key_of (text_at xs place) → true ≡ is_given given key → Some place ≡ refused_place [] (texts xs)
-twice xs before place given key all on h e old =
-    sym (stops_here (texts xs) before place (text_at xs place) (drop (place + 1) (texts xs)) on (one_more xs place h) (new_at xs before place given key all e ∙ ap not (sym old)))
+pub not_left : (verb : Verb) (xs : List (Bor Word)) (before : List Word) (place : ℕ) (left : Keys) (key : Key) → AreLeft verb before left → GoesOn (keys_of verb) (texts xs) before place → place < length xs → Some key ≡ key_of (text_at xs place) → false ≡ has_key left key → Some place ≡ refused_place (keys_of verb) [] (texts xs)
+not_left verb xs before place left key all on h e old =
+    sym (stops_here (keys_of verb) (texts xs) before place (text_at xs place) (drop (place + 1) (texts xs)) on (one_more xs place h) (new_at verb xs before place left key false all e old))
 
-pub missing : (xs : List (Bor Word)) (before : List Word) (place : ℕ) (given : Given) (key : Key) → AreGiven before given → GoesOn (texts xs) before place → place < length xs → length xs ≤ place + 1 → Some key ≡ key_of (text_at xs place) → false ≡ is_given given key → Some (place + 1) ≡ refused_place [] (texts xs)
-missing xs before place given key all on h end e new =
-    sym (stops_at_end (texts xs) before place (text_at xs place) on (last_one xs place h end) (new_at xs before place given key all e ∙ ap not (sym new)))
+pub missing : (verb : Verb) (xs : List (Bor Word)) (before : List Word) (place : ℕ) (left : Keys) (key : Key) → AreLeft verb before left → GoesOn (keys_of verb) (texts xs) before place → place < length xs → length xs ≤ place + 1 → Some key ≡ key_of (text_at xs place) → true ≡ has_key left key → Some (place + 1) ≡ refused_place (keys_of verb) [] (texts xs)
+missing verb xs before place left key all on h end e new =
+    sym (stops_at_end (keys_of verb) (texts xs) before place (text_at xs place) on (last_one xs place h end) (new_at verb xs before place left key true all e new))
 
-pub no_value : (xs : List (Bor Word)) (before : List Word) (place : ℕ) (given : Given) (key : Key) → AreGiven before given → GoesOn (texts xs) before place → place + 1 < length xs → Some key ≡ key_of (text_at xs place) → false ≡ is_given given key → false ≡ is_value (named key).word (text_at xs (place + 1)) → Some (place + 1) ≡ refused_place [] (texts xs)
-no_value xs before place given key all on h e new bad =
-    sym (stops_behind (texts xs) before place (text_at xs place) (text_at xs (place + 1)) (drop (place + 2) (texts xs)) on (two_more xs place h)
-    (new_at xs before place given key all e ∙ ap not (sym new))
-    (ap (λ (w : Word). is_value w (text_at xs (place + 1))) (word_of (text_at xs place) key (sym e)) ∙ sym bad))
+pub no_value : (verb : Verb) (xs : List (Bor Word)) (before : List Word) (place : ℕ) (left : Keys) (key : Key) → AreLeft verb before left → GoesOn (keys_of verb) (texts xs) before place → place + 1 < length xs → Some key ≡ key_of (text_at xs place) → true ≡ has_key left key → false ≡ is_number_of (named key) (natural (text_at xs (place + 1))) → Some (place + 1) ≡ refused_place (keys_of verb) [] (texts xs)
+no_value verb xs before place left key all on h e new bad =
+    sym (stops_behind (keys_of verb) (texts xs) before place (text_at xs place) (text_at xs (place + 1)) (drop (place + 2) (texts xs)) on (two_more xs place h)
+    (new_at verb xs before place left key true all e new)
+    (value_at verb xs before place left key false all e new bad))
 
-pub another : (xs : List (Bor Word)) (before : List Word) (place : ℕ) (given : Given) (key : Key) → AreGiven before given → GoesOn (texts xs) before place → place + 1 < length xs → Some key ≡ key_of (text_at xs place) → false ≡ is_given given key → true ≡ is_value (named key).word (text_at xs (place + 1)) → GoesOn (texts xs) ((named key).word ∷ before) (place + 2)
-another xs before place given key all on h e new good =
-    subst (λ (w : Word). GoesOn (texts xs) (w ∷ before) (place + 2)) (word_of (text_at xs place) key (sym e))
-    (goes_on (texts xs) before place (text_at xs place) (text_at xs (place + 1)) on (two_more xs place h)
-    (new_at xs before place given key all e ∙ ap not (sym new))
-    (ap (λ (w : Word). is_value w (text_at xs (place + 1))) (word_of (text_at xs place) key (sym e)) ∙ sym good))
+pub another : (verb : Verb) (xs : List (Bor Word)) (before : List Word) (place : ℕ) (left : Keys) (key : Key) → AreLeft verb before left → GoesOn (keys_of verb) (texts xs) before place → place + 1 < length xs → Some key ≡ key_of (text_at xs place) → true ≡ has_key left key → true ≡ is_number_of (named key) (natural (text_at xs (place + 1))) → GoesOn (keys_of verb) (texts xs) ((named key).word ∷ before) (place + 2)
+another verb xs before place left key all on h e new good =
+    subst (λ (w : Word). GoesOn (keys_of verb) (texts xs) (w ∷ before) (place + 2)) (word_of (text_at xs place) key (sym e))
+    (goes_on (keys_of verb) (texts xs) before place (text_at xs place) (text_at xs (place + 1)) on (two_more xs place h)
+    (new_at verb xs before place left key true all e new)
+    (value_at verb xs before place left key true all e new good))

@@ -20,7 +20,7 @@ use Rattle.lk_model.specs.PureChecks.{breaks_order, bad_order, bad_pair}
 use Rattle.lk_model.specs.declared.document.Pair.{Pair}
 use Rattle.lk_model.specs.declared.result.PureResult.{PureResult}
 use Rattle.workbench.specs.PureDocument.{IsSetLine}
-use Rattle.workbench.proofs.Founds.{none_found, up_to_bounds, is_position, same_itself, line_of, all_literals, no_clause}
+use Rattle.lk_model.proofs.Founds.{none_found, up_to_bounds, is_position, same_itself, line_of, all_literals, no_clause}
 use Rattle.workbench.proofs.PureRuns.{not_earlier, holds_earlier}
 use Rattle.workbench.proofs.SetLines.{same_literals, passes_all}
 use Rattle.workbench.proofs.PurePairs.{pair_at, IsHeld, is_held, listed_pair}

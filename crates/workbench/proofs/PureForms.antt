@@ -1,16 +1,15 @@
 -- The document of a pure run, and that it is in form.
-use Rattle.std.proofs.Common.{◌≡◌, ℕ, zero, suc, ◌∙◌, true, List, [], ◌∷◌, length, map, get_or, refl, sym, subst, arith, ℤ, sum_by, None}
-use Rattle.std.specs.Prelude.{◌==◌, nat_le}
+use Rattle.std.proofs.Common.{◌≡◌, ℕ, ◌∙◌, true, List, length, map, refl, sym, subst, arith, ℤ, None}
+use Rattle.std.specs.Prelude.{nat_le}
 use Rattle.std.specs.List.{list_all}
-use Rattle.std.proofs.lemmas.Bool.{and_from, le-leb, eq-eqb}
-use Rattle.std.proofs.lemmas.List.{length-map}
+use Rattle.std.proofs.lemmas.Bool.{and_from, le-leb}
 use Rattle.lk_model.specs.Lists.{among, up_to, is_between, rises_within}
-use Rattle.lk_model.specs.Limits.{max_vars, max_clauses, max_literals}
-use Rattle.lk_model.specs.Literal.{is_literal, is_clause}
-use Rattle.lk_model.specs.Formula.{Cnf, clause_at, is_formula, variable_occurs, variables_at, IsWithinLimits}
+use Rattle.lk_model.specs.Limits.{max_vars, max_clauses}
+use Rattle.lk_model.specs.Literal.{is_literal}
+use Rattle.lk_model.specs.Formula.{Cnf, is_formula, variable_occurs, variables_at, IsWithinLimits}
 use Rattle.lk_model.specs.Lean.{are_positions}
 use Rattle.lk_model.specs.PureRun.{least_pure, least_pairs, IsPureRun}
-use Rattle.lk_model.specs.Form.{is_body, is_pair, are_clause_lines, is_done_in_form}
+use Rattle.lk_model.specs.Form.{is_body, is_pair, is_done_in_form}
 use Rattle.lk_model.specs.declared.document.Body.TheVariants.{Pure}
 use Rattle.lk_model.specs.declared.document.DoneDocument.{DoneDocument}
 use Rattle.lk_model.specs.declared.document.Pair.{Pair}
@@ -19,8 +18,8 @@ use Rattle.lk_model.proofs.Booleans.{and_true}
 use Rattle.lk_model.proofs.Rising.{bounded}
 use Rattle.pure_strip.proofs.Selections.{among-filter}
 use Rattle.workbench.specs.PureDocument.{IsSetLine, clauses_at}
-use Rattle.workbench.proofs.KeptClauses.{kept_le}
-use Rattle.workbench.proofs.Founds.{all_pass, up_to_bounds}
+use Rattle.lk_model.proofs.KeptLines.{lines_form}
+use Rattle.lk_model.proofs.Founds.{all_pass, up_to_bounds}
 use Rattle.workbench.proofs.PureRuns.{run_literals}
 use Rattle.workbench.proofs.SetLines.{set_rises}
 use Rattle.workbench.proofs.PurePairs.{pair_at, is_held, pairs_rise}
@@ -63,26 +62,6 @@ body_form F order kept rise none run =
     and_from _ (list_all (is_pair (length F.clauses)) (least_pairs F kept))
     (and_from (list_all (is_literal F.vars) order) (rises_within 0 F.vars (map (λ (q : Pair). q.var) (least_pairs F kept))) (run_literals F order run) (pairs_rise F kept))
     (pairs_between F kept rise none)
-
--- the clause at a position, or the empty one, is a clause over the variables
-clause_form : (n : ℕ) (cs : List (List ℤ)) (k : ℕ) → list_all (is_clause n) cs ≡ true → is_clause n (get_or cs k []) ≡ true
-clause_form n [] k e = refl
-clause_form n (c ∷ cs) zero e = (and_true (is_clause n c) (list_all (is_clause n) cs) e).0
-clause_form n (c ∷ cs) (suc k) e = clause_form n cs k (and_true (is_clause n c) (list_all (is_clause n) cs) e).1
-
-form_at : (F : Cnf) (p : ℕ) → is_formula F ≡ true → is_clause F.vars (clause_at F p) ≡ true
-form_at F zero e = refl
-form_at F (suc k) e = clause_form F.vars F.clauses k e
-
--- the clause lines of the kept positions are in form
-lines_form : (F : Cnf) (kept : List ℕ) → is_formula F ≡ true → IsWithinLimits F → are_positions F kept ≡ true → are_clause_lines F.vars (length kept) (clauses_at F kept) ≡ true
-unfolding are_clause_lines
-lines_form F kept form limits rise =
-    let vars : (F.vars == F.vars) ≡ true = eq-eqb F.vars F.vars refl in
-    let count : (length (map (clause_at F) kept) == length kept) ≡ true = eq-eqb _ _ (length-map kept (clause_at F)) in
-    let clauses : list_all (is_clause F.vars) (map (clause_at F) kept) ≡ true = all_pass (is_clause F.vars) (clause_at F) kept (λ p there. form_at F p form) in
-    let few : nat_le (sum_by length (map (clause_at F) kept)) max_literals ≡ true = le-leb _ max_literals (omega (arith, kept_le F 0 kept rise, limits.literals)) in
-    rw (vars, count, clauses, few) refl
 
 -- so is the document
 pub document_form : (F : Cnf) (found : PureResult) (set : List ℤ) → is_formula F ≡ true → IsWithinLimits F → IsPureRun F found.order → are_positions F found.kept ≡ true

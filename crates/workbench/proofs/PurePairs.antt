@@ -12,9 +12,9 @@ use Rattle.lk_model.specs.Documents.{pair_of}
 use Rattle.lk_model.proofs.Booleans.{or_true}
 use Rattle.pure_strip.proofs.Selections.{among-filter}
 use Rattle.pure_strip.proofs.PairLemmas.{both_signs, mentions-or}
-use Rattle.pure_strip.proofs.Runs.{any_among}
+use Rattle.lk_model.proofs.ListTests.{passes_among}
 use Rattle.pure_strip.proofs.Autarkies.{passing}
-use Rattle.workbench.proofs.Founds.{first_found, pair_found, filtered_rise}
+use Rattle.lk_model.proofs.Founds.{first_found, pair_found, filtered_rise}
 
 -- the pair of a variable
 abbrev pub pair_at : Cnf → List ℕ → ℕ → Pair
@@ -45,8 +45,8 @@ is_held F ps v none low high e =
     let w = passing (λ p. mentions (clause_at F p) v) ps e in
     let some = or_true (contains (clause_at F w.0) (pos v)) (contains (clause_at F w.0) (neg_ℤ (pos v))) (sym (mentions-or (clause_at F w.0) v) ∙ w.2) in
     let plus : literal_occurs F ps (pos v) ≡ true = elim some [
-      | inl here ↦ any_among (λ p. contains (clause_at F p) (pos v)) ps w.0 w.1 here
-      | inr here ↦ same ∙ any_among (λ p. contains (clause_at F p) (neg_ℤ (pos v))) ps w.0 w.1 here
+      | inl here ↦ passes_among (λ p. contains (clause_at F p) (pos v)) ps w.0 w.1 here
+      | inr here ↦ same ∙ passes_among (λ p. contains (clause_at F p) (neg_ℤ (pos v))) ps w.0 w.1 here
     ] in
     record { with_it = least_holds F ps (pos v) plus; against_it = least_holds F ps (neg_ℤ (pos v)) (sym same ∙ plus) }
 

@@ -13,16 +13,22 @@ pub record Options : Type 0 where
   pub pivots : ℕ
   pub workers : ℕ
 
--- what lawful words ask for: to reduce a named input for a class
+-- What lawful words ask for: to reduce a named input for a class, or to check the document of one name against the formula
+-- of another.
 pub data Command : Type 0 where
   Reduce : Class → Word → Options → Command
+  Check : Word → Word → Options → Command
 
 -- the names of the inputs, in the order of the words
 abbrev pub inputs_of : Command → List Word
 inputs_of (Reduce class name options) = name ∷ []
+inputs_of (Check formula document options) = formula ∷ document ∷ []
 
 abbrev pub reduce : Word
 reduce = codes "reduce"
+
+abbrev pub check : Word
+check = codes "check"
 
 abbrev pub pure : Word
 pure = class_word Pure
@@ -81,15 +87,20 @@ options_of keys words = option_and_then
     (λ ss. cond (list_all (is_allowed keys) ss && is_once ss) (Some (options_by ss)) None)
     (settings_of words)
 
--- the command that lawful words give: `reduce`, `pure`, a name and options
+-- the command that lawful words give: `reduce`, `pure`, a name and options; or `check`, two names and options
 abbrev pub command_of : List Word → Option Command
-command_of (first ∷ class ∷ name ∷ words) =
-    cond (bytes_eq first reduce && bytes_eq class pure) (option_map (λ o. Reduce Pure name o) (options_of (conflicts ∷ pivots ∷ workers ∷ []) words)) None
+command_of (first ∷ second ∷ third ∷ words) =
+    cond (bytes_eq first reduce && bytes_eq second pure) (option_map (λ o. Reduce Pure third o) (options_of (conflicts ∷ pivots ∷ workers ∷ []) words))
+    (cond (bytes_eq first check) (option_map (λ o. Check second third o) (options_of (workers ∷ []) words)) None)
 command_of _ = None
 
 -- the command is to reduce this input for this class, with whatever options
 abbrev pub AsksToReduce : Option Command → Class → Word → Type 0
 AsksToReduce command class name = (options : Options) × (command ≡ Some (Reduce class name options))
+
+-- the command is to check this document against this formula, with so many workers
+abbrev pub AsksToCheck : Option Command → Word → Word → ℕ → Type 0
+AsksToCheck command formula document count = (options : Options) × (command ≡ Some (Check formula document options)) × (options.workers ≡ count)
 
 -- some lawful list begins with these words
 pub record Begins (words : List Word) : Type 0 where

@@ -2,10 +2,12 @@
 use Rattle.std.specs.Prelude.{ℕ, List, ◌++◌, codes, decimal}
 use Rattle.lk_outside.specs.declared.shelf.StartStop.{StartStop}
 use Rattle.lk_outside.specs.declared.shelf.StartStop.TheVariants as start
+use Rattle.lk_model.specs.declared.verdict.ReadStop.{ReadStop}
+use Rattle.lk_model.specs.declared.verdict.ReadStop.TheVariants as read
 use Rattle.dimacs_reader.specs.declared.refusal.Refused.{Refused}
 use Rattle.dimacs_reader.specs.declared.refusal.Refused.TheVariants as refused
 use Rattle.workbench.specs.declared.stop.Stop.{Stop}
-use Rattle.workbench.specs.declared.stop.Stop.TheVariants.{Words, Formula, Read, Memory}
+use Rattle.workbench.specs.declared.stop.Stop.TheVariants.{Words, Formula, Document, Read, Memory}
 
 -- the stop that a refusal of the reader makes
 abbrev pub stop_of : Refused → Stop
@@ -16,6 +18,11 @@ stop_of refusal = Formula refusal
 abbrev pub start_stop_of : StartStop → Stop
 start_stop_of start.Failed = Read
 start_stop_of start.OutOfMemory = Memory
+
+-- the stop that a text makes that is no document's
+abbrev pub read_stop_of : ReadStop → Stop
+read_stop_of (read.Line line) = Document line
+read_stop_of read.OutOfMemory = Memory
 
 -- what the program says of a fault at a line of the formula
 abbrev pub formula_line : ℕ → List ℕ → List ℕ
@@ -38,6 +45,7 @@ refusal_line refused.OutOfMemory = codes "leank: out of memory\n"
 abbrev pub line_of : Stop → List ℕ
 line_of (Words i) = codes "leank: word " ++ decimal i ++ codes " refused\n"
 line_of (Formula r) = refusal_line r
+line_of (Document line) = codes "leank: document line " ++ decimal line ++ codes ": not a document\n"
 line_of Read = codes "leank: read fault\n"
 line_of Memory = codes "leank: out of memory\n"
 
@@ -45,5 +53,6 @@ line_of Memory = codes "leank: out of memory\n"
 abbrev pub status_of : Stop → ℕ
 status_of (Words i) = 1
 status_of (Formula r) = 2
+status_of (Document line) = 2
 status_of Read = 3
 status_of Memory = 9

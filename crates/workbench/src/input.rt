@@ -1,13 +1,17 @@
-//! Reading a whole input.
+//! Reading whole inputs.
 ghost use Rattle.std.specs.Prelude.{◌≡◌, ◌≢◌, OnOk, Some, ℕ, ◌<◌, ◌≤◌, length, IfOk, IfErr, IfSome, IsTrue, IsErrAnd};
+ghost use Rattle.lk_model.specs.Built.{IsBuilt};
+ghost use Rattle.lk_model.specs.Form.{is_in_form};
+ghost use Rattle.cert_text.specs.Readings.{IsReadAs};
 ghost use Rattle.lk_model.specs.Dimacs.{Spells};
 ghost use Rattle.lk_outside.specs.Reads.{ReadTakes};
-ghost use Rattle.lk_outside.specs.Causes.{HasCause};
-ghost use Rattle.workbench.specs.Causes.{StopsReading};
+ghost use Rattle.lk_outside.specs.Causes.{HasCause, TellsTheSame};
+ghost use Rattle.workbench.specs.Causes.{StopsReading, StopsText, StopsDocument};
 
 use crate::stop::Stop;
+use cert_text::read;
 use dimacs_reader::Reader;
-use lk_model::Formula;
+use lk_model::{Document, Formula};
 use lk_outside::Shelf;
 use std::alloc::Global;
 
@@ -20,6 +24,7 @@ pub(crate) fn read_formula<H: Shelf>(
     shelf: &mut H,
     name: &str,
 ) -> Result<Formula, Stop>
+    ensures told { TellsTheSame (H.told shelf.old) (H.told shelf.new) }
     ensures formula { IfOk result (λ f. IfSome (H.told shelf.old name.now) (λ bytes. Spells bytes f)) }
     ensures stop { IfErr result (StopsReading (H.told shelf.old name.now) (H.ailing shelf.new)) }
     ensures current { IsErrAnd result (λ s. s ≡ Stop.Read) → H.current shelf.new ≡ Some name.now }
@@ -32,9 +37,10 @@ pub(crate) fn read_formula<H: Shelf>(
 
 /// Starts a text.
 fn start_text<H: Shelf>(shelf: &mut H, name: &str) -> Result<(), Stop>
+    ensures told { TellsTheSame (H.told shelf.old) (H.told shelf.new) }
     ensures started { OnOk result (IsTrue (H.started shelf.new)) }
     ensures left { OnOk result (H.left shelf.new ≡ H.told shelf.old name.now) }
-    ensures stop { IfErr result (StopsReading (H.told shelf.old name.now) (H.ailing shelf.new)) }
+    ensures stop { IfErr result (StopsText (H.ailing shelf.new)) }
     ensures current { result ≢ Err Stop.Memory → H.current shelf.new ≡ Some name.now }
     ensures cause { HasCause (H.faults shelf.old) (H.faults shelf.new) (IsErrAnd result (λ s. s ≡ Stop.Read)) }
 {
@@ -45,6 +51,7 @@ fn start_text<H: Shelf>(shelf: &mut H, name: &str) -> Result<(), Stop>
 fn read_piece<H: Shelf>(shelf: &mut H, piece: &mut [u8]) -> Result<usize, Stop>
     requires started { IsTrue (H.started shelf.old) }
     requires room { 0 < length piece.old }
+    ensures told { TellsTheSame (H.told shelf.old) (H.told shelf.new) }
     ensures bound { IfOk result (λ count. count ≤ length piece.new) }
     ensures bytes { IfOk result (λ count. ReadTakes (H.left shelf.old) (H.left shelf.new) count piece.new) }
     ensures started { OnOk result (IsTrue (H.started shelf.new)) }
@@ -59,6 +66,7 @@ fn read_piece<H: Shelf>(shelf: &mut H, piece: &mut [u8]) -> Result<usize, Stop>
 fn read_started<H: Shelf>(alloc: Global, shelf: &mut H, piece: &mut [u8]) -> Result<Formula, Stop>
     requires started { IsTrue (H.started shelf.old) }
     requires room { 0 < length piece.old }
+    ensures told { TellsTheSame (H.told shelf.old) (H.told shelf.new) }
     ensures formula { IfOk result (λ f. IfSome (H.left shelf.old) (λ bytes. Spells bytes f)) }
     ensures stop { IfErr result (StopsReading (H.left shelf.old) (H.ailing shelf.new)) }
     ensures current { H.current shelf.new ≡ H.current shelf.old }
@@ -73,4 +81,56 @@ fn read_started<H: Shelf>(alloc: Global, shelf: &mut H, piece: &mut [u8]) -> Res
         reader.feed(&piece[..count])?;
     }
     Ok(reader.finish()?)
+}
+
+/// Reads the document under a name. It is in form, and of a class that is built.
+pub(crate) fn read_document<H: Shelf>(
+    alloc: Global,
+    shelf: &mut H,
+    name: &str,
+) -> Result<Document, Stop>
+    ensures told { TellsTheSame (H.told shelf.old) (H.told shelf.new) }
+    ensures document { IfOk result (λ d. IfSome (H.told shelf.old name.now) (λ bytes. IsReadAs bytes d)) }
+    ensures form { IfOk result (λ d. IsTrue (is_in_form d)) }
+    ensures built { IfOk result IsBuilt }
+    ensures stop { IfErr result (StopsDocument (H.told shelf.old name.now) (H.ailing shelf.new)) }
+    ensures current { IsErrAnd result (λ s. s ≡ Stop.Read) → H.current shelf.new ≡ Some name.now }
+    ensures cause { HasCause (H.faults shelf.old) (H.faults shelf.new) (IsErrAnd result (λ s. s ≡ Stop.Read)) }
+{
+    let text = read_text(alloc, shelf, name)?;
+    Ok(read(alloc, text.as_slice())?)
+}
+
+/// Reads the bytes under a name, up to their end.
+fn read_text<H: Shelf>(alloc: Global, shelf: &mut H, name: &str) -> Result<Vec<u8>, Stop>
+    ensures told { TellsTheSame (H.told shelf.old) (H.told shelf.new) }
+    ensures text { IfOk result (λ text. IfSome (H.told shelf.old name.now) (λ bytes. text.items ≡ bytes)) }
+    ensures stop { IfErr result (StopsText (H.ailing shelf.new)) }
+    ensures current { IsErrAnd result (λ s. s ≡ Stop.Read) → H.current shelf.new ≡ Some name.now }
+    ensures cause { HasCause (H.faults shelf.old) (H.faults shelf.new) (IsErrAnd result (λ s. s ≡ Stop.Read)) }
+{
+    let mut piece = vec![in alloc; 0u8; PIECE]?;
+    start_text(shelf, name)?;
+    keep_started(alloc, shelf, piece.as_mut_slice())
+}
+
+/// Keeps what is left of the started text.
+fn keep_started<H: Shelf>(alloc: Global, shelf: &mut H, piece: &mut [u8]) -> Result<Vec<u8>, Stop>
+    requires started { IsTrue (H.started shelf.old) }
+    requires room { 0 < length piece.old }
+    ensures told { TellsTheSame (H.told shelf.old) (H.told shelf.new) }
+    ensures text { IfOk result (λ text. IfSome (H.left shelf.old) (λ bytes. text.items ≡ bytes)) }
+    ensures stop { IfErr result (StopsText (H.ailing shelf.new)) }
+    ensures current { H.current shelf.new ≡ H.current shelf.old }
+    ensures cause { HasCause (H.faults shelf.old) (H.faults shelf.new) (IsErrAnd result (λ s. s ≡ Stop.Read)) }
+{
+    let mut text = Vec::new(alloc);
+    'pieces: loop {
+        let count = read_piece(shelf, piece)?;
+        if count == 0 {
+            break 'pieces;
+        }
+        text.extend_from_slice(&piece[..count])?;
+    }
+    Ok(text)
 }

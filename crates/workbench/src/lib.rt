@@ -1,9 +1,13 @@
 //! The commands over whole inputs: words, reading, reducing, writing.
 #![tactic(auto)]
 
+#[cfg(test)]
+mod check_tests;
 mod document;
 mod input;
+mod laws;
 mod lines;
+mod options;
 mod output;
 mod program;
 mod stop;
@@ -11,4 +15,5 @@ mod stop;
 mod tests;
 mod words;
 
+pub use laws::written_law;
 pub use program::run;

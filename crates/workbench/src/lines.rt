@@ -15,6 +15,12 @@ pub(crate) fn line_of(alloc: Global, stop: Stop) -> Result<Vec<u8>, OutOfMemory>
     match stop {
         Stop::Words(number) => numbered(alloc, b"leank: word ", number as u64, b" refused\n"),
         Stop::Formula(refused) => refusal_line(alloc, refused),
+        Stop::Document(line) => numbered(
+            alloc,
+            b"leank: document line ",
+            line,
+            b": not a document\n",
+        ),
         Stop::Read => Ok(Vec::from_slice(alloc, b"leank: read fault\n")?),
         Stop::Memory => Ok(Vec::from_slice(alloc, b"leank: out of memory\n")?),
     }

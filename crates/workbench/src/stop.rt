@@ -1,10 +1,10 @@
 //! Why a command ends without its result.
 ghost use Rattle.std.specs.Prelude.{◌≡◌};
 ghost use Rattle.workbench.specs.declared.stop.Stop.TheVariants.{Memory as MemoryStop, Read as ReadStop};
-ghost use Rattle.workbench.specs.Stops.{stop_of, start_stop_of, status_of};
+ghost use Rattle.workbench.specs.Stops.{stop_of, start_stop_of, read_stop_of, status_of};
 
 use dimacs_reader::Refused;
-use lk_model::OutOfMemory;
+use lk_model::{OutOfMemory, ReadStop as DocumentStop};
 use lk_outside::{Failed, StartStop};
 use std::alloc::AllocError;
 
@@ -15,6 +15,8 @@ pub(crate) enum Stop {
     Words(usize),
     /// The text of the formula is refused.
     Formula(Refused),
+    /// The text is no document's; the first line with which none goes on.
+    Document(u64),
     /// A call on the shelf failed.
     Read,
     /// There was no memory.
@@ -28,6 +30,17 @@ impl From<Refused> for Stop {
         match refused {
             Refused::OutOfMemory => Stop::Memory,
             _ => Stop::Formula(refused),
+        }
+    }
+}
+
+impl From<DocumentStop> for Stop {
+    ghost from_gives = { λ e s. s ≡ read_stop_of e };
+
+    fn from(stop: DocumentStop) -> Stop {
+        match stop {
+            DocumentStop::Line(line) => Stop::Document(line),
+            DocumentStop::OutOfMemory => Stop::Memory,
         }
     }
 }
@@ -74,7 +87,7 @@ impl Stop {
     {
         match self {
             Stop::Words(_) => 1,
-            Stop::Formula(_) => 2,
+            Stop::Formula(_) | Stop::Document(_) => 2,
             Stop::Read => 3,
             Stop::Memory => 9,
         }

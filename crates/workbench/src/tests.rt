@@ -5,9 +5,9 @@ use std::alloc::Global;
 use std::test::Fail;
 use std::thread::Threads;
 
-const THREE: &[u8] = b"p cnf 3 3\n1 2 0\n-2 3 0\n2 -3 0\n";
+pub(crate) const THREE: &[u8] = b"p cnf 3 3\n1 2 0\n-2 3 0\n2 -3 0\n";
 
-const THREE_REDUCED: &[u8] =
+pub(crate) const THREE_REDUCED: &[u8] =
     b"c leank 1 pure\nc formula 3 3\nc keep 2 3 0\nc set 1 0\nc order 1 0\nc pair 2 3 2\nc pair 3 2 3\np cnf 3 2\n-2 3 0\n2 -3 0\n";
 
 fn numbers(alloc: Global, number: u64) -> Result<List<u64>, Fail> {
@@ -16,28 +16,47 @@ fn numbers(alloc: Global, number: u64) -> Result<List<u64>, Fail> {
     Ok(list)
 }
 
-/// A shelf with one text under `f`, which hands out eight bytes at a time and fails at one call.
-fn shelf_of(alloc: Global, text: &[u8], fail: u64) -> Result<MemoryShelf, Fail> {
+/// A shelf with one text under `f` and one under `d`, which hands out eight bytes at a time and fails
+/// at one call.
+fn shelf_of(alloc: Global, f: &[u8], d: &[u8], fail: u64) -> Result<MemoryShelf, Fail> {
     let mut files = List::new(alloc);
-    files.push((Name::of(alloc, "f")?, Bytes::of(alloc, text)?))?;
+    files.push((Name::of(alloc, "f")?, Bytes::of(alloc, f)?))?;
+    files.push((Name::of(alloc, "d")?, Bytes::of(alloc, d)?))?;
     Ok(MemoryShelf::new(alloc, files, 8, numbers(alloc, fail)?))
 }
 
 /// A sink that takes sixteen bytes at a time and fails at one write.
 fn sink_of(alloc: Global, fail: u64) -> Result<MemorySink, Fail> {
-    Ok(MemorySink::new(alloc, 1000, 16, numbers(alloc, fail)?)?)
+    Ok(MemorySink::new(alloc, 8192, 16, numbers(alloc, fail)?)?)
 }
 
 /// What a run answers and leaves.
 #[derive(Drop)]
-struct Outcome {
-    status: u8,
-    out: MemorySink,
-    say: MemorySink,
+pub(crate) struct Outcome {
+    pub(crate) status: u8,
+    pub(crate) out: MemorySink,
+    pub(crate) say: MemorySink,
 }
 
-/// Runs with these words over the text under `f`, where one call of the shelf and one write to `out`
-/// fail.
+/// Runs with these words over the texts under `f` and `d`, where one call of the shelf and one write to
+/// `out` fail; 0 for none.
+pub(crate) fn run_on<R: Threads + Sync>(
+    rt: &R,
+    alloc: Global,
+    words: &[&str],
+    texts: (&[u8], &[u8]),
+    fail_read: u64,
+    fail_write: u64,
+) -> Result<Outcome, Fail> {
+    let (f, d) = texts;
+    let mut shelf = shelf_of(alloc, f, d, fail_read)?;
+    let mut out = sink_of(alloc, fail_write)?;
+    let mut say = sink_of(alloc, 0)?;
+    let status = run(rt, alloc, words, &mut shelf, &mut out, &mut say, &OpenGate);
+    Ok(Outcome { status, out, say })
+}
+
+/// The same over one text, under `f`.
 fn run_over<R: Threads + Sync>(
     rt: &R,
     alloc: Global,
@@ -46,11 +65,7 @@ fn run_over<R: Threads + Sync>(
     fail_read: u64,
     fail_write: u64,
 ) -> Result<Outcome, Fail> {
-    let mut shelf = shelf_of(alloc, text, fail_read)?;
-    let mut out = sink_of(alloc, fail_write)?;
-    let mut say = sink_of(alloc, 0)?;
-    let status = run(rt, alloc, words, &mut shelf, &mut out, &mut say, &OpenGate);
-    Ok(Outcome { status, out, say })
+    run_on(rt, alloc, words, (text, b""), fail_read, fail_write)
 }
 
 #[test]
@@ -119,7 +134,7 @@ fn writes_the_same_with_options(rt: HostRuntime) -> Result<(), Fail> {
 fn tells_the_refused_word(rt: HostRuntime) -> Result<(), Fail> {
     let rows = [
         ([].as_slice(), b"leank: word 1 refused\n".as_slice()),
-        (&["check"], b"leank: word 1 refused\n"),
+        (&["check"], b"leank: word 2 refused\n"),
         (&["reduce"], b"leank: word 2 refused\n"),
         (&["reduce", "Linear", "f"], b"leank: word 2 refused\n"),
         (&["reduce", "linear", "f"], b"leank: word 2 refused\n"),

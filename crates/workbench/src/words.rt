@@ -1,45 +1,46 @@
 //! The words of the command line.
-ghost use Rattle.std.specs.Prelude.{◌≡◌, ◌∷◌, [], ◌≤◌, pos, map, length, MatchResult, IfSome};
-ghost use Rattle.lk_model.specs.declared.class.Class.TheVariants as class;
-ghost use Rattle.workbench.specs.Lawful.{AsksToReduce, command_of, reduce, pure, IsRefusedAt};
-ghost use Rattle.workbench.specs.OptionPlaces.{named, key_of, is_given, with_key, is_value, refused_place};
+ghost use Rattle.std.specs.Prelude.{◌∷◌, map, IfOk, MatchResult};
+ghost use Rattle.workbench.specs.Lawful.{command_of, reduce, check, pure, IsRefusedAt};
+ghost use Rattle.workbench.specs.Requests.{Asks, HasWorkers};
 
-use lk_text::{NumberWord, classify};
+use crate::options::{Verb, refused_option, workers_of};
 
-/// What an option sets.
-#[derive(Clone, Copy)]
-enum Key {
-    Conflicts,
-    Pivots,
-    Workers,
+/// What lawful words ask for.
+#[derive(Clone, Copy, PartialEq, Eq)]
+pub(crate) enum Request<'a> {
+    /// To reduce the input of this name for the class pure.
+    Reduce {
+        name: &'a str,
+    },
+    /// To check the document of the second name against the formula of the first, with so many workers.
+    Check {
+        formula: &'a str,
+        document: &'a str,
+        workers: u32,
+    },
 }
 
-/// Which options stand before a place, since none may stand twice.
-#[derive(Clone, Copy)]
-struct Given {
-    conflicts: bool,
-    pivots: bool,
-    workers: bool,
-}
-
-/// The input that lawful words ask to reduce for the class pure, or the number of the refused word,
-/// counted from 1: the least number of first words with which no lawful list begins.
-pub(crate) fn input_of<'a>(words: &[&'a str]) -> Result<&'a str, usize>
-    ensures { MatchResult result
-        (λ name. AsksToReduce (command_of (map (λ w. w.now) words.now)) class.Pure name.now)
+/// What lawful words ask for, or the number of the refused word, counted from 1: the least number of
+/// first words with which no lawful list begins.
+pub(crate) fn request_of<'a>(words: &[&'a str]) -> Result<Request<'a>, usize>
+    ensures asked { MatchResult result
+        (λ request. Asks request (command_of (map (λ w. w.now) words.now)))
         (IsRefusedAt (map (λ w. w.now) words.now)) }
+    ensures workers { IfOk result HasWorkers }
 {
     match words.split_first() {
         Some((word, others)) if *word == "reduce" => behind_reduce(others),
+        Some((word, others)) if *word == "check" => behind_check(others),
         _ => Err(1),
     }
 }
 
 /// The same behind the word `reduce`.
-fn behind_reduce<'a>(words: &[&'a str]) -> Result<&'a str, usize>
-    ensures { MatchResult result
-        (λ name. AsksToReduce (command_of (reduce ∷ map (λ w. w.now) words.now)) class.Pure name.now)
+fn behind_reduce<'a>(words: &[&'a str]) -> Result<Request<'a>, usize>
+    ensures asked { MatchResult result
+        (λ request. Asks request (command_of (reduce ∷ map (λ w. w.now) words.now)))
         (IsRefusedAt (reduce ∷ map (λ w. w.now) words.now)) }
+    ensures workers { IfOk result HasWorkers }
 {
     match words.split_first() {
         Some((word, others)) if *word == "pure" => behind_class(others),
@@ -48,115 +49,41 @@ fn behind_reduce<'a>(words: &[&'a str]) -> Result<&'a str, usize>
 }
 
 /// The same behind the words `reduce` and `pure`.
-fn behind_class<'a>(words: &[&'a str]) -> Result<&'a str, usize>
-    ensures { MatchResult result
-        (λ name. AsksToReduce (command_of (reduce ∷ pure ∷ map (λ w. w.now) words.now)) class.Pure name.now)
+fn behind_class<'a>(words: &[&'a str]) -> Result<Request<'a>, usize>
+    ensures asked { MatchResult result
+        (λ request. Asks request (command_of (reduce ∷ pure ∷ map (λ w. w.now) words.now)))
         (IsRefusedAt (reduce ∷ pure ∷ map (λ w. w.now) words.now)) }
+    ensures workers { IfOk result HasWorkers }
 {
-    match words.split_first() {
-        None => Err(3),
-        Some((name, options)) => match refused_option(options) {
-            None => Ok(*name),
-            Some(place) => Err(place + 4),
-        },
-    }
-}
-
-/// The place among the options, counted from 0, of the first word that cannot stand there, or of a
-/// value that is missing.
-fn refused_option(words: &[&str]) -> Option<usize>
-    ensures place { result ≡ refused_place [] (map (λ w. w.now) words.now) }
-    ensures within { IfSome result (λ i. i ≤ length words.now) }
-{
-    let mut given = Given {
-        conflicts: false,
-        pivots: false,
-        workers: false,
+    let Some((name, options)) = words.split_first() else {
+        return Err(3);
     };
-    let mut place = 0;
-    while place < words.len() {
-        let Some(key) = key_named(words[place]) else {
-            return Some(place);
-        };
-        if given.has(key) {
-            return Some(place);
-        }
-        match words.get(place + 1) {
-            Some(value) if key.admits(*value) => {}
-            _ => return Some(place + 1),
-        }
-        given = given.with(key);
-        place += 2;
+    match refused_option(Verb::Reduce, options) {
+        None => Ok(Request::Reduce { name: *name }),
+        Some(place) => Err(place + 4),
     }
-    None
 }
 
-/// The option of this word.
-fn key_named(word: &str) -> Option<Key>
-    ensures { result ≡ key_of word.now }
+/// The same behind the word `check`.
+fn behind_check<'a>(words: &[&'a str]) -> Result<Request<'a>, usize>
+    ensures asked { MatchResult result
+        (λ request. Asks request (command_of (check ∷ map (λ w. w.now) words.now)))
+        (IsRefusedAt (check ∷ map (λ w. w.now) words.now)) }
+    ensures workers { IfOk result HasWorkers }
 {
-    match word {
-        "--conflicts" => Some(Key::Conflicts),
-        "--pivots" => Some(Key::Pivots),
-        "--workers" => Some(Key::Workers),
-        _ => None,
-    }
-}
-
-impl Key {
-    /// The least number that the option takes.
-    fn least(self) -> i128
-        ensures { result ≡ pos (named self).least }
-    {
-        match self {
-            Key::Conflicts | Key::Workers => 1,
-            Key::Pivots => 0,
-        }
-    }
-
-    /// The greatest number that the option takes.
-    fn greatest(self) -> i128
-        ensures { result ≡ pos (named self).greatest }
-    {
-        match self {
-            Key::Conflicts | Key::Pivots => i128::from(i64::MAX),
-            Key::Workers => 64,
-        }
-    }
-
-    /// Whether the word is a number that the option takes.
-    fn admits(self, value: &str) -> bool
-        ensures { result ≡ is_value (named self).word value.now }
-    {
-        match classify(value.as_bytes()) {
-            NumberWord::Is(number) => self.least() <= number && number <= self.greatest(),
-            NumberWord::Not | NumberWord::Past => false,
-        }
-    }
-}
-
-impl Given {
-    /// Whether the option is given.
-    fn has(self, key: Key) -> bool
-        ensures { result ≡ is_given self key }
-    {
-        match key {
-            Key::Conflicts => self.conflicts,
-            Key::Pivots => self.pivots,
-            Key::Workers => self.workers,
-        }
-    }
-
-    /// The same with this option.
-    fn with(mut self, key: Key) -> Given
-        ensures { result ≡ with_key self key }
-    {
-        match key {
-            Key::Conflicts => self.conflicts = true,
-            Key::Pivots => self.pivots = true,
-            Key::Workers => self.workers = true,
-        }
-        self
+    let Some((formula, others)) = words.split_first() else {
+        return Err(2);
+    };
+    let Some((document, options)) = others.split_first() else {
+        return Err(3);
+    };
+    match refused_option(Verb::Check, options) {
+        None => Ok(Request::Check {
+            formula: *formula,
+            document: *document,
+            workers: workers_of(options),
+        }),
+        Some(place) => Err(place + 4),
     }
 }
 
@@ -168,26 +95,62 @@ mod tests {
     #[test]
     fn refuses_words_where_they_stand(rt: HostRuntime) -> Result<(), Fail> {
         let rows = [
-            ("reduce pure f", Ok("f")),
+            ("chek", 1),
+            ("reduce", 2),
+            ("reduce pure", 3),
+            ("reduce pure f g", 4),
+            ("reduce pure f --Workers 2", 4),
+            ("reduce pure f --workers", 5),
+            ("reduce pure f --workers 0", 5),
+            ("reduce pure f --workers 65", 5),
+            ("reduce pure f --workers -0", 5),
+            ("reduce pure f --conflicts 0", 5),
+            ("reduce pure f --conflicts 9223372036854775808", 5),
+            ("reduce pure f --workers 2 --workers 2", 6),
+            ("check", 2),
+            ("check f", 3),
+            ("check f d x", 4),
+            ("check f d --pivots 3", 4),
+            ("check f d --workers", 5),
+            ("check f d --workers 0", 5),
+            ("check f d --workers 2 --workers 2", 6),
+        ];
+        for (text, place) in rows {
+            let words: Vec<&str> = text.split(' ').collect(rt.alloc())?;
+            assert!(rt; request_of(words.as_slice()) == Err(place), "{text}");
+        }
+        Ok(())
+    }
+
+    #[test]
+    fn reads_requests(rt: HostRuntime) -> Result<(), Fail> {
+        let reduced = Request::Reduce { name: "f" };
+        let checked = |workers| Request::Check {
+            formula: "f",
+            document: "d",
+            workers,
+        };
+        let rows = [
+            ("reduce pure f", reduced),
             (
                 "reduce pure f --workers 064 --pivots 0 --conflicts 9223372036854775807",
-                Ok("f"),
+                reduced,
             ),
-            ("reduce", Err(2)),
-            ("reduce pure", Err(3)),
-            ("reduce pure f g", Err(4)),
-            ("reduce pure f --Workers 2", Err(4)),
-            ("reduce pure f --workers", Err(5)),
-            ("reduce pure f --workers 0", Err(5)),
-            ("reduce pure f --workers 65", Err(5)),
-            ("reduce pure f --workers -0", Err(5)),
-            ("reduce pure f --conflicts 0", Err(5)),
-            ("reduce pure f --conflicts 9223372036854775808", Err(5)),
-            ("reduce pure f --workers 2 --workers 2", Err(6)),
+            ("check f d", checked(1)),
+            ("check f d --workers 008", checked(8)),
+            ("check f d --workers 64", checked(64)),
+            (
+                "check --workers reduce",
+                Request::Check {
+                    formula: "--workers",
+                    document: "reduce",
+                    workers: 1,
+                },
+            ),
         ];
-        for (text, answer) in rows {
+        for (text, request) in rows {
             let words: Vec<&str> = text.split(' ').collect(rt.alloc())?;
-            assert!(rt; input_of(words.as_slice()) == answer, "{text}");
+            assert!(rt; request_of(words.as_slice()) == Ok(request), "{text}");
         }
         Ok(())
     }

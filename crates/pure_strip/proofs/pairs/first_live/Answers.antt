@@ -1,4 +1,4 @@
-use Rattle.pure_strip.proofs.ListLemmas.{find-here, find-none_more}
+use Rattle.lk_model.proofs.Founds.{find-here, find-none_more}
 use Rattle.pure_strip.proofs.pairs.first_live.Goals as goal
 
 pub returns-then-live-p : goal.returns-then-live-p

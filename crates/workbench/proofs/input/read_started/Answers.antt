@@ -1,16 +1,29 @@
 use Rattle.std.proofs.lemmas.Result.{err_from_is_err_and}
-use Rattle.workbench.proofs.Streams.{Consumes-then, stops_at_end, stops_in_midst}
+use Rattle.workbench.proofs.Streams.{Consumes-then, Tells-then}
+use Rattle.workbench.proofs.InputStops.{stops_at_end, stops_in_midst}
 use Rattle.workbench.proofs.input.read_started.Goals as goal
 
 pub returns-in_err-finish-clause-stop : goal.returns-in_err-finish-clause-stop
 returns-in_err-finish-clause-stop g c =
     let p = err_from_is_err_and c.from_residual-in_err-finish.result c.from_residual-in_err-finish.ensures.1 in
-    rw (p.1, p.2) (stops_at_end (g.H.Shelf.left c.args.shelf.now) (g.H.Shelf.left c.pieces.shelf) c.pieces.reader.fed (g.H.Shelf.ailing c.read_piece.new.shelf) c.in_err-finish.field-0.0 c.pieces.invariant.consumed
+    rw (p.1, p.2) (stops_at_end (g.H.Shelf.left c.args.shelf.now) (g.H.Shelf.left c.pieces.shelf) c.pieces.reader.fed (g.H.Shelf.ailing c.read_piece.new.shelf) c.in_err-finish.field-0.0 c.pieces.invariant.taken.consumed
     (c.in_ok-count.ensures.bytes.1 c.if-count-eq0.true) (c.in_err-finish.ensures.cause c.pieces.invariant.going))
 
 pub returns-in_err-feed-clause-stop : goal.returns-in_err-feed-clause-stop
 returns-in_err-feed-clause-stop g c =
     let left = g.H.Shelf.left in
     let p = err_from_is_err_and c.from_residual-in_err-feed.result c.from_residual-in_err-feed.ensures.1 in
-    let fed = Consumes-then (left c.args.shelf.now) (left c.pieces.shelf) (left c.read_piece.new.shelf) c.pieces.reader.fed _ c.pieces.invariant.consumed c.in_ok-count.ensures.bytes.0 in
+    let fed = Consumes-then (left c.args.shelf.now) (left c.pieces.shelf) (left c.read_piece.new.shelf) c.pieces.reader.fed _ c.pieces.invariant.taken.consumed c.in_ok-count.ensures.bytes.0 in
     rw (p.1, p.2) (stops_in_midst (left c.args.shelf.now) (left c.read_piece.new.shelf) _ (g.H.Shelf.ailing c.read_piece.new.shelf) c.in_err-feed.field-0.0 fed (c.in_err-feed.ensures.cause c.pieces.invariant.going))
+
+pub returns-in_err-count-clause-told : goal.returns-in_err-count-clause-told
+returns-in_err-count-clause-told g c = Tells-then _ _ _ c.pieces.invariant.taken.tells c.in_err-count.ensures.told
+
+pub returns-in_err-feed-clause-told : goal.returns-in_err-feed-clause-told
+returns-in_err-feed-clause-told g c = Tells-then _ _ _ c.pieces.invariant.taken.tells c.in_ok-count.ensures.told
+
+pub returns-in_err-finish-clause-told : goal.returns-in_err-finish-clause-told
+returns-in_err-finish-clause-told g c = Tells-then _ _ _ c.pieces.invariant.taken.tells c.in_ok-count.ensures.told
+
+pub returns-clause-told : goal.returns-clause-told
+returns-clause-told g c = Tells-then _ _ _ c.pieces.invariant.taken.tells c.in_ok-count.ensures.told

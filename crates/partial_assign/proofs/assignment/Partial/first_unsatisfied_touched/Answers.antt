@@ -4,7 +4,7 @@ use Rattle.std.proofs.lemmas.Iterator.{YieldsList-from_range}
 use Rattle.std.proofs.lemmas.Iterator.Adapters.{option_map_id}
 use Rattle.std.proofs.lemmas.Iterator.Search.{find_from_yields_List}
 use Rattle.lk_model.specs.Assignment.{assignment_by}
-use Rattle.partial_assign.proofs.NoneLeft.{is_unsatisfied, autarky_where_none}
+use Rattle.lk_model.proofs.NoneLeft.{is_unsatisfied, autarky_where_none}
 use Rattle.partial_assign.proofs.assignment.Partial.first_unsatisfied_touched.Goals as goal
 
 -- what is found is the first position whose clause is touched and not satisfied

@@ -1,0 +1,11 @@
+pub mod Numbers
+pub mod Turns
+pub mod Backs
+pub mod Literals
+pub mod Leads
+pub mod Searching
+pub mod Begins
+pub mod Maximal
+pub mod Rounds
+pub mod Reaching
+pub mod WholeParts

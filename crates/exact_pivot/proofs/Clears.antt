@@ -1,0 +1,63 @@
+-- Rows that are cleared one after another.
+use Rattle.std.proofs.Common.{◌≡◌, ℕ, zero, suc, ◌+◌, ◌<◌, ◌≤◌, List, [], ◌∷◌, ◌++◌, take, drop, set, length, get_or, Some, None, ℤ, refl, sym, ap, ◌∙◌, arith, drop-cons}
+use Rattle.std.proofs.lemmas.List.{drop_all}
+use Rattle.std.specs.Option.{option_or}
+use Rattle.lk_model.specs.Arithmetic.{first_wide}
+use Rattle.lk_model.specs.Rows.{Row}
+use Rattle.lk_model.specs.Pivot.{made_to_clear}
+use Rattle.lk_model.specs.declared.wide.Wide.{Wide}
+use Rattle.exact_rows.proofs.Wides.{first_wide-append}
+use Rattle.exact_pivot.specs.Moves.{made_to_clear_all}
+
+written : {X : Type 0} (zs xs : List X) (i : ℕ) (d : X) → length zs ≡ length xs → i < length xs
+    → set (take i zs ++ drop i xs) i (get_or zs i d) ≡ take (i + 1) zs ++ drop (i + 1) xs
+written [] [] i d e h = absurd (omega arith)
+written [] (x ∷ xs) i d e h = absurd (omega arith)
+written (z ∷ zs) [] i d e h = absurd (omega arith)
+written (z ∷ zs) (x ∷ xs) zero d e h = refl
+written (z ∷ zs) (x ∷ xs) (suc i) d e h =
+    let more : suc i + 1 ≡ suc (i + 1) = omega arith in
+    rw more (ap (λ ys. z ∷ ys) (written zs xs i d (omega arith) (omega arith)))
+
+pub unwritten : {X : Type 0} (zs xs : List X) (i : ℕ) (d : X) → length zs ≡ length xs → i < length xs
+    → get_or (take i zs ++ drop i xs) i d ≡ get_or xs i d
+unwritten [] [] i d e h = absurd (omega arith)
+unwritten [] (x ∷ xs) i d e h = absurd (omega arith)
+unwritten (z ∷ zs) [] i d e h = absurd (omega arith)
+unwritten (z ∷ zs) (x ∷ xs) zero d e h = refl
+unwritten (z ∷ zs) (x ∷ xs) (suc i) d e h = unwritten zs xs i d (omega arith) (omega arith)
+
+pub step_cleared : (zs xs rows : List Row) (i : ℕ) (y d : Row) → length zs ≡ length xs → i < length xs → rows ≡ take i zs ++ drop i xs
+    → (get_or rows i d ≡ get_or xs i d → y ≡ get_or zs i d) → set rows i y ≡ take (i + 1) zs ++ drop (i + 1) xs
+step_cleared zs xs rows i y d l h e f =
+    let same : get_or rows i d ≡ get_or xs i d = ap (λ r. get_or r i d) e ∙ unwritten zs xs i d l h in
+    rw (e, f same) (written zs xs i d l h)
+
+-- what is made from a row on: what is made in it, and what is made later
+made_from : (by : List ℤ) (k : ℕ) (rows : List Row) (i : ℕ) (d : Row) → i < length rows
+    → first_wide (made_to_clear_all by k (drop i rows)) ≡ option_or (first_wide (made_to_clear by k (get_or rows i d).entries)) (first_wide (made_to_clear_all by k (drop (i + 1) rows)))
+made_from by k rows i d h =
+    let step : i + 1 ≡ suc i = omega arith in
+    rw (step, drop-cons rows i d h) (first_wide-append (made_to_clear by k (get_or rows i d).entries) (made_to_clear_all by k (drop (suc i) rows)))
+
+pub at_row : (by : List ℤ) (k : ℕ) (rows : List Row) (i : ℕ) (d : Row) (w : Wide) → i < length rows
+    → first_wide (made_to_clear_all by k rows) ≡ first_wide (made_to_clear_all by k (drop i rows))
+    → Some w ≡ first_wide (made_to_clear by k (get_or rows i d).entries) → Some w ≡ first_wide (made_to_clear_all by k rows)
+at_row by k rows i d w h e f =
+    let here : Some w ≡ option_or (first_wide (made_to_clear by k (get_or rows i d).entries)) (first_wide (made_to_clear_all by k (drop (i + 1) rows))) = rw (← f) refl in
+    here ∙ sym (e ∙ made_from by k rows i d h)
+
+pub past_row : (by : List ℤ) (k : ℕ) (rows : List Row) (i : ℕ) (d : Row) → i < length rows
+    → first_wide (made_to_clear_all by k rows) ≡ first_wide (made_to_clear_all by k (drop i rows))
+    → None ≡ first_wide (made_to_clear by k (get_or rows i d).entries) → first_wide (made_to_clear_all by k rows) ≡ first_wide (made_to_clear_all by k (drop (i + 1) rows))
+past_row by k rows i d h e f =
+    let here : option_or (first_wide (made_to_clear by k (get_or rows i d).entries)) (first_wide (made_to_clear_all by k (drop (i + 1) rows))) ≡ first_wide (made_to_clear_all by k (drop (i + 1) rows)) = rw (← f) refl in
+    e ∙ made_from by k rows i d h ∙ here
+
+pub past_rows : (by : List ℤ) (k : ℕ) (rows : List Row) (i : ℕ) → length rows ≤ i
+    → first_wide (made_to_clear_all by k rows) ≡ first_wide (made_to_clear_all by k (drop i rows)) → None ≡ first_wide (made_to_clear_all by k rows)
+unfolding first_wide
+past_rows by k rows i h e =
+    let none : drop i rows ≡ [] = drop_all i rows h in
+    let last : first_wide (made_to_clear_all by k (drop i rows)) ≡ None = ap (λ rs. first_wide (made_to_clear_all by k rs)) none in
+    sym (e ∙ last)

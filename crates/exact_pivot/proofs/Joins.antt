@@ -1,0 +1,81 @@
+-- Quotients in lowest terms, and the least common multiple of a column's denominators, row after row.
+use Rattle.std.proofs.Common.{◌≡◌, ℕ, zero, suc, ◌+◌, ◌*◌, ◌<◌, ◌≤◌, List, ◌∷◌, map, drop, length, get_or, Option, Some, None, Ok, Err, ℤ, pos, negsuc, ◌*ℤ◌, ◌<ℤ◌, unsigned_abs, refl, sym, ap, ◌∙◌, arith, drop-cons, subst}
+use Rattle.std.proofs.Math.Nat.{le_of_dvd}
+use Rattle.std.proofs.lemmas.Nat.{le-div}
+use Rattle.std.proofs.lemmas.List.{drop_all}
+use Rattle.std.proofs.lemmas.Int.{ints}
+use Rattle.lk_model.specs.Arithmetic.{first_wide, gcd, gcd_of, reduced}
+use Rattle.lk_model.specs.Rows.{Row}
+use Rattle.lk_model.specs.Ends.{denominator, lcm_from, made_in_lcm}
+use Rattle.lk_model.specs.declared.wide.Op.TheVariants.{Product}
+use Rattle.lk_model.specs.declared.wide.Wide.{Wide}
+use Rattle.lk_model.proofs.GcdLaws.{gcd_is_gcd}
+use Rattle.exact_rows.specs.Made.{IsMade}
+use Rattle.exact_rows.proofs.Divisors.{gcd_of_some, gcd_of_comm, gcd_some}
+use Rattle.exact_pivot.proofs.Firsts.{made-err, made-ok}
+
+-- the gcd is positive where one of the numbers is
+pub gcd_of_some_second : (x y : ℤ) → pos 0 <ℤ y → pos 0 <ℤ gcd_of x y
+gcd_of_some_second x y h = subst (λ g. pos 0 <ℤ g) (gcd_of_comm y x) (gcd_of_some y x h)
+
+-- a positive number over a gcd of it is positive
+pub reduced_some : (x y : ℤ) → pos 0 <ℤ x → pos 0 <ℤ reduced x y
+reduced_some (pos zero) y h = absurd (omega (arith, ints, h))
+reduced_some (pos (suc a)) y h =
+    let some : 0 < suc a = omega arith in
+    let divisor = gcd_some (suc a) (unsigned_abs y) some in
+    let below = le_of_dvd some (gcd_is_gcd (suc a) (unsigned_abs y)).0 in
+    let one = le-div 1 (suc a) (gcd (suc a) (unsigned_abs y)) divisor (omega (arith, below)) in
+    omega (arith, ints, one)
+reduced_some (negsuc a) y h = absurd (omega (arith, ints, h))
+
+-- a product of positive numbers is positive
+pub product_some : (x y : ℤ) → pos 0 <ℤ x → pos 0 <ℤ y → pos 0 <ℤ (x *ℤ y)
+product_some (pos zero) y h k = absurd (omega (arith, ints, h))
+product_some (negsuc a) y h k = absurd (omega (arith, ints, h))
+product_some (pos (suc a)) (pos zero) h k = absurd (omega (arith, ints, k))
+product_some (pos (suc a)) (negsuc b) h k = absurd (omega (arith, ints, k))
+product_some (pos (suc a)) (pos (suc b)) h k = (let some : 0 < suc a * suc b = omega arith in omega (arith, ints, some))
+
+-- a row's denominator is joined: what the least common multiple is from it on
+pub join_value : (k : ℕ) (rows : List Row) (i : ℕ) (d : Row) (l q z all : ℤ) → i < length rows → d ≡ get_or rows i d → q ≡ denominator k d
+    → IsMade Product (reduced l q) q (Ok z) → lcm_from l (map (denominator k) (drop i rows)) ≡ all → lcm_from z (map (denominator k) (drop (i + 1) rows)) ≡ all
+join_value k rows i d l q z all h at g m e =
+    let f : q ≡ denominator k (get_or rows i d) = g ∙ ap (denominator k) at in
+    let step : i + 1 ≡ suc i = omega arith in
+    let start : map (denominator k) (drop i rows) ≡ denominator k (get_or rows i d) ∷ map (denominator k) (drop (suc i) rows) = ap (map (denominator k)) (drop-cons rows i d h) in
+    let here : lcm_from l (denominator k (get_or rows i d) ∷ map (denominator k) (drop (suc i) rows)) ≡ lcm_from z (map (denominator k) (drop (suc i) rows)) = rw (← f, m.1) refl in
+    rw step (sym here ∙ ap (lcm_from l) (sym start) ∙ e)
+
+-- and what is made from it on
+pub join_made : (k : ℕ) (rows : List Row) (i : ℕ) (d : Row) (l q z : ℤ) (all : Option Wide) → i < length rows → d ≡ get_or rows i d → q ≡ denominator k d
+    → IsMade Product (reduced l q) q (Ok z) → first_wide (made_in_lcm l (map (denominator k) (drop i rows))) ≡ all
+    → first_wide (made_in_lcm z (map (denominator k) (drop (i + 1) rows))) ≡ all
+join_made k rows i d l q z all h at g m e =
+    let f : q ≡ denominator k (get_or rows i d) = g ∙ ap (denominator k) at in
+    let step : i + 1 ≡ suc i = omega arith in
+    let start : map (denominator k) (drop i rows) ≡ q ∷ map (denominator k) (drop (suc i) rows) = ap (map (denominator k)) (drop-cons rows i d h) ∙ ap (λ x. x ∷ map (denominator k) (drop (suc i) rows)) (sym f) in
+    let later = made-ok Product (reduced l q) q (made_in_lcm (reduced l q *ℤ q) (map (denominator k) (drop (suc i) rows))) z m in
+    let same : first_wide (made_in_lcm z (map (denominator k) (drop (suc i) rows))) ≡ first_wide (made_in_lcm (reduced l q *ℤ q) (map (denominator k) (drop (suc i) rows))) = ap (λ x. first_wide (made_in_lcm x (map (denominator k) (drop (suc i) rows)))) m.1 in
+    rw step (same ∙ sym later ∙ ap (λ qs. first_wide (made_in_lcm l qs)) (sym start) ∙ e)
+
+-- the operands where joining it is too wide
+pub join_wide : (k : ℕ) (rows : List Row) (i : ℕ) (d : Row) (l q : ℤ) (w : Wide) (all : Option Wide) → i < length rows → d ≡ get_or rows i d → q ≡ denominator k d
+    → IsMade Product (reduced l q) q (Err w) → first_wide (made_in_lcm l (map (denominator k) (drop i rows))) ≡ all → Some w ≡ all
+join_wide k rows i d l q w all h at g m e =
+    let f : q ≡ denominator k (get_or rows i d) = g ∙ ap (denominator k) at in
+    let start : map (denominator k) (drop i rows) ≡ q ∷ map (denominator k) (drop (suc i) rows) = ap (map (denominator k)) (drop-cons rows i d h) ∙ ap (λ x. x ∷ map (denominator k) (drop (suc i) rows)) (sym f) in
+    made-err Product (reduced l q) q (made_in_lcm (reduced l q *ℤ q) (map (denominator k) (drop (suc i) rows))) w m ∙ ap (λ qs. first_wide (made_in_lcm l qs)) (sym start) ∙ e
+
+-- behind the last row
+pub join_end : (k : ℕ) (rows : List Row) (i : ℕ) (l all : ℤ) → length rows ≤ i → lcm_from l (map (denominator k) (drop i rows)) ≡ all → l ≡ all
+join_end k rows i l all h e =
+    let last : lcm_from l (map (denominator k) (drop i rows)) ≡ l = ap (λ rs. lcm_from l (map (denominator k) rs)) (drop_all i rows h) in
+    sym last ∙ e
+
+-- what is made behind the last row
+pub join_made_end : (k : ℕ) (rows : List Row) (i : ℕ) (l : ℤ) (all : Option Wide) → length rows ≤ i → first_wide (made_in_lcm l (map (denominator k) (drop i rows))) ≡ all → None ≡ all
+unfolding first_wide
+join_made_end k rows i l all h e =
+    let last : first_wide (made_in_lcm l (map (denominator k) (drop i rows))) ≡ None = ap (λ rs. first_wide (made_in_lcm l (map (denominator k) rs))) (drop_all i rows h) in
+    sym last ∙ e

@@ -1,0 +1,14 @@
+use Rattle.std.proofs.Common.{pos, ◌<ℤ◌, sym, ap, ◌∙◌, subst, rules}
+use Rattle.std.specs.Int.RustNames.{FitsSigned}
+use mir.Syntax.{w128}
+use Rattle.std.proofs.lemmas.Int.{to_z-of_z}
+use Rattle.lk_model.specs.Rows.{entry}
+use Rattle.exact_rows.proofs.Divisors.{gcd_of_some}
+use Rattle.exact_pivot.proofs.ends.denominator.Goals as goal
+
+pub reduced-requires-clause-some : goal.reduced-requires-clause-some
+reduced-requires-clause-some c =
+    let x : FitsSigned w128 c.entry.result = search rules in
+    let y : FitsSigned w128 c.entry-2.result = search rules in
+    let some : pos 0 <ℤ c.entry.result = subst (λ z. pos 0 <ℤ z) (sym (c.entry.ensures.value ∙ ap (entry c.args.row.now.entries) c.basic.ensures)) c.requires.1 in
+    simp to_z-of_z (gcd_of_some c.entry.result c.entry-2.result some)

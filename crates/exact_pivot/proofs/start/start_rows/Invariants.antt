@@ -1,0 +1,7 @@
+use Rattle.std.proofs.Common.{◌≡◌, length, map, take, zip}
+use Rattle.lk_model.specs.Lists.{up_to}
+use Rattle.lk_model.specs.Rows.{start_row}
+use Rattle.exact_pivot.proofs.start.start_rows.Given as goal
+
+abbrev pub invariant-loop-j : goal.invariant-loop-j
+invariant-loop-j l = l.rows.items ≡ map (start_row l.f l.kept) (take l.j (zip (up_to (length l.vars)) l.vars))

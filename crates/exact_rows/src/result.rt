@@ -1,0 +1,39 @@
+//! Results of arithmetic, or their operands where they are too wide.
+ghost use Rattle.std.specs.Prelude.{SomeIff, FitsSigned};
+ghost use mir.Syntax.{w128};
+ghost use Rattle.lk_model.specs.Arithmetic.{result_by};
+ghost use Rattle.exact_rows.specs.Made.{IsMade};
+
+use lk_model::{Op, Wide};
+
+/// The product, or its operands where it lies outside ±(2^127 - 1).
+pub fn product(left: i128, right: i128) -> Result<i128, Wide>
+    ensures { IsMade Op.Product left right result }
+{
+    kept(left.checked_mul(right), Op::Product, left, right)
+}
+
+/// The sum, or its operands where it lies outside ±(2^127 - 1).
+pub fn sum(left: i128, right: i128) -> Result<i128, Wide>
+    ensures { IsMade Op.Sum left right result }
+{
+    kept(left.checked_add(right), Op::Sum, left, right)
+}
+
+/// The difference, or its operands where it lies outside ±(2^127 - 1).
+pub fn difference(left: i128, right: i128) -> Result<i128, Wide>
+    ensures { IsMade Op.Difference left right result }
+{
+    kept(left.checked_sub(right), Op::Difference, left, right)
+}
+
+/// A result that fits and is not the least number of the type.
+fn kept(found: Option<i128>, op: Op, left: i128, right: i128) -> Result<i128, Wide>
+    requires { SomeIff found (FitsSigned w128 (result_by op left right)) (result_by op left right) }
+    ensures { IsMade op left right result }
+{
+    match found {
+        Some(x) if x != i128::MIN => Ok(x),
+        _ => Err(Wide { op, left, right }),
+    }
+}

@@ -1,0 +1,16 @@
+pub mod PassedChecks
+pub mod SetLiterals
+pub mod AcceptedForms
+pub mod AcceptedOrders
+pub mod AcceptedPairs
+pub mod AcceptedReductions
+pub mod LiteralSetLemmas
+pub mod ClauseLines
+pub mod OtherFormulas
+pub mod SetValues
+pub mod KeptFlags
+pub mod OrderPlaces
+pub mod OrderBreaks
+pub mod OrderChecks
+pub mod PairTables
+pub mod FirstFailures

@@ -1,0 +1,61 @@
+use Rattle.std.proofs.Common.{◌≡◌, ◌∙◌, ℕ, ℤ, List, map, sym, ap, subst, true}
+use Rattle.lk_model.specs.Lists.{rises_within}
+use Rattle.lk_model.specs.Literal.{variable}
+use Rattle.lk_model.specs.Assignment.{Assignment, assignment_of, first_unsatisfied}
+use Rattle.lean_checker.proofs.AcceptedForms.{same_numbers, form_rises}
+use Rattle.lean_checker.proofs.FirstFailures.{first_fails, second_fails, third_fails, fourth_fails, none_of_four, lines_match, unsatisfied_is}
+use Rattle.lean_checker.proofs.checking.common_failure.Goals as goal
+
+pub returns-in-Some-clause-first : goal.returns-in-Some-clause-first
+returns-in-Some-clause-first c = c.failure.ensures ∙ first_fails c.args.f.now c.args.d.now c.in-Some.place c.in-Some.ensures.place
+
+pub kept_clause-requires-clause-positions : goal.kept_clause-requires-clause-positions
+kept_clause-requires-clause-positions c =
+    let sizes = same_numbers c.args.f.now c.args.d.now (sym c.in_default.ensures.place) in
+    subst (λ (m : ℕ). rises_within 0 m c.args.d.now.kept ≡ true) sizes.clauses (form_rises c.args.d.now c.requires).kept
+
+pub kept_clause-requires-clause-lines : goal.kept_clause-requires-clause-lines
+kept_clause-requires-clause-lines c = lines_match c.args.d.now c.requires
+
+pub returns-in-Some-kept_clause-clause-first : goal.returns-in-Some-kept_clause-clause-first
+returns-in-Some-kept_clause-clause-first c = c.failure-in-Some-kept_clause.ensures ∙ second_fails c.args.f.now c.args.d.now c.in-Some-kept_clause.place c.in_default.ensures.place c.in-Some-kept_clause.ensures
+
+pub assignment_of-requires-clause-rising : goal.assignment_of-requires-clause-rising
+assignment_of-requires-clause-rising c =
+    let sizes = same_numbers c.args.f.now c.args.d.now (sym c.in_default.ensures.place) in
+    rw (c.as_slice.ensures, c.vars.ensures.value) (subst (λ (n : ℕ). rises_within 0 n (map variable c.args.d.now.set) ≡ true) sizes.vars (form_rises c.args.d.now c.requires).set)
+
+pub returns-in-Some-first_unsatisfied_touched-clause-first : goal.returns-in-Some-first_unsatisfied_touched-clause-first
+returns-in-Some-first_unsatisfied_touched-clause-first c =
+    let F = c.args.f.now in
+    let d = c.args.d.now in
+    let values = c.in_ok-values.ensures.values ∙ ap (λ (ls : List ℤ). assignment_of ls) c.as_slice.ensures in
+    let found = c.in-Some-first_unsatisfied_touched.ensures.value ∙ ap (λ (φ : Assignment). first_unsatisfied φ F) values ∙ unsatisfied_is F d in
+    c.failure-in-Some-first_unsatisfied_touched.ensures ∙ third_fails F d c.in-Some-first_unsatisfied_touched.place c.in_default.ensures.place c.in_default-kept_clause.ensures found
+
+pub kept_flags-requires : goal.kept_flags-requires
+kept_flags-requires c =
+    let sizes = same_numbers c.args.f.now c.args.d.now (sym c.in_default.ensures.place) in
+    rw (c.as_slice-2.ensures, c.len.ensures.value) (subst (λ (m : ℕ). rises_within 0 m c.args.d.now.kept ≡ true) sizes.clauses (form_rises c.args.d.now c.requires).kept)
+
+pub not_exactly_removed-requires-clause-values : goal.not_exactly_removed-requires-clause-values
+not_exactly_removed-requires-clause-values c = c.in_ok-values.ensures.values ∙ ap (λ (ls : List ℤ). assignment_of ls) c.as_slice.ensures
+
+pub returns-in-Some-not_exactly_removed-clause-first : goal.returns-in-Some-not_exactly_removed-clause-first
+returns-in-Some-not_exactly_removed-clause-first c =
+    let F = c.args.f.now in
+    let d = c.args.d.now in
+    let values = c.in_ok-values.ensures.values ∙ ap (λ (ls : List ℤ). assignment_of ls) c.as_slice.ensures in
+    let none = c.in_default-first_unsatisfied_touched.ensures.value ∙ ap (λ (φ : Assignment). first_unsatisfied φ F) values ∙ unsatisfied_is F d in
+    c.failure-in-Some-not_exactly_removed.ensures ∙ fourth_fails F d c.in-Some-not_exactly_removed.place c.in_default.ensures.place c.in_default-kept_clause.ensures none c.in-Some-not_exactly_removed.ensures
+
+pub returns-clause-first : goal.returns-clause-first
+returns-clause-first c =
+    let F = c.args.f.now in
+    let d = c.args.d.now in
+    let values = c.in_ok-values.ensures.values ∙ ap (λ (ls : List ℤ). assignment_of ls) c.as_slice.ensures in
+    let none = c.in_default-first_unsatisfied_touched.ensures.value ∙ ap (λ (φ : Assignment). first_unsatisfied φ F) values ∙ unsatisfied_is F d in
+    none_of_four F d c.in_default.ensures.place c.in_default-kept_clause.ensures none c.in_default-not_exactly_removed.ensures
+
+pub returns-clause-sizes : goal.returns-clause-sizes
+returns-clause-sizes c = λ _. same_numbers c.args.f.now c.args.d.now (sym c.in_default.ensures.place)

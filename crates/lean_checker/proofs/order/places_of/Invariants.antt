@@ -1,0 +1,11 @@
+use Rattle.std.proofs.Common.{◌≡◌, ◌+◌, ◌*◌, ℤ, drop, length, true, get_or}
+use Rattle.lk_model.specs.Literal.{is_literal, rank_of}
+use Rattle.lean_checker.specs.Order.{place_in}
+use Rattle.lean_checker.proofs.order.places_of.Given as goal
+
+-- the places among the literals so far, which stand last
+abbrev pub invariant-loop-i : goal.invariant-loop-i
+invariant-loop-i l = record {
+  size : length l.places.items ≡ 2 * l.n + 2;
+  told : (k : ℤ) → is_literal l.n k ≡ true → get_or l.places.items (rank_of k) 0 ≡ l.i + place_in (drop l.i l.order) k;
+}

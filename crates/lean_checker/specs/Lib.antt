@@ -1,0 +1,7 @@
+pub mod Verdicts
+pub mod Accepted
+pub mod Lines
+pub mod LiteralSets
+pub mod Flags
+pub mod Order
+pub mod Pairs

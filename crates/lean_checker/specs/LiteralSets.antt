@@ -1,0 +1,15 @@
+-- Sets of literals, by a flag at the rank of each.
+use Rattle.std.specs.Prelude.{◌≡◌, ◌≤◌, ℕ, ◌+◌, ◌*◌, Bool, false, true, List, length, ℤ, IsTrue, slice_index_or, slice_set}
+use Rattle.lk_model.specs.Literal.{contains, is_literal, rank_of}
+
+abbrev pub has_literal : List Bool → ℤ → Bool
+has_literal flags l = slice_index_or flags (rank_of l) false
+
+abbrev pub with_literal : List Bool → ℤ → List Bool
+with_literal flags l = slice_set flags (rank_of l) true
+
+-- of the literals over the variables from 1 to n, the set has those of the list
+pub record IsSetOf (n : ℕ) (ls : List ℤ) (flags : List Bool) : Type 0 where
+  pub small : n ≤ 1000000
+  pub size : length flags ≡ 2 * n + 2
+  pub told : (l : ℤ) → IsTrue (is_literal n l) → has_literal flags l ≡ contains ls l

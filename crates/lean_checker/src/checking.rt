@@ -1,0 +1,141 @@
+//! The whole check.
+ghost use Rattle.std.specs.Prelude.{◌≡◌, ◌<◌, None, IfOk, IsTrue};
+ghost use Rattle.lk_model.specs.Formula.{is_formula};
+ghost use Rattle.lk_model.specs.Built.{IsBuilt, IsBuiltBody};
+ghost use Rattle.lk_model.specs.Form.{is_done_in_form, is_in_form};
+ghost use Rattle.lk_model.specs.Checks.{first_failure, first_four, class_checks};
+ghost use Rattle.lk_model.specs.Check.{first_of};
+ghost use Rattle.lk_model.specs.declared.document.Document.TheVariants.{Done};
+ghost use Rattle.lk_model.specs.declared.document.Body.TheVariants.{Pure};
+ghost use Rattle.lean_checker.specs.Verdicts.{verdict_of};
+ghost use Rattle.lean_checker.specs.Accepted.{HasSizes, IsReducedBy};
+
+use crate::common::{assignment_of, kept_clause, kept_flags, not_exactly_removed, other_formula};
+use crate::order::bad_order;
+use crate::pairs::bad_pair;
+use crate::verdict::Verdict;
+use lk_model::{Body, Document, DoneDocument, Formula, Kind, Lit, OutOfMemory, Pair, Why};
+use lk_outside::Gate;
+use std::alloc::Global;
+use std::thread::Threads;
+
+/// What the checks say of a document and a formula: the first failing check, or that none fails. The
+/// document may be anybody's, if it is in form, as every document is that was read from a text; so far
+/// it is a finished one of the class pure. The answer is the same for each number of workers.
+///
+/// Where it is `Accepted`, the kept clauses are the kernel of the document's class, the set line is an
+/// autarky of the class that touches exactly the removed clauses, and every model of the kept clauses,
+/// overridden by the set line, satisfies the formula (Handbook of Satisfiability, Kleine Büning and
+/// Kullmann).
+///
+/// The work grows with the formula and the document, with no scan of the one for parts of the other.
+/// `rt`, `gate` and `workers` have no effect yet.
+pub fn check<R: Threads + Sync, G: Gate>(
+    rt: &R,
+    alloc: Global,
+    gate: &G,
+    f: &Formula,
+    d: &Document,
+    workers: u32,
+) -> Result<Verdict, OutOfMemory>
+    requires form { IsTrue (is_in_form d.now) }
+    requires built { IsBuilt d.now }
+    requires workers { 0 < workers }
+    ensures verdict { IfOk result (λ v. v ≡ verdict_of f.now d.now) }
+    ensures reduction { result ≡ Ok Verdict.Accepted → IsReducedBy f.now d.now }
+{
+    match d {
+        Document::Done(done) => match first_failure(alloc, f, done)? {
+            Some(why) => Ok(Verdict::No(why)),
+            None => Ok(Verdict::Accepted),
+        },
+        Document::Unfinished(_) => unreachable!(),
+    }
+}
+
+/// The first failing check of a finished document.
+fn first_failure(alloc: Global, f: &Formula, d: &DoneDocument) -> Result<Option<Why>, OutOfMemory>
+    requires form { IsTrue (is_done_in_form d.now) }
+    requires built { IsBuiltBody d.now.body }
+    ensures first { IfOk result (λ why. why ≡ first_failure f.now (Done d.now)) }
+    ensures formula { IsTrue (is_formula f.now) }
+{
+    match common_failure(alloc, f, d)? {
+        Some(why) => Ok(Some(why)),
+        None => class_failure(alloc, f, d),
+    }
+}
+
+/// The first failing check of those that every finished document has.
+fn common_failure(alloc: Global, f: &Formula, d: &DoneDocument) -> Result<Option<Why>, OutOfMemory>
+    requires { IsTrue (is_done_in_form d.now) }
+    ensures first { IfOk result (λ why. why ≡ first_of (first_four f.now d.now)) }
+    ensures sizes { IfOk result (λ why. why ≡ None → HasSizes f.now d.now) }
+    ensures formula { IsTrue (is_formula f.now) }
+{
+    if let Some(place) = other_formula(f, d.vars, d.clauses) {
+        return Ok(failure(Kind::OtherFormula, place));
+    }
+    if let Some(place) = kept_clause(f, d) {
+        return Ok(failure(Kind::KeptClause, place));
+    }
+    let values = assignment_of(alloc, f.vars(), d.set.as_slice())?;
+    if let Some(place) = values.first_unsatisfied_touched(f) {
+        return Ok(failure(Kind::NotAutarky, place));
+    }
+    let flags = kept_flags(alloc, f.len(), d.kept.as_slice())?;
+    if let Some(place) = not_exactly_removed(f, d, &values, flags.as_slice()) {
+        return Ok(failure(Kind::NotExactlyRemoved, place));
+    }
+    Ok(None)
+}
+
+/// The failure of a kind at a position or variable.
+fn failure(kind: Kind, place: u32) -> Option<Why>
+    ensures { result ≡ Some (record { kind = kind; place = place }) }
+{
+    Some(Why {
+        kind,
+        place: u64::from(place),
+    })
+}
+
+/// The first failing check of those of the document's class.
+fn class_failure(alloc: Global, f: &Formula, d: &DoneDocument) -> Result<Option<Why>, OutOfMemory>
+    requires form { IsTrue (is_done_in_form d.now) }
+    requires built { IsBuiltBody d.now.body }
+    requires sizes { HasSizes f.now d.now }
+    ensures { IfOk result (λ why. why ≡ first_of (class_checks f.now d.now d.now.body)) }
+{
+    match &d.body {
+        Body::Pure { order, pairs } => {
+            pure_failure(alloc, f, d, order.as_slice(), pairs.as_slice())
+        }
+        _ => unreachable!(),
+    }
+}
+
+/// The first failing check of those of the class pure.
+fn pure_failure(
+    alloc: Global,
+    f: &Formula,
+    d: &DoneDocument,
+    order: &[Lit],
+    pairs: &[Pair],
+) -> Result<Option<Why>, OutOfMemory>
+    requires form { IsTrue (is_done_in_form d.now) }
+    requires body { d.now.body ≡ Pure order.now pairs.now }
+    requires sizes { HasSizes f.now d.now }
+    ensures { IfOk result (λ why. why ≡ first_of (class_checks f.now d.now (Pure order.now pairs.now))) }
+{
+    if let Some(place) = bad_order(alloc, f, d, order)? {
+        return Ok(Some(Why {
+            kind: Kind::BadOrder,
+            place: place as u64,
+        }));
+    }
+    match bad_pair(alloc, f, d, pairs)? {
+        Some(place) => Ok(failure(Kind::BadPair, place)),
+        None => Ok(None),
+    }
+}

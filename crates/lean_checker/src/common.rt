@@ -1,0 +1,100 @@
+//! The checks of every finished document.
+ghost use Rattle.std.specs.Prelude.{◌≡◌, ◌≤◌, ◌<◌, length, map, IfOk, IsTrue};
+ghost use Rattle.lk_model.specs.Lists.{rises_within};
+ghost use Rattle.lk_model.specs.Literal.{variable, is_same_list};
+ghost use Rattle.lk_model.specs.Formula.{clause_at, is_formula};
+ghost use Rattle.lk_model.specs.Lean.{are_positions};
+ghost use Rattle.lk_model.specs.Assignment.{assignment_by, assignment_of};
+ghost use Rattle.lk_model.specs.CommonChecks.{other_formula, kept_clause, not_exactly_removed};
+ghost use Rattle.lean_checker.specs.Flags.{AreKeptFlags, is_flagged, is_misplaced};
+
+use lk_model::{DoneDocument, Formula, Lit, OutOfMemory};
+use partial_assign::Partial;
+use std::alloc::Global;
+
+/// 0 where the formula has other numbers of variables or clauses than the document says.
+pub(crate) fn other_formula(f: &Formula, vars: u32, clauses: u32) -> Option<u32>
+    ensures place { result ≡ (other_formula f.now vars clauses).place }
+    ensures formula { IsTrue (is_formula f.now) }
+{
+    if vars == f.vars() && clauses == f.len() {
+        None
+    } else {
+        Some(0)
+    }
+}
+
+/// The first kept position whose clause line is not the formula's clause.
+pub(crate) fn kept_clause(f: &Formula, d: &DoneDocument) -> Option<u32>
+    requires positions { IsTrue (are_positions f.now d.now.kept) }
+    requires lines { length d.now.texts.clauses ≡ length d.now.kept }
+    ensures { result ≡ (kept_clause f.now d.now).place }
+{
+    let kept = d.kept.as_slice();
+    for i in 0..d.texts.len() {
+        let p = kept[i as usize];
+        if !is_same_list(d.texts.clause(i + 1), f.clause(p)) {
+            return Some(p);
+        }
+    }
+    None
+}
+
+/// Whether two clauses are the same literals in the same order.
+fn is_same_list(one: &[Lit], other: &[Lit]) -> bool
+    ensures { result ≡ is_same_list one.now other.now }
+{
+    one == other
+}
+
+/// The assignment of the variables from 1 to n that a set line gives.
+pub(crate) fn assignment_of(alloc: Global, n: u32, set: &[Lit]) -> Result<Partial, OutOfMemory>
+    requires few { n ≤ 1000000 }
+    requires rising { IsTrue (rises_within 0 n (map variable set.now)) }
+    ensures vars { IfOk result (λ values. length values ≡ n) }
+    ensures values { IfOk result (λ values. assignment_by values ≡ assignment_of set.now) }
+{
+    let mut values = Partial::new(alloc, n)?;
+    for l in set {
+        values.put(*l);
+    }
+    Ok(values)
+}
+
+/// Which of the positions from 1 to m are kept.
+pub(crate) fn kept_flags(alloc: Global, m: u32, kept: &[u32]) -> Result<Vec<bool>, OutOfMemory>
+    requires { IsTrue (rises_within 0 m kept.now) }
+    ensures { IfOk result (λ flags. AreKeptFlags m kept.now flags.items) }
+{
+    let mut flags = vec![in alloc; false; m as usize]?;
+    for p in kept {
+        flags[*p as usize - 1] = true;
+    }
+    Ok(flags)
+}
+
+/// The first position whose clause is touched and kept, or neither.
+pub(crate) fn not_exactly_removed(
+    f: &Formula,
+    d: &DoneDocument,
+    values: &Partial,
+    flags: &[bool],
+) -> Option<u32>
+    requires vars { length values.now ≡ f.now.vars }
+    requires values { assignment_by values.now ≡ assignment_of d.now.set }
+    requires flags { AreKeptFlags (length f.now.clauses) d.now.kept flags.now }
+    ensures { result ≡ (not_exactly_removed f.now d.now).place }
+{
+    (1..f.len() + 1).find(|p| is_misplaced(f, values, flags, *p))
+}
+
+/// Whether the clause at a position is touched and kept, or neither.
+fn is_misplaced(f: &Formula, values: &Partial, flags: &[bool], p: u32) -> bool
+    requires vars { length values.now ≡ f.now.vars }
+    requires flags { length flags.now ≡ length f.now.clauses }
+    requires first { 0 < p }
+    requires last { p ≤ length f.now.clauses }
+    ensures { result ≡ is_misplaced (assignment_by values.now) (is_flagged flags.now p) (clause_at f.now p) }
+{
+    flags[p as usize - 1] == values.touches(f.clause(p))
+}

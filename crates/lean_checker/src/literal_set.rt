@@ -1,0 +1,72 @@
+//! Sets of literals.
+ghost use Rattle.std.specs.Prelude.{◌≡◌, ◌<◌, ◌≤◌, [], length, IfOk, IsTrue, All};
+ghost use Rattle.std.specs.List.{list_all};
+ghost use Rattle.lk_model.specs.Literal.{is_literal, rank_of};
+ghost use Rattle.lean_checker.specs.LiteralSets.{has_literal, with_literal, IsSetOf};
+
+use lk_model::{Lit, OutOfMemory};
+use std::alloc::Global;
+use std::marker::Model;
+
+/// A set of literals over the variables from 1 to a number, by a flag at the rank of each literal.
+#[derive(Drop)]
+pub(crate) struct LiteralSet {
+    flags: Vec<bool>,
+}
+
+impl Model for LiteralSet {
+    ghost use Rattle.std.specs.Prelude.{List, Bool};
+
+    ghost Value = { List Bool };
+
+    ghost view = { λ s. s.flags.items };
+}
+
+impl LiteralSet {
+    /// The empty set of literals over the variables from 1 to n.
+    pub fn new(alloc: Global, n: u32) -> Result<LiteralSet, OutOfMemory>
+        requires { n ≤ 1000000 }
+        ensures { IfOk result (IsSetOf n []) }
+    {
+        Ok(LiteralSet {
+            flags: vec![in alloc; false; 2 * n as usize + 2]?,
+        })
+    }
+
+    /// The set of these literals.
+    pub fn of(alloc: Global, n: u32, literals: &[Lit]) -> Result<LiteralSet, OutOfMemory>
+        requires small { n ≤ 1000000 }
+        requires literals { IsTrue (list_all (is_literal n) literals.now) }
+        ensures { IfOk result (IsSetOf n literals.now) }
+    {
+        let mut set = LiteralSet::new(alloc, n)?;
+        for l in literals {
+            set.add(*l);
+        }
+        Ok(set)
+    }
+
+    /// Puts a literal in.
+    pub fn add(&mut self, l: Lit)
+        requires { rank_of l < length self.old }
+        ensures { self.new ≡ with_literal self.old l }
+    {
+        self.flags[l.rank()] = true;
+    }
+
+    /// Whether it has a literal.
+    pub fn has(&self, l: Lit) -> bool
+        requires { rank_of l < length self.now }
+        ensures { result ≡ has_literal self.now l }
+    {
+        self.flags[l.rank()]
+    }
+
+    /// Whether it has each of these literals.
+    pub fn has_all(&self, literals: &[Lit]) -> bool
+        requires { All (λ l. rank_of l < length self.now) literals.now }
+        ensures { result ≡ list_all (has_literal self.now) literals.now }
+    {
+        literals.iter().all(|l| self.has(*l))
+    }
+}

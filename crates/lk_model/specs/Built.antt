@@ -1,0 +1,18 @@
+-- Which documents are printed, read and checked so far.
+use Rattle.std.specs.Prelude.{⊤}
+use Rattle.lk_model.specs.declared.document.Body.{Body}
+use Rattle.lk_model.specs.declared.document.Body.TheVariants.{Pure, Matching, Linear, General}
+use Rattle.lk_model.specs.declared.document.Document.{Document}
+use Rattle.lk_model.specs.declared.document.Document.TheVariants.{Done, Unfinished}
+
+-- a class whose lines are written
+abbrev pub IsBuiltBody : Body → Type 0
+IsBuiltBody (Pure order pairs) = ⊤
+IsBuiltBody (Matching own rows) = ⊥
+IsBuiltBody (Linear stages dual units) = ⊥
+IsBuiltBody (General rounds) = ⊥
+
+-- a finished document of such a class
+abbrev pub IsBuilt : Document → Type 0
+IsBuilt (Done d) = IsBuiltBody d.body
+IsBuilt (Unfinished d) = ⊥
