@@ -1,9 +1,11 @@
 //! Sets of variables, and clauses without the literals of such a set.
 ghost use Rattle.std.specs.Prelude.{◌≡◌, ◌<◌, ◌≤◌, IfOk, replicate, false, length};
-ghost use Rattle.lk_model.specs.Crossed.{is_in, with_variable};
+ghost use Rattle.lk_model.specs.Formula.{clause_at};
+ghost use Rattle.lk_model.specs.Crossed.{crossed_out, is_in, with_variable, IsCrossed};
 
 use crate::formula::Formula;
-use crate::list::OutOfMemory;
+use crate::list::{List, OutOfMemory};
+use crate::lit::Lit;
 use std::alloc::Global;
 use std::marker::Model;
 
@@ -57,4 +59,23 @@ pub struct Crossed<'a> {
     pub formula: &'a Formula,
     pub part: &'a [u32],
     pub blocked: &'a VarSet,
+}
+
+impl Crossed<'_> {
+    /// The clause at a position of the formula, without the literals of blocked variables, in the
+    /// formula's order.
+    pub fn clause(&self, alloc: Global, position: u32) -> Result<List<Lit>, OutOfMemory>
+        requires crossed { IsCrossed self.now }
+        requires first { 0 < position }
+        requires last { position ≤ length self.now.formula.now.clauses }
+        ensures { IfOk result (λ c. c ≡ crossed_out (is_in self.now.blocked.now) (clause_at self.now.formula.now position)) }
+    {
+        let mut lits = List::new(alloc);
+        for l in self.formula.clause(position) {
+            if !self.blocked.has(l.var()) {
+                lits.push(*l)?;
+            }
+        }
+        Ok(lits)
+    }
 }

@@ -24,6 +24,13 @@ impl Model for Lit {
     ghost inverse = { λ z. record { number = z } };
 }
 
+/// The literal 1, which fills the unused places of a small vector.
+impl Default for Lit {
+    fn default() -> Lit {
+        Lit { number: 1 }
+    }
+}
+
 impl Lit {
     /// The literal of this number, where there is one.
     pub fn new(x: i32) -> Option<Lit>

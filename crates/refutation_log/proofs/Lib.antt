@@ -1,0 +1,13 @@
+pub mod Conditions
+pub mod Clauses
+pub mod Sorting
+pub mod Joining
+pub mod Steps
+pub mod Chains
+pub mod Marking
+pub mod Renumbering
+pub mod Keeping
+pub mod Trimming
+pub mod ChainNames
+pub mod TrimmedLaws
+pub mod InFormLaws

@@ -1,0 +1,34 @@
+use Rattle.std.proofs.Common.{◌+◌, List, drop, subst, arith, IsSome}
+use Rattle.lk_model.specs.Chain.{Premises, premises_of, after_turns, chain_clause}
+use Rattle.lk_model.specs.declared.document.Turn.{Turn}
+use Rattle.refutation_log.specs.SameClause.{IsSameClause}
+use Rattle.refutation_log.proofs.Chains.{chain_begins, turn_next, is_some_clause, turn_goes, turn_taken}
+use Rattle.refutation_log.proofs.log.Log.clause_of_chain.Goals as goal
+
+pub loop-turn-init : goal.loop-turn-init
+loop-turn-init c =
+    chain_begins (premises_of c.args.over.now c.args.self.now.steps) c.args.first c.args.turns.now c.in_ok-work.work c.in_ok-work.ensures
+
+pub take-requires-clause-goes : goal.take-requires-clause-goes
+take-requires-clause-goes c =
+    let from : Premises = premises_of c.args.over.now c.args.self.now.steps in
+    let turns = c.args.turns.now in
+    let i = c.loop-turn.turn-index in
+    let left : IsSome (after_turns from c.loop-turn.work (drop i turns)) =
+    is_some_clause (after_turns from c.loop-turn.work (drop i turns)) (chain_clause from c.args.first turns) c.loop-turn.invariant c.requires.chain in
+    turn_goes from c.loop-turn.work c.turn-item.result (drop (i + 1) turns)
+    (subst (λ (ts : List Turn). IsSome (after_turns from c.loop-turn.work ts)) (turn_next turns i c.turn-item.result (omega arith) c.turn-item.is) left)
+
+pub loop-turn-preserved : goal.loop-turn-preserved
+loop-turn-preserved c =
+    let from : Premises = premises_of c.args.over.now c.args.self.now.steps in
+    let turns = c.args.turns.now in
+    let i = c.loop-turn.turn-index in
+    let next = turn_next turns i c.turn-item.result (omega arith) c.turn-item.is in
+    let chain = chain_clause from c.args.first turns in
+    let left : IsSome (after_turns from c.loop-turn.work (drop i turns)) =
+    is_some_clause (after_turns from c.loop-turn.work (drop i turns)) chain c.loop-turn.invariant c.requires.chain in
+    turn_taken from c.loop-turn.work c.take.new.work c.turn-item.result (drop (i + 1) turns) chain
+    (subst (λ (ts : List Turn). IsSome (after_turns from c.loop-turn.work ts)) next left)
+    c.in_ok-take.ensures
+    (subst (λ (ts : List Turn). IsSameClause (after_turns from c.loop-turn.work ts) chain) next c.loop-turn.invariant)

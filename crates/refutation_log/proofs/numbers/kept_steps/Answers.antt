@@ -1,0 +1,46 @@
+use Rattle.std.proofs.Common.{◌+◌, ◌∷◌, ◌∙◌, sym, ap, subst, length, arith, List, [], ◌++◌, IsTrue}
+use Rattle.std.proofs.lemmas.List.{length_push}
+use Rattle.std.proofs.lemmas.Iterator.Adapters.{YieldsList-from_vec}
+use Rattle.std.proofs.lemmas.Iterator.Consumers.{YieldsList-turn}
+use Rattle.lk_model.specs.declared.document.Step.{Step}
+use Rattle.refutation_log.specs.Derivation.{names_lower}
+use Rattle.refutation_log.specs.Trimmed.{with_numbers}
+use Rattle.refutation_log.specs.Numbers.{number_in, is_marked}
+use Rattle.refutation_log.proofs.Steps.{all_get, number_get}
+use Rattle.refutation_log.proofs.Marking.{names_all}
+use Rattle.refutation_log.proofs.Renumbering.{more_passes}
+use Rattle.refutation_log.proofs.numbers.kept_steps.Goals as goal
+
+pub overflow_sub-step : goal.overflow_sub-step
+overflow_sub-step c =
+    let g = c.into_iter-step-iterator.ensures.into_iter_gives in
+    let t = YieldsList-turn (YieldsList-from_vec c.args.steps.items g.0 (g.1 ∙ c.args.steps.ok.0)) c.loop-step.yielded _ c.loop-step.yielded_by c.next.result c.next.new.self c.in-Some.step c.in-Some.is c.next.ensures.steps in
+    let number = number_get c.args.first c.args.steps.items (length c.loop-step.yielded) c.in-Some.step c.requires.numbered t.0 t.1 in
+    omega (arith, number)
+
+pub bounds-marks-step : goal.bounds-marks-step
+bounds-marks-step c =
+    let g = c.into_iter-step-iterator.ensures.into_iter_gives in
+    let t = YieldsList-turn (YieldsList-from_vec c.args.steps.items g.0 (g.1 ∙ c.args.steps.ok.0)) c.loop-step.yielded _ c.loop-step.yielded_by c.next.result c.next.new.self c.in-Some.step c.in-Some.is c.next.ensures.steps in
+    let number = number_get c.args.first c.args.steps.items (length c.loop-step.yielded) c.in-Some.step c.requires.numbered t.0 t.1 in
+    omega (arith, number, t.0, c.requires.marks)
+
+pub with_new_numbers-requires : goal.with_new_numbers-requires
+with_new_numbers-requires c =
+    let g = c.into_iter-step-iterator.ensures.into_iter_gives in
+    let t = YieldsList-turn (YieldsList-from_vec c.args.steps.items g.0 (g.1 ∙ c.args.steps.ok.0)) c.loop-step.yielded _ c.loop-step.yielded_by c.next.result c.next.new.self c.in-Some.step c.in-Some.is c.next.ensures.steps in
+    let number = number_get c.args.first c.args.steps.items (length c.loop-step.yielded) c.in-Some.step c.requires.numbered t.0 t.1 in
+    let s = c.in-Some.step in
+    let bound = c.args.first + length c.args.numbers.now in
+    let lower : IsTrue (names_lower s) =
+    subst (λ (u : Step). IsTrue (names_lower u)) (sym t.1) (all_get names_lower c.args.steps.items (length c.loop-step.yielded) s c.requires.names t.0) in
+    names_all s bound lower (omega (arith, number, t.0, c.requires.numbers))
+
+pub loop-step-preserved-in-Continue-1 : goal.loop-step-preserved-in-Continue-1
+loop-step-preserved-in-Continue-1 c =
+    let g = c.into_iter-step-iterator.ensures.into_iter_gives in
+    let t = YieldsList-turn (YieldsList-from_vec c.args.steps.items g.0 (g.1 ∙ c.args.steps.ok.0)) c.loop-step.yielded _ c.loop-step.yielded_by c.next.result c.next.new.self c.in-Some.step c.in-Some.is c.next.ensures.steps in
+    let f = with_numbers (number_in c.args.first c.args.numbers.now) in
+    rw (length_push c.loop-step.yielded c.in-Some.step)
+    (c.in_ok-push.ensures.ok ∙ ap (λ (s : Step). c.loop-step.kept ++ s ∷ []) c.with_new_numbers.ensures ∙ ap (λ (ss : List Step). ss ++ f c.in-Some.step ∷ []) c.loop-step.invariant
+    ∙ sym (more_passes (is_marked c.args.first c.args.marks.now) f c.args.steps.items (length c.loop-step.yielded) c.in-Some.step t.0 t.1 c.if-marks-step.true))

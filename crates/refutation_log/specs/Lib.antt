@@ -1,0 +1,6 @@
+pub mod SameClause
+pub mod Derivation
+pub mod Trimmed
+pub mod Marks
+pub mod Numbers
+pub mod InForm

@@ -1,0 +1,16 @@
+-- The new numbers of kept steps.
+use Rattle.std.specs.Prelude.{◌≡◌, ℕ, ◌+◌, ◌-◌, ◌<◌, Bool, cond, nat_lt, List, length, take, count_by, slice_index, slice_index_or, false}
+use Rattle.lk_model.specs.declared.document.Step.{Step}
+
+-- the new number of a number, by a table for the steps from `first` on
+abbrev pub number_in : ℕ → List ℕ → ℕ → ℕ
+number_in first numbers k = cond (nat_lt k first) k (slice_index numbers (k - first))
+
+-- the step has a mark among those of the steps from `first` on
+abbrev pub is_marked : ℕ → List Bool → Step → Bool
+is_marked first marks s = slice_index_or marks (s.number - first) false
+
+-- each number is `next` and as many as are kept before it
+pub record AreNewNumbers (kept : List Bool) (next : ℕ) (numbers : List ℕ) : Type 0 where
+  pub count : length numbers ≡ length kept
+  pub each : (i : ℕ) → i < length kept → slice_index numbers i ≡ next + count_by (λ b. b) (take i kept)

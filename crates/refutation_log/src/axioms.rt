@@ -1,0 +1,44 @@
+//! The positions that a refutation uses.
+ghost use Rattle.std.specs.Prelude.{◌≡◌, ◌-◌, ◌<◌, ◌^◌, false, length, filter, slice_index_or, IfOk, IsTrue};
+ghost use Rattle.std.specs.List.{range_with_len};
+ghost use Rattle.lk_model.specs.Rounds.{is_refutation, used_positions};
+ghost use Rattle.refutation_log.specs.Derivation.{first_number, are_numbered, are_chains};
+
+use crate::reach::marks_of;
+use lk_model::{Crossed, List, OutOfMemory, Round};
+use std::alloc::Global;
+
+/// The positions that a refutation uses, ascending: those that are reached backwards from its last
+/// step. Its last clause must be empty, and its steps chains over `over` that are numbered one after
+/// another from above the number of the formula's clauses.
+pub fn axioms_of(alloc: Global, over: &Crossed, round: &Round) -> Result<List<u32>, OutOfMemory>
+    requires whole { IsTrue (is_refutation round.now.steps) }
+    requires chains { IsTrue (are_chains over.now round.now.steps) }
+    requires numbers { IsTrue (are_numbered (first_number round.now.steps) round.now.steps) }
+    requires past { length over.now.formula.now.clauses < first_number round.now.steps }
+    ensures { IfOk result (λ ps. ps ≡ used_positions over.now.formula.now round.now) }
+{
+    let steps = round.steps.as_slice();
+    let first = match steps.first() {
+        Some(step) => step.number,
+        None => return Ok(List::new(alloc)),
+    };
+    let bound = over.formula.len() as usize + 1;
+    let marks = marks_of(alloc, bound, first, steps)?;
+    marked_places(alloc, &marks.positions)
+}
+
+// The places of the marks from 1 on.
+fn marked_places(alloc: Global, marks: &[bool]) -> Result<List<u32>, OutOfMemory>
+    requires some { 0 < length marks.now }
+    requires few { length marks.now < 2 ^ 32 }
+    ensures { IfOk result (λ ps. ps ≡ filter (λ p. slice_index_or marks.now p false) (range_with_len 1 (length marks.now - 1))) }
+{
+    let mut positions = List::new(alloc);
+    for p in 1..marks.len() {
+        if marks[p] {
+            positions.push(p as u32)?;
+        }
+    }
+    Ok(positions)
+}

@@ -1,0 +1,17 @@
+//! Resolution chains, logs of their clauses, and what a refutation uses of them.
+#![tactic(auto)]
+
+mod axioms;
+mod laws;
+mod log;
+mod numbers;
+mod reach;
+mod work;
+
+pub use axioms::axioms_of;
+pub use laws::{form_law, pushed_law, trimmed_law};
+pub use log::Log;
+pub use work::{Work, resolve_into};
+
+#[cfg(test)]
+mod tests;

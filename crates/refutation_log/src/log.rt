@@ -1,0 +1,195 @@
+//! Logs of steps.
+ghost use Rattle.std.specs.Prelude.{◌≡◌, ◌-◌, ◌<◌, ◌≤◌, ◌^◌, ◌∷◌, [], Some, length, IfOk, OnOk, OnErr, IsTrue, IsSome};
+ghost use Rattle.lk_model.specs.Crossed.{IsCrossed};
+ghost use Rattle.lk_model.specs.Chain.{premises_of, clause_named, after_turns, chain_clause};
+ghost use Rattle.lk_model.specs.Rounds.{is_refutation};
+ghost use Rattle.refutation_log.specs.Derivation.{next_number, clause_of_step, last_clause_of, is_ascending, Extends, IsLog};
+ghost use Rattle.refutation_log.specs.Trimmed.{trimmed, names_positions_below};
+ghost use Rattle.refutation_log.specs.SameClause.{IsSameClause};
+
+use crate::numbers::{kept_steps, new_numbers};
+use crate::reach::marks_of;
+use crate::work::{Work, resolve_into};
+use lk_model::{Crossed, List, Lit, OutOfMemory, Round, Step, Turn};
+use std::alloc::Global;
+use std::marker::Model;
+
+/// Steps that are numbered one after another from a first number on. Each states the clause of its
+/// chain, in order: ascending by variable, the positive literal first.
+#[derive(Drop)]
+pub struct Log {
+    first: u64,
+    steps: Vec<Step>,
+}
+
+impl Model for Log {
+    ghost use Rattle.refutation_log.specs.Derivation.{Derivation, IsLog};
+
+    ghost Value = { Derivation };
+
+    ghost view = { λ l. record { first = l.first; steps = l.steps.items } };
+
+    ghost invariant = { λ l. IsLog l.first l.steps.items };
+}
+
+impl Log {
+    /// The log without a step, whose steps will be numbered from `next`.
+    pub fn new(alloc: Global, next: u64) -> Log
+        ensures first { result.first ≡ next }
+        ensures steps { result.steps ≡ [] }
+    {
+        Log {
+            first: next,
+            steps: Vec::new(alloc),
+        }
+    }
+
+    /// Appends the step with the clause of a chain, and answers its number. The chain must have a
+    /// clause over `over` and the steps of the log, which are numbered above the formula's clauses. On
+    /// an error the log is unchanged.
+    pub fn push_chain(
+        &mut self,
+        over: &Crossed,
+        first: u64,
+        turns: &[Turn],
+    ) -> Result<u64, OutOfMemory>
+        requires crossed { IsCrossed over.now }
+        requires past { length over.now.formula.now.clauses < self.old.first }
+        requires room { next_number self.old < 2 ^ 64 - 1 }
+        requires chain { IsSome (chain_clause (premises_of over.now self.old.steps) first turns.now) }
+        ensures number { IfOk result (λ k. k ≡ next_number self.old) }
+        ensures ok { OnOk result (Extends over.now self.old first turns.now self.new) }
+        ensures err { OnErr result (self.new ≡ self.old) }
+    {
+        let clause = self.clause_of_chain(over, first, turns)?;
+        let number = self.first + self.steps.len() as u64;
+        let step = Step {
+            number,
+            clause: self.copy_of(clause.as_slice())?,
+            first,
+            turns: self.copy_of(turns)?,
+        };
+        self.steps.push(step)?;
+        Ok(number)
+    }
+
+    /// The clause of the last step, in order. There must be a step.
+    pub fn last_clause(&self) -> &[Lit]
+        requires { 0 < length self.now.steps }
+        ensures value { last_clause_of self.now.steps ≡ Some result.now }
+        ensures order { IsTrue (is_ascending result.now) }
+    {
+        self.steps[self.steps.len() - 1].clause.as_slice()
+    }
+
+    /// The clause of the step of a number, in order. There must be such a step.
+    pub fn clause(&self, k: u64) -> &[Lit]
+        requires { IsSome (clause_of_step self.now.steps k) }
+        ensures value { clause_of_step self.now.steps k ≡ Some result.now }
+        ensures order { IsTrue (is_ascending result.now) }
+    {
+        self.steps[(k - self.first) as usize].clause.as_slice()
+    }
+
+    /// All steps.
+    pub fn into_round(self) -> Round
+        ensures steps { result.steps ≡ self.steps }
+        ensures log { IsLog self.first self.steps }
+    {
+        Round {
+            steps: List::from_vec(self.steps),
+        }
+    }
+
+    /// The steps that are reached backwards from the last one, in their order, and numbered from
+    /// `next`. The last clause must be empty. `next` must be at most the log's first number, and
+    /// greater than every position that a chain names.
+    pub fn trim(self, next: u64) -> Result<Round, OutOfMemory>
+        requires whole { IsTrue (is_refutation self.steps) }
+        requires least { next ≤ self.first }
+        requires positions { IsTrue (names_positions_below next self.first self.steps) }
+        ensures steps { IfOk result (λ r. r.steps ≡ trimmed next self.steps) }
+        ensures log { IsLog self.first self.steps }
+    {
+        let alloc = *self.steps.allocator();
+        let marks = marks_of(alloc, 0, self.first, &self.steps)?;
+        let numbers = new_numbers(alloc, &marks.steps, next)?;
+        let steps = kept_steps(alloc, self.steps, self.first, &marks.steps, &numbers)?;
+        Ok(Round { steps })
+    }
+
+    // The clause after the last turn.
+    fn clause_of_chain(
+        &self,
+        over: &Crossed,
+        first: u64,
+        turns: &[Turn],
+    ) -> Result<Work, OutOfMemory>
+        requires crossed { IsCrossed over.now }
+        requires past { length over.now.formula.now.clauses < self.now.first }
+        requires chain { IsSome (chain_clause (premises_of over.now self.now.steps) first turns.now) }
+        ensures { IfOk result (λ w. IsSameClause (Some w) (chain_clause (premises_of over.now self.now.steps) first turns.now)) }
+    {
+        let mut work = self.work_of(over, first)?;
+        for turn in turns {
+            self.take(over, *turn, &mut work)?;
+        }
+        Ok(work)
+    }
+
+    // The clause that a number stands for.
+    fn work_of(&self, over: &Crossed, k: u64) -> Result<Work, OutOfMemory>
+        requires crossed { IsCrossed over.now }
+        requires past { length over.now.formula.now.clauses < self.now.first }
+        requires named { IsSome (clause_named (premises_of over.now self.now.steps) k) }
+        ensures { IfOk result (λ w. IsSameClause (Some w) (clause_named (premises_of over.now self.now.steps) k)) }
+    {
+        let alloc = *self.steps.allocator();
+        if k <= u64::from(over.formula.len()) {
+            let clause = over.clause(alloc, k as u32)?;
+            Work::of_any(alloc, clause.as_slice())
+        } else {
+            Work::of_any(alloc, self.clause(k))
+        }
+    }
+
+    // Takes a turn.
+    fn take(&self, over: &Crossed, turn: Turn, work: &mut Work) -> Result<(), OutOfMemory>
+        requires crossed { IsCrossed over.now }
+        requires past { length over.now.formula.now.clauses < self.now.first }
+        requires goes { IsSome (after_turns (premises_of over.now self.now.steps) work.old (turn ∷ [])) }
+        ensures { OnOk result (IsSameClause (Some work.new) (after_turns (premises_of over.now self.now.steps) work.old (turn ∷ []))) }
+    {
+        if turn.with <= u64::from(over.formula.len()) {
+            let clause = over.clause(*self.steps.allocator(), turn.with as u32)?;
+            resolve_into(work, turn.lit, clause.as_slice())
+        } else {
+            resolve_into(work, turn.lit, self.clause(turn.with))
+        }
+    }
+
+    // A list of the same items.
+    fn copy_of<T: Copy + Drop>(&self, items: &[T]) -> Result<List<T>, OutOfMemory>
+        ensures { IfOk result (λ l. l ≡ items.now) }
+    {
+        let copy = Vec::from_slice(*self.steps.allocator(), items)?;
+        Ok(List::from_vec(copy))
+    }
+}
+
+#[cfg(test)]
+impl Log {
+    /// The number of the first step.
+    pub(crate) fn first(&self) -> u64
+        ensures { result ≡ self.now.first }
+    {
+        self.first
+    }
+
+    /// All steps.
+    pub(crate) fn steps(&self) -> &[Step]
+        ensures { result.now ≡ self.now.steps }
+    {
+        self.steps.as_slice()
+    }
+}

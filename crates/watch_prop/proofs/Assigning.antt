@@ -1,0 +1,336 @@
+-- A literal that is assigned where nothing is forced.
+use Rattle.std.proofs.Common.{◌≡◌, ◌≢◌, ◌∙◌, ℕ, zero, suc, ◌+◌, ◌<◌, ◌≤◌, ◌==◌, ◌++◌, ◌∷◌, [], Bool, true, false, not, cond, ◌&&◌, ◌||◌, List, ℤ, pos, negsuc, Some, None, Option, is_some, IsNone, unwrap_or, option_map, find, length, length-append, take, filter, refl, sym, ap, subst, arith, inl, inr, append_assoc, Vec, vec_capacity}
+use Rattle.std.specs.declared.alloc.Global.{Global}
+use Rattle.std.specs.Option.{option_map_or}
+use Rattle.std.specs.List.{list_all}
+use Rattle.std.specs.Ordering.{int_eq}
+use Rattle.std.proofs.lemmas.Bool.{cases_Bool, eqb-true, eq-eqb, false_from_ne_true}
+use Rattle.std.proofs.lemmas.List.{append-nil, take-append-le, take_all}
+use Rattle.lk_model.specs.Lists.{is_empty}
+use Rattle.lk_model.specs.Literal.{variable, complement, contains, is_literal, is_clause, is_distinct, is_positive}
+use Rattle.lk_model.specs.Assignment.{Assignment, makes_true, satisfies}
+use Rattle.lk_model.proofs.Booleans.{and_true, or_true, or_left, or_right}
+use Rattle.lk_model.proofs.ListTests.{passes_each}
+use Rattle.lk_model.proofs.Ranks.{literal_bounds}
+use Rattle.watch_prop.specs.declared.entry.Entry.{Entry}
+use Rattle.watch_prop.specs.declared.entry.Held.{Held}
+use Rattle.watch_prop.specs.declared.entry.Propagated.{Propagated}
+use Rattle.watch_prop.specs.declared.entry.Propagated.TheVariants.{Quiet, Conflict}
+use Rattle.watch_prop.specs.declared.watching.Watching.{Watching as State}
+use Rattle.watch_prop.specs.Trail.{Path, literals_of, false_in, entry_of, assignment_along, present_level, up_to_level, clause_held, forces, has_reason, may_come, may_follow, is_path, is_trail}
+use Rattle.watch_prop.specs.Watch.{is_upheld}
+use Rattle.watch_prop.specs.declared.watch.Watch.{Watch}
+use Rattle.watch_prop.specs.Watchers.{Watchers}
+use Rattle.watch_prop.specs.Linked.{IsLinked, watch_at}
+use Rattle.watch_prop.specs.Propagation.{Propagation, IsPropagation, GoesOn, assigned, is_false, is_unit, is_unset, is_quiet}
+use Rattle.watch_prop.specs.Watching.{IsState, IsWatching, IsUpheldBelow, Leads, Passes, propagation_of, mark_at}
+use Rattle.watch_prop.proofs.Paths.{comes, last_level, back_there, same_path}
+use Rattle.watch_prop.proofs.Truths.{true_same, same_true, variable_complement, no_sign_twice}
+use Rattle.watch_prop.proofs.Trails.{trail_path, trail_more, propagation_more, not_true}
+use Rattle.watch_prop.proofs.Upheld.{upheld_more}
+use Rattle.watch_prop.proofs.States.{level_more}
+use Rattle.watch_prop.proofs.Passing.{makes_true_along}
+
+-- NOTHING IS FORCED WHERE ALL IS QUIET
+
+none_pass : (p : ℤ → Bool) (c : List ℤ) → ((k : ℤ) → contains c k ≡ true → p k ≡ false) → length (filter p c) ≡ 0
+none_pass p [] h = refl
+none_pass p (l ∷ c) h =
+    rw (h l (or_left (int_eq l l) (contains c l) (same_true l l refl))) (none_pass p c (λ k there. h k (or_right (int_eq k l) (contains c k) there)))
+
+-- just one literal of a clause passes
+one_passes : (p : ℤ → Bool) (c : List ℤ) (l : ℤ) → is_distinct c ≡ true → contains c l ≡ true → p l ≡ true → ((k : ℤ) → contains c k ≡ true → k ≢ l → p k ≡ false)
+    → length (filter p c) ≡ 1
+one_passes p [] l d there pl h = absurd (let f : ⊥ = cc in f)
+one_passes p (m ∷ c) l d there pl h =
+    let both = and_true (not (contains c m)) (is_distinct c) d in
+    elim (cases_Bool (int_eq l m)) [
+      | inl y ↦
+          let same = true_same l m y in
+          let pm : p m ≡ true = subst (λ (k : ℤ). p k ≡ true) same pl in
+          let rest : length (filter p c) ≡ 0 = none_pass p c (λ k in_c. h k (or_right (int_eq k m) (contains c k) in_c)
+          (λ e. (let f : true ≡ false = sym (subst (λ (x : ℤ). contains c x ≡ true) (e ∙ same) in_c) ∙ not_true (contains c m) both.0 in let z : ⊥ = cc in z))) in
+          rw pm (omega (arith, rest))
+      | inr y ↦
+          let in_c : contains c l ≡ true = elim (or_true (int_eq l m) (contains c l) there) [
+            | inl z ↦ absurd (let f : true ≡ false = sym z ∙ y in let q : ⊥ = cc in q)
+            | inr z ↦ z
+          ] in
+          let pm : p m ≡ false = h m (or_left (int_eq m m) (contains c m) (same_true m m refl))
+          (λ e. (let f : true ≡ false = sym (same_true l m (sym e)) ∙ y in let z : ⊥ = cc in z)) in
+          rw pm (one_passes p c l both.1 in_c pl (λ k there. h k (or_right (int_eq k m) (contains c k) there)))
+    ]
+
+unset_false : (φ : Assignment) (k : ℤ) → makes_true φ k ≡ true → is_unset φ k ≡ false
+unset_false φ (pos v) h = at (φ v) h
+  where
+    at : (o : Option Bool) → unwrap_or o false ≡ true → not (is_some o) ≡ false
+    at None h = absurd (let f : ⊥ = cc in f)
+    at (Some b) h = refl
+unset_false φ (negsuc k) h = at (φ (suc k)) h
+  where
+    at : (o : Option Bool) → not (unwrap_or o true) ≡ true → not (is_some o) ≡ false
+    at None h = absurd (let f : ⊥ = cc in f)
+    at (Some b) h = refl
+
+none_true : (φ : Assignment) (c : List ℤ) → ((k : ℤ) → contains c k ≡ true → makes_true φ k ≡ false) → satisfies φ c ≡ false
+none_true φ [] h = refl
+none_true φ (l ∷ c) h = rw (h l (or_left (int_eq l l) (contains c l) (same_true l l refl))) (none_true φ c (λ k there. h k (or_right (int_eq k l) (contains c k) there)))
+
+unset_by_entry : (trail : List Entry) (v : ℕ) → entry_of trail v ≡ None → not (is_some (assignment_along trail v)) ≡ true
+unset_by_entry trail v e = ap (λ (o : Option Entry). not (is_some (option_map (λ (e : Entry). is_positive e.lit) o))) e
+
+not_true_unset : (φ : Assignment) (k : ℤ) → is_unset φ k ≡ true → makes_true φ k ≡ false
+not_true_unset φ k h = false_from_ne_true (makes_true φ k) (λ t. (let f : true ≡ false = sym h ∙ unset_false φ k t in let z : ⊥ = cc in z))
+
+-- a clause that forces an unset literal has one unset literal and no true one
+forces_unit : (vars : ℕ) (trail : List Entry) (c : List ℤ) (l : ℤ) → is_path vars trail ≡ true → is_clause vars c ≡ true → forces c trail l ≡ true → entry_of trail (variable l) ≡ None
+    → is_unit (assignment_along trail) c ≡ true
+forces_unit vars trail c l path is_clause f absent =
+    let φ = assignment_along trail in
+    let both = and_true (contains c l) (list_all (λ k. int_eq k l || contains (literals_of trail) (complement k)) c) f in
+    let clause = and_true (list_all (is_literal vars) c) (is_distinct c) is_clause in
+    let unset : is_unset φ l ≡ true = unset_by_entry trail (variable l) absent in
+    let literal : (k : ℤ) → contains c k ≡ true → is_literal vars k ≡ true = λ k there. passes_each (is_literal vars) c k clause.0 there in
+    let other : (k : ℤ) → contains c k ≡ true → k ≢ l → false_in trail k ≡ true = λ k there n. elim (or_true (int_eq k l) (false_in trail k) (passes_each (λ k. int_eq k l || contains (literals_of trail) (complement k)) c k both.1 there)) [
+      | inl y ↦ absurd (n (true_same k l y))
+      | inr y ↦ y
+    ] in
+    let low : (k : ℤ) → contains c k ≡ true → 0 < variable k = λ k there. (let b = literal_bounds vars k (literal k there) in omega (arith, b.0)) in
+    let set_is : (k : ℤ) → contains c k ≡ true → k ≢ l → is_unset φ k ≡ false = λ k there n.
+    (let low_k = low k there in
+    let t : makes_true φ (complement k) ≡ true = makes_true_along vars trail (complement k) path (omega (arith, low_k, variable_complement k)) ∙ other k there n in
+    subst (λ (v : ℕ). not (is_some (φ v)) ≡ false) (variable_complement k) (unset_false φ (complement k) t)) in
+    let none : (k : ℤ) → contains c k ≡ true → makes_true φ k ≡ false = λ k there. elim (cases_Bool (int_eq k l)) [
+      | inl y ↦ subst (λ (x : ℤ). makes_true φ x ≡ false) (sym (true_same k l y)) (not_true_unset φ l unset)
+      | inr y ↦
+          let n : k ≢ l = λ e. (let g : true ≡ false = sym (same_true k l e) ∙ y in let z : ⊥ = cc in z) in
+          makes_true_along vars trail k path (low k there) ∙ no_sign_twice vars trail k path (low k there) (other k there n)
+    ] in
+    let one : length (filter (is_unset φ) c) ≡ 1 = one_passes (is_unset φ) c l clause.1 both.0 unset set_is in
+    rw (none_true φ c none, eq-eqb (length (filter (is_unset φ) c)) 1 one) refl
+
+-- what holds of each clause holds of the one of a number
+all_held : (q : List ℤ → Bool) (clauses : List Held) (k : ℕ) (c : List ℤ) → list_all (λ (h : Held). q h.lits) clauses ≡ true → clause_held clauses k ≡ Some c → q c ≡ true
+all_held q [] k c h found = absurd (let f : ⊥ = cc in f)
+all_held q (d ∷ clauses) k c h found =
+    let both = and_true (q d.lits) (list_all (λ (h : Held). q h.lits) clauses) h in
+    elim (cases_Bool (d.number == k)) [
+      | inl y ↦
+          let same : Some d.lits ≡ Some c = sym (ap (λ (b : Bool). option_map (λ (c : Held). c.lits) (cond b (Some d) (find (λ (c : Held). c.number == k) clauses))) y) ∙ found in
+          let lits : d.lits ≡ c = cc same in subst (λ (x : List ℤ). q x ≡ true) lits both.0
+      | inr y ↦ all_held q clauses k c both.1
+          (sym (ap (λ (b : Bool). option_map (λ (c : Held). c.lits) (cond b (Some d) (find (λ (c : Held). c.number == k) clauses))) y) ∙ found)
+    ]
+
+pub trail_prefix : (vars : ℕ) (clauses : List Held) (trail more : List Entry) → is_trail vars clauses (trail ++ more) ≡ true → is_trail vars clauses trail ≡ true
+trail_prefix vars clauses trail [] h = subst (λ (t : List Entry). is_trail vars clauses t ≡ true) (append-nil trail) h
+trail_prefix vars clauses trail (e ∷ more) h =
+    let longer = trail_prefix vars clauses (trail ++ e ∷ []) more (subst (λ (t : List Entry). is_trail vars clauses t ≡ true) (sym (append_assoc trail (e ∷ []) more)) h) in
+    (and_true (is_trail vars clauses trail) (may_follow vars clauses trail e) (sym (trail_more vars clauses trail e) ∙ longer)).0
+
+first_follows : (vars : ℕ) (clauses : List Held) (trail : List Entry) (e : Entry) (more : List Entry) → is_trail vars clauses (trail ++ e ∷ more) ≡ true → may_follow vars clauses trail e ≡ true
+first_follows vars clauses trail e more h =
+    let longer = trail_prefix vars clauses (trail ++ e ∷ []) more (subst (λ (t : List Entry). is_trail vars clauses t ≡ true) (sym (append_assoc trail (e ∷ []) more)) h) in
+    (and_true (is_trail vars clauses trail) (may_follow vars clauses trail e) (sym (trail_more vars clauses trail e) ∙ longer)).1
+
+quiet_forces_none : (p : Propagation) (e : Entry) → IsPropagation p → is_quiet (assigned p) p.clauses ≡ true → may_follow p.vars p.clauses p.trail e ≡ true → is_some e.reason ≡ true → ⊥
+quiet_forces_none p e h quiet may forced = at e.reason forced reason
+  where
+    parts : (may_come p.vars p.trail e ≡ true) × (has_reason p.clauses p.trail e ≡ true)
+    parts = and_true (may_come p.vars p.trail e) (has_reason p.clauses p.trail e) may
+
+    reason : option_map_or (λ k. option_map_or (λ c. forces c p.trail e.lit) (clause_held p.clauses k) false) e.reason true ≡ true
+    reason = parts.1
+
+    by_clause : (k : ℕ) (o : Option (List ℤ)) → clause_held p.clauses k ≡ o → option_map_or (λ c. forces c p.trail e.lit) o false ≡ true → ⊥
+    by_clause k None found f = (let z : ⊥ = cc in z)
+    by_clause k (Some c) found f =
+        let q : List ℤ → Bool = λ c. not (is_false (assigned p) c) && not (is_unit (assigned p) c) in
+        let still = all_held q p.clauses k c quiet found in
+        let clause = all_held (λ c. not (is_empty c) && is_clause p.vars c) p.clauses k c h.clauses found in
+        let unit = forces_unit p.vars p.trail c e.lit (trail_path p.vars p.clauses p.trail h.trail) (and_true (not (is_empty c)) (is_clause p.vars c) clause).1 f
+        (comes p.vars p.trail e parts.0).absent in
+        let none = not_true (is_unit (assigned p) c) (and_true (not (is_false (assigned p) c)) (not (is_unit (assigned p) c)) still).1 in
+        let z : true ≡ false = sym unit ∙ none in let y : ⊥ = cc in y
+
+    at : (r : Option ℕ) → is_some r ≡ true → option_map_or (λ k. option_map_or (λ c. forces c p.trail e.lit) (clause_held p.clauses k) false) r true ≡ true → ⊥
+    at None s f = (let z : ⊥ = cc in z)
+    at (Some k) s f = by_clause k (clause_held p.clauses k) refl f
+
+-- so the trail stays
+pub quiet_stays : (p q : Propagation) → IsPropagation p → IsPropagation q → GoesOn p q → is_quiet (assigned p) p.clauses ≡ true → q.trail ≡ p.trail
+quiet_stays p q h h' g quiet = at g.forced g.trail g.levels
+  where
+    at : (forced : List Entry) → q.trail ≡ p.trail ++ forced → list_all (λ (e : Entry). e.level == present_level p.trail && is_some e.reason) forced ≡ true → q.trail ≡ p.trail
+    at [] t levels = t ∙ append-nil p.trail
+    at (e ∷ more) t levels =
+        let whole : is_trail p.vars p.clauses (p.trail ++ e ∷ more) ≡ true =
+        subst (λ (t : List Entry). is_trail p.vars p.clauses t ≡ true) t (subst (λ (n : ℕ). is_trail n p.clauses q.trail ≡ true) g.vars
+        (subst (λ (cs : List Held). is_trail q.vars cs q.trail ≡ true) g.clauses h'.trail)) in
+        let head = and_true (e.level == present_level p.trail && is_some e.reason) _ levels in
+        absurd (quiet_forces_none p e h quiet (first_follows p.vars p.clauses p.trail e more whole) (and_true (e.level == present_level p.trail) (is_some e.reason) head.0).1)
+
+-- and it ends quiet
+pub quiet_done : (p : Propagation) (result : Propagated) (wanted : Type 0) (clauses : List Held) (path : Path) → is_quiet (assigned p) p.clauses ≡ true
+    → p ≡ propagation_of clauses path → Passes clauses path result wanted → wanted
+quiet_done p Quiet wanted clauses path quiet same h = h
+quiet_done p (Conflict k) wanted clauses path quiet same h = absurd (at (clause_held clauses k) refl h)
+  where
+    quiet_there : is_quiet (assigned (propagation_of clauses path)) clauses ≡ true
+    quiet_there = subst (λ (q : Propagation). is_quiet (assigned q) q.clauses ≡ true) same quiet
+
+    at : (o : Option (List ℤ)) → clause_held clauses k ≡ o → option_map_or (is_false (assigned (propagation_of clauses path))) o false ≡ true → ⊥
+    at None found f = (let z : ⊥ = cc in z)
+    at (Some c) found f =
+        let φ = assigned (propagation_of clauses path) in
+        let still = all_held (λ c. not (is_false φ c) && not (is_unit φ c)) clauses k c quiet_there found in
+        let none = not_true (is_false φ c) (and_true (not (is_false φ c)) (not (is_unit φ c)) still).0 in
+        let z : true ≡ false = sym f ∙ none in let y : ⊥ = cc in y
+
+-- A NEW LEVEL
+
+mark_more : (marks : List ℕ) (n level : ℕ) → level < length marks → mark_at (marks ++ n ∷ []) level ≡ mark_at marks level
+mark_more [] n level lt = absurd (omega arith)
+mark_more (m ∷ marks) n zero lt = refl
+mark_more (m ∷ marks) n (suc level) lt = mark_more marks n level (omega arith)
+
+mark_last : (marks : List ℕ) (n : ℕ) → mark_at (marks ++ n ∷ []) (length marks) ≡ n
+mark_last [] n = refl
+mark_last (m ∷ marks) n = mark_last marks n
+
+-- the state with a literal that opens a level, where all was passed on
+pub record Opens (clauses : List Held) (path : Path) (w w' : State) (e : Entry) : Type 0 where
+  pub state : IsState clauses path w
+  pub all_checked : w.checked ≡ length clauses
+  pub all_passed : w.head ≡ length path.entries
+  pub may : may_follow path.vars clauses path.entries e ≡ true
+  pub level : e.level ≡ present_level path.entries + 1
+  pub watches : w'.watches ≡ w.watches
+  pub lists : w'.lists ≡ w.lists
+  pub checked : w'.checked ≡ w.checked
+  pub head : w'.head ≡ w.head
+  pub marks : w'.marks.items ≡ w.marks.items ++ length clauses ∷ []
+  pub capacity : vec_capacity w'.marks ≡ vec_capacity w.marks
+
+opened_below : (clauses : List Held) (path : Path) (w w' : State) (e : Entry) (level : ℕ) → Opens clauses path w w' e → level < e.level → IsUpheldBelow (path.entries ++ e ∷ []) w' level
+opened_below clauses path w w' e level o under = elim (cases_Bool (level == present_level path.entries)) [
+  | inl y ↦
+      let same = eqb-true level (present_level path.entries) y in
+      let trail = path.entries in
+      let up : up_to_level level (trail ++ e ∷ []) ≡ trail = level_more level trail e under ∙ back_there path.vars trail level p (omega (arith, same)) in
+      let mark : mark_at w'.marks.items level ≡ length clauses =
+      ap (λ (ms : List ℕ). mark_at ms level) o.marks ∙ ap (mark_at (w.marks.items ++ length clauses ∷ [])) (same ∙ sym old.marks) ∙ mark_last w.marks.items (length clauses) in
+      record {
+        mark = omega (arith, mark, o.checked, o.all_checked);
+        passed = subst (λ (t : List Entry). length t ≤ w'.head) (sym up) (omega (arith, o.head, o.all_passed));
+        upheld = λ place lt.
+            let u : is_upheld trail (take w.head trail) (watch_at w.watches.items place) ≡ true = old.upheld place (omega (arith, lt, mark, o.all_checked)) in
+            let v : is_upheld trail trail (watch_at w.watches.items place) ≡ true = subst (λ (t : List Entry). is_upheld trail t (watch_at w.watches.items place) ≡ true) (take_all w.head trail (let e = o.all_passed in omega (arith, e))) u in
+            subst (λ (t : List Entry). is_upheld t t (watch_at w'.watches.items place) ≡ true) (sym up)
+            (subst (λ (ws : Vec Watch Global). is_upheld trail trail (watch_at ws.items place) ≡ true) (sym o.watches) v);
+      }
+  | inr y ↦
+      let apart : level ≢ present_level path.entries = λ s. (let f : true ≡ false = sym (eq-eqb level (present_level path.entries) s) ∙ y in let z : ⊥ = cc in z) in
+      let lower : level < present_level path.entries = omega (arith, apart, under, o.level) in
+      let b = old.below level lower in
+      let up = sym (level_more level path.entries e under) in
+      let mark : mark_at w'.marks.items level ≡ mark_at w.marks.items level = ap (λ (ms : List ℕ). mark_at ms level) o.marks ∙ mark_more w.marks.items (length clauses) level (omega (arith, lower, old.marks)) in
+      record {
+        mark = omega (arith, mark, b.mark, o.checked);
+        passed = subst (λ (t : List Entry). length t ≤ w'.head) up (omega (arith, b.passed, o.head));
+        upheld = λ place lt.
+            subst (λ (t : List Entry). is_upheld t t (watch_at w'.watches.items place) ≡ true) up
+            (subst (λ (ws : Vec Watch Global). is_upheld (up_to_level level path.entries) (up_to_level level path.entries) (watch_at ws.items place) ≡ true) (sym o.watches)
+            (b.upheld place (omega (arith, lt, mark))));
+      }
+]
+  where
+    old : IsWatching path.vars clauses path.entries w
+    old = o.state.watching
+
+    p : is_path path.vars path.entries ≡ true
+    p = trail_path path.vars clauses path.entries o.state.held.trail
+
+opened_rising : (marks : List ℕ) (n : ℕ) → ((j k : ℕ) → j < k → k < length marks → mark_at marks j ≤ mark_at marks k) → ((j : ℕ) → j < length marks → mark_at marks j ≤ n)
+    → (j k : ℕ) → j < k → k < length (marks ++ n ∷ []) → mark_at (marks ++ n ∷ []) j ≤ mark_at (marks ++ n ∷ []) k
+opened_rising marks n rising most j k lt within = elim (cases_Bool (k == length marks)) [
+  | inl y ↦
+      let same = eqb-true k (length marks) y in
+      let last : mark_at (marks ++ n ∷ []) k ≡ n = ap (mark_at (marks ++ n ∷ [])) same ∙ mark_last marks n in
+      let under : j < length marks = omega (arith, lt, same) in
+      let here = mark_more marks n j under in
+      let m = most j under in
+      omega (arith, last, here, m)
+  | inr y ↦
+      let long = length-append marks (n ∷ []) in
+      let apart : k ≢ length marks = λ s. (let f : true ≡ false = sym (eq-eqb k (length marks) s) ∙ y in let z : ⊥ = cc in z) in
+      let inside : k < length marks = omega (arith, within, long, apart) in
+      let a = mark_more marks n j (omega (arith, lt, inside)) in
+      let b = mark_more marks n k inside in
+      let r = rising j k lt inside in
+      omega (arith, a, b, r)
+]
+
+pub opened_state : (clauses : List Held) (path path' : Path) (w w' : State) (e : Entry) → Opens clauses path w w' e → path' ≡ record path { entries = path.entries ++ e ∷ [] }
+    → IsState clauses path' w'
+opened_state clauses path path' w w' e o made =
+    let old = o.state.watching in
+    let trail = path.entries in
+    let last = last_level trail e in
+    let long = length-append trail (e ∷ []) in
+    let more = length-append w.marks.items (length clauses ∷ []) in
+    let count : length w'.marks.items ≡ length (w.marks.items ++ length clauses ∷ []) = ap length o.marks in
+    subst (λ (p : Path). IsState clauses p w') (sym made) (record {
+      held = propagation_more (propagation_of clauses path) e o.state.held o.may;
+      watching = record {
+        linked = subst (λ (ws : Vec Watch Global). IsLinked path.vars clauses ws.items w'.lists) (sym o.watches) (subst (λ (ls : Watchers). IsLinked path.vars clauses w.watches.items ls) (sym o.lists) old.linked);
+        checked = omega (arith, o.checked, old.checked);
+        head = omega (arith, o.head, old.head, long);
+        marks = omega (arith, count, more, old.marks, last, o.level);
+        marks_room = omega (arith, o.capacity, old.marks_room);
+        rising = subst (λ (ms : List ℕ). (j k : ℕ) → j < k → k < length ms → mark_at ms j ≤ mark_at ms k) (sym o.marks)
+            (opened_rising w.marks.items (length clauses) old.rising (λ j lt. (let b = old.below j (omega (arith, lt, old.marks)) in omega (arith, b.mark, old.checked))));
+        upheld = λ place lt.
+            subst (λ (ws : Vec Watch Global). is_upheld (trail ++ e ∷ []) (take w'.head (trail ++ e ∷ [])) (watch_at ws.items place) ≡ true) (sym o.watches)
+            (subst (λ (n : ℕ). is_upheld (trail ++ e ∷ []) (take n (trail ++ e ∷ [])) (watch_at w.watches.items place) ≡ true) (sym o.head)
+            (subst (λ (t : List Entry). is_upheld (trail ++ e ∷ []) t (watch_at w.watches.items place) ≡ true) (sym (take-append-le w.head trail (e ∷ []) old.head))
+            (upheld_more trail (e ∷ []) (take w.head trail) (watch_at w.watches.items place) (old.upheld place (omega (arith, lt, o.checked))))));
+        below = λ level lt. opened_below clauses path w w' e level o (omega (arith, lt, last));
+      };
+    })
+
+-- an unset literal may open a level
+pub may_open : (vars : ℕ) (clauses : List Held) (trail : List Entry) (e : Entry) → is_literal vars e.lit ≡ true → entry_of trail (variable e.lit) ≡ None
+    → e.level ≡ present_level trail + 1 → e.reason ≡ None → may_follow vars clauses trail e ≡ true
+may_open vars clauses trail e lit none n reason = rw (lit, none, reason, eq-eqb e.level (present_level trail + 1) n) refl
+
+-- what is known where a literal is assigned: nothing was forced, and all was passed on
+pub record IsReady (clauses : List Held) (path path' : Path) (w' : State) (e : Entry) : Type 0 where
+  pub same : path' ≡ path
+  pub state : IsState clauses path' w'
+  pub checked : w'.checked ≡ length clauses
+  pub head : w'.head ≡ length path'.entries
+  pub may : may_follow path'.vars clauses path'.entries e ≡ true
+
+pub ready : (clauses : List Held) (path path' : Path) (w w' : State) (result : Propagated) (e : Entry) → IsState clauses path w → Leads clauses path path' w w'
+    → Passes clauses path' result ((w'.checked ≡ length clauses) × (w'.head ≡ length path'.entries)) → is_quiet (assigned (propagation_of clauses path)) clauses ≡ true
+    → is_literal path.vars e.lit ≡ true → entry_of path.entries (variable e.lit) ≡ None → e.level ≡ present_level path'.entries + 1 → e.reason ≡ None
+    → IsReady clauses path path' w' e
+ready clauses path path' w w' result e h leads done quiet lit none level reason =
+    let p = propagation_of clauses path in
+    let still : path'.entries ≡ path.entries = quiet_stays p (propagation_of clauses path') h.held leads.state.held leads.goes_on quiet in
+    let same : path' ≡ path = same_path path' path leads.goes_on.vars still in
+    let ends = quiet_done p result ((w'.checked ≡ length clauses) × (w'.head ≡ length path'.entries)) clauses path' quiet (ap (propagation_of clauses) (sym same)) done in
+    record {
+      same = same;
+      state = leads.state;
+      checked = ends.0;
+      head = ends.1;
+      may = may_open path'.vars clauses path'.entries e (subst (λ (q : Path). is_literal q.vars e.lit ≡ true) (sym same) lit)
+          (subst (λ (q : Path). entry_of q.entries (variable e.lit) ≡ None) (sym same) none) level reason;
+    }
+
+pub unset_none : (o : Option Entry) → IsNone (option_map (λ (e : Entry). is_positive e.lit) o) → o ≡ None
+unset_none None h = refl
+unset_none (Some e) h = absurd (let f : ⊥ = cc in f)

@@ -1,0 +1,156 @@
+-- What a propagator holds at the start.
+use Rattle.std.proofs.Common.{◌≡◌, ℕ, zero, suc, ◌<◌, ◌≤◌, Bool, true, false, not, cond, ◌&&◌, ◌==◌, List, [], ◌∷◌, ◌++◌, ◌∙◌, sym, refl, arith, ℤ, pos, negsuc, length, get_or, map, filter, nat_le, nat_lt}
+use Rattle.std.specs.List.{list_all}
+use Rattle.std.specs.Ordering.{int_eq}
+use Rattle.std.proofs.lemmas.Bool.{le-leb, leb-true, eqb-true, eq-eqb, ltb-true, false_from_ne_true}
+use Rattle.lk_model.specs.Lists.{among, is_empty, rises_within}
+use Rattle.lk_model.specs.Literal.{variable, complement, contains, is_literal, is_clause, is_distinct}
+use Rattle.lk_model.specs.Formula.{Cnf, clause_at, is_formula}
+use Rattle.lk_model.specs.Crossed.{Variables, crossed_out}
+use Rattle.lk_model.specs.Limits.{max_vars}
+use Rattle.lk_model.proofs.Booleans.{and_true, or_false, or_left, or_right}
+use Rattle.watch_prop.proofs.Trails.{not_true}
+use Rattle.watch_prop.specs.declared.entry.Held.{Held}
+use Rattle.watch_prop.specs.Propagation.{IsPropagation, numbers_of, are_distinct, may_be_held}
+use Rattle.watch_prop.specs.Trail.{is_trail}
+
+-- CROSSED CLAUSES
+
+all_left : (t p : ℤ → Bool) (c : List ℤ) → list_all t c ≡ true → list_all t (filter p c) ≡ true
+all_left t p [] h = refl
+all_left t p (l ∷ c) h = (let a = and_true (t l) (list_all t c) h in at (p l) a.0 (all_left t p c a.1))
+  where
+    at : (b : Bool) → t l ≡ true → list_all t (filter p c) ≡ true → list_all t (cond b (l ∷ filter p c) (filter p c)) ≡ true
+    at true e rest = rw (e, rest) refl
+    at false e rest = rest
+
+absent_left : (p : ℤ → Bool) (c : List ℤ) (l : ℤ) → contains c l ≡ false → contains (filter p c) l ≡ false
+absent_left p [] l h = refl
+absent_left p (k ∷ c) l h = (let a = or_false (int_eq l k) (contains c l) h in at (p k) a.0 (absent_left p c l a.1))
+  where
+    at : (b : Bool) → int_eq l k ≡ false → contains (filter p c) l ≡ false → contains (cond b (k ∷ filter p c) (filter p c)) l ≡ false
+    at true e rest = rw (e, rest) refl
+    at false e rest = rest
+
+distinct_left : (p : ℤ → Bool) (c : List ℤ) → is_distinct c ≡ true → is_distinct (filter p c) ≡ true
+distinct_left p [] h = refl
+distinct_left p (l ∷ c) h = (let a = and_true (not (contains c l)) (is_distinct c) h in at (p l) (absent_left p c l (not_true (contains c l) a.0)) (distinct_left p c a.1))
+  where
+    at : (b : Bool) → contains (filter p c) l ≡ false → is_distinct (filter p c) ≡ true → is_distinct (cond b (l ∷ filter p c) (filter p c)) ≡ true
+    at true e rest = rw (e, rest) refl
+    at false e rest = rest
+
+crossed_clause : (n : ℕ) (blocked : Variables) (c : List ℤ) → is_clause n c ≡ true → is_clause n (crossed_out blocked c) ≡ true
+crossed_clause n blocked c h =
+    let a = and_true (list_all (is_literal n) c) (is_distinct c) h in
+    rw (all_left (is_literal n) (λ l. not (blocked (variable l))) c a.0, distinct_left (λ l. not (blocked (variable l))) c a.1) refl
+
+clause_of_formula : (F : Cnf) (p : ℕ) → is_formula F ≡ true → is_clause F.vars (clause_at F p) ≡ true
+clause_of_formula F zero h = refl
+clause_of_formula F (suc k) h = at F.clauses k h
+  where
+    at : (cs : List (List ℤ)) (k : ℕ) → list_all (is_clause F.vars) cs ≡ true → is_clause F.vars (get_or cs k []) ≡ true
+    at [] k h = refl
+    at (c ∷ cs) zero h = (and_true (is_clause F.vars c) (list_all (is_clause F.vars) cs) h).0
+    at (c ∷ cs) (suc k) h = at cs k (and_true (is_clause F.vars c) (list_all (is_clause F.vars) cs) h).1
+
+-- the crossed clauses at these positions that are not empty
+abbrev pub crossed_at : Cnf → Variables → List ℕ → List Held
+crossed_at F blocked ps = filter (λ (c : Held). not (is_empty c.lits)) (map (λ p. record { number = p; lits = crossed_out blocked (clause_at F p) }) ps)
+
+pub crossed_are_clauses : (F : Cnf) (blocked : Variables) (ps : List ℕ) → is_formula F ≡ true
+    → list_all (λ (c : Held). not (is_empty c.lits) && is_clause F.vars c.lits) (crossed_at F blocked ps) ≡ true
+crossed_are_clauses F blocked [] h = refl
+crossed_are_clauses F blocked (p ∷ ps) h =
+    at (not (is_empty (crossed_out blocked (clause_at F p)))) refl (crossed_clause F.vars blocked (clause_at F p) (clause_of_formula F p h)) (crossed_are_clauses F blocked ps h)
+  where
+    at : (b : Bool) → not (is_empty (crossed_out blocked (clause_at F p))) ≡ b → is_clause F.vars (crossed_out blocked (clause_at F p)) ≡ true
+        → list_all (λ (c : Held). not (is_empty c.lits) && is_clause F.vars c.lits) (crossed_at F blocked ps) ≡ true
+        → list_all (λ (c : Held). not (is_empty c.lits) && is_clause F.vars c.lits)
+        (cond b (record { number = p; lits = crossed_out blocked (clause_at F p) } ∷ crossed_at F blocked ps) (crossed_at F blocked ps)) ≡ true
+    at true e is rest = rw (e, is, rest) refl
+    at false e is rest = rest
+
+-- no number at or below the bound
+numbers_above : (F : Cnf) (blocked : Variables) (low high : ℕ) (ps : List ℕ) (m : ℕ) → rises_within low high ps ≡ true → m ≤ low → among (numbers_of (crossed_at F blocked ps)) m ≡ false
+numbers_above F blocked low high [] m h le = refl
+numbers_above F blocked low high (p ∷ ps) m h le =
+    let a = and_true (nat_lt low p && nat_le p high) (rises_within p high ps) h in
+    let up = ltb-true low p (and_true (nat_lt low p) (nat_le p high) a.0).0 in
+    at (not (is_empty (crossed_out blocked (clause_at F p)))) (p == m) refl (omega (arith, up, le)) (numbers_above F blocked p high ps m a.1 (omega (arith, up, le)))
+  where
+    at : (b t : Bool) → (p == m) ≡ t → m < p → among (numbers_of (crossed_at F blocked ps)) m ≡ false
+        → among (numbers_of (cond b (record { number = p; lits = crossed_out blocked (clause_at F p) } ∷ crossed_at F blocked ps) (crossed_at F blocked ps))) m ≡ false
+    at true true e lt rest = (let same = eqb-true p m e in absurd (omega (arith, same, lt)))
+    at true false e lt rest = rw (e) rest
+    at false t e lt rest = rest
+
+-- no number beyond the other bound
+pub numbers_below : (F : Cnf) (blocked : Variables) (low high : ℕ) (ps : List ℕ) (m : ℕ) → rises_within low high ps ≡ true → high < m → among (numbers_of (crossed_at F blocked ps)) m ≡ false
+numbers_below F blocked low high [] m h lt = refl
+numbers_below F blocked low high (p ∷ ps) m h lt =
+    let a = and_true (nat_lt low p && nat_le p high) (rises_within p high ps) h in
+    let le = leb-true p high (and_true (nat_lt low p) (nat_le p high) a.0).1 in
+    at (not (is_empty (crossed_out blocked (clause_at F p)))) (p == m) refl (omega (arith, le, lt)) (numbers_below F blocked p high ps m a.1 lt)
+  where
+    at : (b t : Bool) → (p == m) ≡ t → p < m → among (numbers_of (crossed_at F blocked ps)) m ≡ false
+        → among (numbers_of (cond b (record { number = p; lits = crossed_out blocked (clause_at F p) } ∷ crossed_at F blocked ps) (crossed_at F blocked ps))) m ≡ false
+    at true true e lt rest = (let same = eqb-true p m e in absurd (omega (arith, same, lt)))
+    at true false e lt rest = rw (e) rest
+    at false t e lt rest = rest
+
+pub crossed_are_distinct : (F : Cnf) (blocked : Variables) (low high : ℕ) (ps : List ℕ) → rises_within low high ps ≡ true → are_distinct (numbers_of (crossed_at F blocked ps)) ≡ true
+crossed_are_distinct F blocked low high [] h = refl
+crossed_are_distinct F blocked low high (p ∷ ps) h =
+    let a = and_true (nat_lt low p && nat_le p high) (rises_within p high ps) h in
+    at (not (is_empty (crossed_out blocked (clause_at F p)))) (numbers_above F blocked p high ps p a.1 (omega arith)) (crossed_are_distinct F blocked p high ps a.1)
+  where
+    at : (b : Bool) → among (numbers_of (crossed_at F blocked ps)) p ≡ false → are_distinct (numbers_of (crossed_at F blocked ps)) ≡ true
+        → are_distinct (numbers_of (cond b (record { number = p; lits = crossed_out blocked (clause_at F p) } ∷ crossed_at F blocked ps) (crossed_at F blocked ps))) ≡ true
+    at true e rest = rw (e, rest) refl
+    at false e rest = rest
+
+-- A PROPAGATION AT THE START
+
+pub propagation_at_start : (F : Cnf) (blocked : Variables) (ps : List ℕ) → is_formula F ≡ true → F.vars ≤ max_vars → rises_within 0 (length F.clauses) ps ≡ true
+    → IsPropagation (record { vars = F.vars; clauses = crossed_at F blocked ps; trail = [] })
+unfolding is_trail
+propagation_at_start F blocked ps form few part = record {
+  vars = le-leb F.vars max_vars few;
+  clauses = crossed_are_clauses F blocked ps form;
+  numbers = crossed_are_distinct F blocked 0 (length F.clauses) ps part;
+  trail = refl;
+}
+
+-- ONE MORE CLAUSE
+
+pub unit_may_be_held : (vars : ℕ) (l : ℤ) → 0 < variable l → variable l ≤ vars → may_be_held vars (l ∷ []) ≡ true
+unit_may_be_held vars l low high = rw (le-leb 1 (variable l) (omega arith), le-leb (variable l) vars high, apart l low) refl
+  where
+    apart : (l : ℤ) → 0 < variable l → int_eq (complement l) l ≡ false
+    apart (pos zero) low = absurd (omega arith)
+    apart (pos (suc k)) low = refl
+    apart (negsuc k) low = refl
+
+-- ONE CLAUSE AFTER ANOTHER
+
+pub all_middle : {X : Type 0} (p : X → Bool) (xs : List X) (x : X) (ys : List X) → list_all p (xs ++ x ∷ ys) ≡ true → p x ≡ true
+all_middle p [] x ys h = (and_true (p x) (list_all p ys) h).0
+all_middle p (y ∷ xs) x ys h = all_middle p xs x ys (and_true (p y) (list_all p (xs ++ x ∷ ys)) h).1
+
+-- the number of a later clause is not among those before
+pub distinct_middle : (xs : List Held) (x : Held) (ys : List Held) → are_distinct (numbers_of (xs ++ x ∷ ys)) ≡ true → not (among (numbers_of xs) x.number) ≡ true
+distinct_middle [] x ys h = refl
+distinct_middle (y ∷ xs) x ys h =
+    let both = and_true (not (among (numbers_of (xs ++ x ∷ ys)) y.number)) (are_distinct (numbers_of (xs ++ x ∷ ys))) h in
+    let apart : (y.number == x.number) ≡ false = false_from_ne_true (y.number == x.number) (λ e.
+    (let f : true ≡ false = sym (there xs x ys y.number (eqb-true y.number x.number e)) ∙ not_true (among (numbers_of (xs ++ x ∷ ys)) y.number) both.0 in let z : ⊥ = cc in z)) in
+    rw apart (distinct_middle xs x ys both.1)
+  where
+    there : (xs : List Held) (x : Held) (ys : List Held) (n : ℕ) → n ≡ x.number → among (numbers_of (xs ++ x ∷ ys)) n ≡ true
+    there [] x ys n e = or_left (x.number == n) (among (numbers_of ys) n) (eq-eqb x.number n (sym e))
+    there (y ∷ xs) x ys n e = or_right (y.number == n) (among (numbers_of (xs ++ x ∷ ys)) n) (there xs x ys n e)
+
+pub nothing_left : {X : Type 0} (xs : List X) → length xs ≡ 0 → xs ≡ []
+nothing_left [] e = refl
+nothing_left (x ∷ xs) e = absurd (omega (arith, e))

@@ -1,0 +1,118 @@
+-- When all clauses are checked and the whole trail was passed on, nothing is false and nothing is forced.
+use Rattle.std.proofs.Common.{◌≡◌, ◌≢◌, ◌∙◌, ℕ, ◌<◌, ◌==◌, ◌∷◌, [], Bool, true, false, not, ◌&&◌, List, ℤ, Option, is_some, option_map, length, filter, refl, sym, ap, subst, arith, inl, inr}
+use Rattle.std.specs.Ordering.{int_eq}
+use Rattle.std.proofs.lemmas.Bool.{cases_Bool, eqb-true, false_from_ne_true}
+use Rattle.lk_model.specs.Literal.{variable, complement, contains, is_clause, is_positive}
+use Rattle.lk_model.specs.Assignment.{makes_true, satisfies}
+use Rattle.lk_model.proofs.Booleans.{or_true}
+use Rattle.lk_model.proofs.ListTests.{passes_one, passes_each}
+use Rattle.lk_model.proofs.Ranks.{literal_bounds}
+use Rattle.watch_prop.specs.declared.entry.Entry.{Entry}
+use Rattle.watch_prop.specs.declared.entry.Held.{Held}
+use Rattle.watch_prop.specs.declared.watch.Watch.{Watch}
+use Rattle.watch_prop.specs.declared.watching.Watching.{Watching as State}
+use Rattle.watch_prop.specs.Trail.{Path, true_in, false_in, assignment_along, is_path}
+use Rattle.watch_prop.specs.Watch.{is_upheld}
+use Rattle.watch_prop.specs.Linked.{clause_at_place, watch_at}
+use Rattle.watch_prop.specs.declared.entry.Propagated.{Propagated}
+use Rattle.watch_prop.specs.declared.entry.Propagated.TheVariants.{Quiet, Conflict}
+use Rattle.watch_prop.specs.Propagation.{is_false, is_unit, is_quiet, assigned, IsAnswered}
+use Rattle.watch_prop.specs.Watching.{IsState, Passes, propagation_of}
+use Rattle.watch_prop.proofs.Truths.{true_same, false_apart, variable_complement, no_sign_twice}
+use Rattle.std.proofs.lemmas.List.{take_all}
+use Rattle.watch_prop.proofs.Trails.{trail_path, unset_entry_of}
+use Rattle.watch_prop.proofs.Upheld.{free}
+use Rattle.watch_prop.proofs.Demands.{all_from, clause_of, literal_of_clause}
+use Rattle.watch_prop.proofs.Passing.{makes_true_along}
+
+some_pass : (p : ℤ → Bool) (c : List ℤ) (a : ℤ) → contains c a ≡ true → p a ≡ true → 0 < length (filter p c)
+some_pass p [] a there h = absurd (let f : ⊥ = cc in f)
+some_pass p (l ∷ c) a there h = elim (cases_Bool (p l)) [
+  | inl y ↦ rw y (omega arith)
+  | inr y ↦ elim (or_true (int_eq a l) (contains c a) there) [
+    | inl z ↦ absurd (let f : true ≡ false = sym (subst (λ (k : ℤ). p k ≡ true) (true_same a l z) h) ∙ y in let q : ⊥ = cc in q)
+    | inr z ↦ rw y (some_pass p c a z h)
+  ]
+]
+
+-- two different ones that pass are more than one
+two_pass : (p : ℤ → Bool) (c : List ℤ) (a b : ℤ) → contains c a ≡ true → contains c b ≡ true → a ≢ b → p a ≡ true → p b ≡ true → 1 < length (filter p c)
+two_pass p [] a b in_a in_b n pa pb = absurd (let f : ⊥ = cc in f)
+two_pass p (l ∷ c) a b in_a in_b n pa pb = elim (cases_Bool (p l)) [
+  | inl y ↦
+      let some : 0 < length (filter p c) = elim (or_true (int_eq a l) (contains c a) in_a) [
+        | inl z ↦ elim (or_true (int_eq b l) (contains c b) in_b) [
+          | inl x ↦ absurd (n (true_same a l z ∙ sym (true_same b l x)))
+          | inr x ↦ some_pass p c b x pb
+        ]
+        | inr z ↦ some_pass p c a z pa
+      ] in
+      rw y (omega (arith, some))
+  | inr y ↦
+      let later : (k : ℤ) → p k ≡ true → contains (l ∷ c) k ≡ true → contains c k ≡ true = λ k pk there. elim (or_true (int_eq k l) (contains c k) there) [
+        | inl z ↦ absurd (let f : true ≡ false = sym (subst (λ (x : ℤ). p x ≡ true) (true_same k l z) pk) ∙ y in let q : ⊥ = cc in q)
+        | inr z ↦ z
+      ] in
+      rw y (two_pass p c a b (later a pa in_a) (later b pb in_b) n pa pb)
+]
+
+-- A CLAUSE WITH A TRUE LITERAL, OR WITH TWO THAT ARE UNSET
+
+satisfied_quiet : (vars : ℕ) (trail : List Entry) (c : List ℤ) (l : ℤ) → is_path vars trail ≡ true → is_clause vars c ≡ true → contains c l ≡ true → true_in trail l ≡ true
+    → (not (is_false (assignment_along trail) c) && not (is_unit (assignment_along trail) c)) ≡ true
+satisfied_quiet vars trail c l path is_clause there t =
+    let φ = assignment_along trail in
+    let bounds = literal_bounds vars l (literal_of_clause vars c l is_clause there) in
+    let low : 0 < variable l = omega (arith, bounds.0) in
+    let low' : 0 < variable (complement l) = omega (arith, low, variable_complement l) in
+    let sat : satisfies φ c ≡ true = passes_one (makes_true φ) c l there (makes_true_along vars trail l path low ∙ t) in
+    let not_false : is_false φ c ≡ false = false_from_ne_true (is_false φ c) (λ f.
+    (let here : true_in trail (complement l) ≡ true = sym (makes_true_along vars trail (complement l) path low') ∙ passes_each (λ k. makes_true φ (complement k)) c l f there in
+    let z : true ≡ false = sym t ∙ no_sign_twice vars trail l path low here in let q : ⊥ = cc in q)) in
+    rw (not_false, sat) refl
+
+free_quiet : (vars : ℕ) (trail : List Entry) (c : List ℤ) (a b : ℤ) → is_path vars trail ≡ true → is_clause vars c ≡ true → contains c a ≡ true → contains c b ≡ true → a ≢ b
+    → true_in trail a ≡ false → false_in trail a ≡ false → true_in trail b ≡ false → false_in trail b ≡ false
+    → (not (is_false (assignment_along trail) c) && not (is_unit (assignment_along trail) c)) ≡ true
+free_quiet vars trail c a b path is_clause in_a in_b n ta fa tb fb =
+    let φ = assignment_along trail in
+    let bounds = literal_bounds vars a (literal_of_clause vars c a is_clause in_a) in
+    let low : 0 < variable (complement a) = omega (arith, bounds.0, variable_complement a) in
+    let not_false : is_false φ c ≡ false = false_from_ne_true (is_false φ c) (λ f.
+    (let here : true_in trail (complement a) ≡ true = sym (makes_true_along vars trail (complement a) path low) ∙ passes_each (λ k. makes_true φ (complement k)) c a f in_a in
+    let z : true ≡ false = sym here ∙ fa in let q : ⊥ = cc in q)) in
+    let unset : ℤ → Bool = λ l. not (is_some (φ (variable l))) in
+    let none : (l : ℤ) → true_in trail l ≡ false → false_in trail l ≡ false → unset l ≡ true = λ l t f. ap (λ (o : Option Entry). not (is_some (option_map (λ (e : Entry). is_positive e.lit) o))) (unset_entry_of trail l t f) in
+    let many = two_pass unset c a b in_a in_b n (none a ta fa) (none b tb fb) in
+    let not_one : (length (filter unset c) == 1) ≡ false = false_from_ne_true (length (filter unset c) == 1) (λ e. (let one = eqb-true (length (filter unset c)) 1 e in omega (arith, many, one))) in
+    rw (not_false, not_one) (at (satisfies φ c))
+  where
+    at : (s : Bool) → not (not s && false) ≡ true
+    at true = refl
+    at false = refl
+
+upheld_quiet : (vars : ℕ) (trail : List Entry) (c : List ℤ) (x : Watch) → is_path vars trail ≡ true → is_clause vars c ≡ true → contains c x.first ≡ true → contains c x.second ≡ true
+    → is_upheld trail trail x ≡ true → (not (is_false (assignment_along trail) c) && not (is_unit (assignment_along trail) c)) ≡ true
+upheld_quiet vars trail c x path is_clause in_first in_second h = elim (cases_Bool (true_in trail x.first)) [
+  | inl a ↦ satisfied_quiet vars trail c x.first path is_clause in_first a
+  | inr a ↦ elim (cases_Bool (true_in trail x.second)) [
+    | inl b ↦ satisfied_quiet vars trail c x.second path is_clause in_second b
+    | inr b ↦ (let f = free trail trail x h a b in free_quiet vars trail c x.first x.second path is_clause in_first in_second (false_apart x.first x.second f.two) a f.first b f.second)
+  ]
+]
+
+pub state_quiet : (clauses : List Held) (path : Path) (w : State) → IsState clauses path w → w.checked ≡ length clauses → w.head ≡ length path.entries
+    → is_quiet (assigned (propagation_of clauses path)) clauses ≡ true
+state_quiet clauses path w h checked head = all_from _ clauses (record { number = 0; lits = [] }) (λ i lt.
+    let c = (clause_at_place clauses i).lits in
+    let x = watch_at w.watches.items i in
+    let watched = h.watching.linked.watched i lt in
+    let up : is_upheld path.entries path.entries x ≡ true =
+    subst (λ (t : List Entry). is_upheld path.entries t x ≡ true) (take_all w.head path.entries (omega (arith, head))) (h.watching.upheld i (omega (arith, lt, checked))) in
+    upheld_quiet path.vars path.entries c x (trail_path path.vars clauses path.entries h.held.trail) (clause_of clauses path w i h lt) watched.first watched.second up)
+
+-- what a propagation answers
+pub answer_of : (clauses : List Held) (path : Path) (w : State) (result : Propagated) → IsState clauses path w → w.checked ≡ length clauses
+    → Passes clauses path result (w.head ≡ length path.entries) → IsAnswered (propagation_of clauses path) result
+answer_of clauses path w Quiet h checked done = state_quiet clauses path w h checked done
+answer_of clauses path w (Conflict k) h checked done = done

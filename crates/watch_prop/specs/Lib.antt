@@ -1,0 +1,9 @@
+pub mod Trail
+pub mod KeptTrail
+pub mod Watch
+pub mod Watchers
+pub mod KeptWatchers
+pub mod Propagation
+pub mod Linked
+pub mod Watching
+pub mod KeptPropagator

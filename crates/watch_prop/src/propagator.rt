@@ -1,0 +1,209 @@
+//! Propagators.
+ghost use Rattle.std.specs.Prelude.{◌≡◌, ◌<◌, ◌≤◌, [], length, not, ◌&&◌, IfOk, OnOk, OnErr, IsTrue, IsNone};
+ghost use Rattle.lk_model.specs.Lists.{among, is_empty};
+ghost use Rattle.lk_model.specs.Literal.{variable, is_literal, is_clause};
+ghost use Rattle.lk_model.specs.Crossed.{IsCrossed};
+ghost use Rattle.watch_prop.specs.Trail.{literals_of, level_of, reason_of, present_level};
+ghost use Rattle.watch_prop.specs.Propagation.{Propagation, IsPropagation, assigned, numbers_of, crossed_clauses, is_quiet, IsAnswered, GoesOn, with_held, with_assigned, back_at, may_be_held};
+
+use crate::entry::{Held, Propagated};
+use crate::trail::Trail;
+use crate::watch::Watch;
+use crate::watch_lists::WatchLists;
+use crate::watching::{Watching, propagate};
+use lk_model::{Crossed, List, Lit, OutOfMemory};
+use std::alloc::Global;
+use std::marker::Model;
+
+/// Clauses with numbers over the variables from 1 to n, and a trail: the literals that are true, in the
+/// order in which they became true, each with its level and its reason. A literal was assigned, which
+/// opened its level, or has a reason: the number of a clause that holds it and whose other literals are
+/// all complements of earlier literals of the trail. Level 0 comes before the first assigned literal.
+#[derive(Drop)]
+pub struct Propagator {
+    clauses: Vec<Held>,
+    trail: Trail,
+    watching: Watching,
+}
+
+impl Model for Propagator {
+    ghost use Rattle.watch_prop.specs.Propagation.{Propagation};
+
+    ghost Value = { Propagation };
+
+    ghost use Rattle.watch_prop.specs.KeptPropagator.{propagator_seen, IsKeptWhole};
+
+    ghost view = { propagator_seen };
+
+    ghost invariant = { IsKeptWhole };
+}
+
+impl Propagator {
+    /// The non-empty crossed clauses of the part, each with its position as its number, and an empty
+    /// trail.
+    pub fn new(alloc: Global, over: &Crossed) -> Result<Propagator, OutOfMemory>
+        requires { IsCrossed over.now }
+        ensures vars { IfOk result (λ p. p.vars ≡ over.now.formula.now.vars) }
+        ensures clauses { IfOk result (λ p. p.clauses ≡ crossed_clauses over.now) }
+        ensures trail { IfOk result (λ p. p.trail ≡ []) }
+    {
+        let clauses = clauses_of(alloc, over)?;
+        let mut propagator = Propagator::without_clauses(alloc, over.formula.vars())?;
+        for held in clauses {
+            propagator.hold(held.number, held.lits)?;
+        }
+        Ok(propagator)
+    }
+
+    /// Holds one more clause, which is not empty and has no variable twice, under a number that no
+    /// clause has yet. The trail stays. After an error the propagator is as it was.
+    pub fn add(&mut self, number: u64, lits: &[Lit]) -> Result<(), OutOfMemory>
+        requires clause { IsTrue (may_be_held self.old.vars lits.now) }
+        requires fresh { IsTrue (not (among (numbers_of self.old.clauses) number)) }
+        ensures ok { OnOk result (self.new ≡ with_held self.old number lits.now) }
+        ensures err { OnErr result (self.new ≡ self.old) }
+    {
+        let copy = Vec::from_slice(*self.clauses.allocator(), lits)?;
+        self.hold(number, List::from_vec(copy))
+    }
+
+    /// Makes an unset literal true, at a new level, where no clause is false or forces a literal.
+    pub fn assign(&mut self, l: Lit)
+        requires within { IsTrue (is_literal self.old.vars l) }
+        requires unset { IsNone (assigned self.old (variable l)) }
+        requires quiet { IsTrue (is_quiet (assigned self.old) self.old.clauses) }
+        ensures { self.new ≡ with_assigned self.old l }
+    {
+        // Forces nothing, and passes on what is left: below the present level nothing is left.
+        let _quiet = propagate(&self.clauses, &mut self.trail, &mut self.watching);
+        let level = self.trail.level() + 1;
+        self.trail.put(l, level, None);
+        self.watching.marks.push_reserved(self.clauses.len());
+    }
+
+    /// Unit propagation: makes literals true at the present level that a clause forces, with that clause
+    /// as the reason, until no clause forces one or a clause is false.
+    pub fn propagate(&mut self) -> Propagated
+        ensures goes_on { GoesOn self.old self.new }
+        ensures answer { IsAnswered self.new result }
+    {
+        propagate(&self.clauses, &mut self.trail, &mut self.watching)
+    }
+
+    /// Takes back what came above a level, at most the present one.
+    pub fn retract(&mut self, level: u32)
+        requires { level ≤ present_level self.old.trail }
+        ensures { self.new ≡ back_at self.old level }
+    {
+        let place = level as usize;
+        if place < self.watching.marks.len() {
+            self.watching.checked = self.watching.marks[place];
+            self.watching.marks.truncate(place);
+            self.trail.retract(level);
+            self.watching.head = self.trail.len();
+        }
+    }
+
+    /// The true literals in the order in which they came.
+    pub fn trail(&self) -> &[Lit]
+        ensures value { result.now ≡ literals_of self.now.trail }
+        ensures held { IsPropagation self.now }
+    {
+        self.trail.lits()
+    }
+
+    /// The value of a variable, if it is set.
+    pub fn value(&self, v: u32) -> Option<bool>
+        requires first { 0 < v }
+        requires last { v ≤ self.now.vars }
+        ensures { result ≡ assigned self.now v }
+    {
+        self.trail.entry(v).map(|entry| entry.lit.positive())
+    }
+
+    /// The level at which a variable was set, if it was.
+    pub fn level(&self, v: u32) -> Option<u32>
+        requires first { 0 < v }
+        requires last { v ≤ self.now.vars }
+        ensures { result ≡ level_of self.now.trail v }
+    {
+        self.trail.entry(v).map(|entry| entry.level)
+    }
+
+    /// The number of the clause that forced the value of a variable, if one did.
+    pub fn reason(&self, v: u32) -> Option<u64>
+        requires first { 0 < v }
+        requires last { v ≤ self.now.vars }
+        ensures { result ≡ reason_of self.now.trail v }
+    {
+        self.trail.entry(v).and_then(|entry| entry.reason)
+    }
+
+    // The propagator without a clause.
+    fn without_clauses(alloc: Global, n: u32) -> Result<Propagator, OutOfMemory>
+        requires { n ≤ 1000000 }
+        ensures vars { IfOk result (λ p. p.vars ≡ n) }
+        ensures clauses { IfOk result (λ p. p.clauses ≡ []) }
+        ensures trail { IfOk result (λ p. p.trail ≡ []) }
+    {
+        Ok(Propagator {
+            clauses: Vec::new(alloc),
+            trail: Trail::new(alloc, n as usize)?,
+            watching: Watching {
+                watches: Vec::new(alloc),
+                lists: WatchLists::new(alloc, n)?,
+                checked: 0,
+                head: 0,
+                marks: Vec::with_capacity(alloc, n as usize)?,
+            },
+        })
+    }
+
+    // Holds one more clause. All room is made before anything changes.
+    fn hold(&mut self, number: u64, lits: List<Lit>) -> Result<(), OutOfMemory>
+        requires clause { IsTrue (not (is_empty lits) && is_clause self.old.vars lits) }
+        requires fresh { IsTrue (not (among (numbers_of self.old.clauses) number)) }
+        ensures ok { OnOk result (self.new ≡ with_held self.old number lits) }
+        ensures err { OnErr result (self.new ≡ self.old) }
+    {
+        self.clauses.reserve(1)?;
+        self.watching.watches.reserve(1)?;
+        let Watch {
+            first,
+            second,
+            from,
+        } = Watch::of(lits.as_slice());
+        self.watching.lists.hold(
+            self.clauses.len(),
+            lits.as_slice(),
+            Watch {
+                first,
+                second,
+                from,
+            },
+        )?;
+        self.watching.watches.push_reserved(Watch {
+            first,
+            second,
+            from,
+        });
+        self.clauses.push_reserved(Held { number, lits });
+        Ok(())
+    }
+}
+
+// The non-empty crossed clauses of the part, each with its position as its number.
+fn clauses_of(alloc: Global, over: &Crossed) -> Result<Vec<Held>, OutOfMemory>
+    requires { IsCrossed over.now }
+    ensures { IfOk result (λ v. v.items ≡ crossed_clauses over.now) }
+{
+    let mut clauses = Vec::new(alloc);
+    for p in over.part {
+        let lits = over.clause(alloc, *p)?;
+        if lits.len() > 0 {
+            let number = u64::from(*p);
+            clauses.push(Held { number, lits })?;
+        }
+    }
+    Ok(clauses)
+}
