@@ -5,8 +5,8 @@ use Rattle.std.proofs.lemmas.Bool.{eqb-true, eq-eqb}
 use Rattle.std.proofs.lemmas.List.{length-map, length-replicate}
 use Rattle.std.proofs.lemmas.List.FromFn.{length-range_with_len}
 use Rattle.lk_model.specs.Lists.{among}
-use Rattle.lk_model.specs.Literal.{variable}
-use Rattle.lk_model.specs.Formula.{Cnf, is_formula, clause_at}
+use Rattle.lk_model.specs.Formulas.Literal.{variable}
+use Rattle.lk_model.specs.Formulas.Formula.{Cnf, is_formula, clause_at}
 use Rattle.lk_model.proofs.Booleans.{or_true, or_left, or_right}
 use Rattle.lk_model.proofs.Founds.{in_range}
 use Rattle.lk_model.proofs.Variables.{variable_bound}

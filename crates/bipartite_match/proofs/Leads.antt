@@ -6,7 +6,7 @@ use Rattle.std.proofs.lemmas.List.{length-set, map-append}
 use Rattle.std.proofs.lemmas.List.Sums.{sum_by-set}
 use Rattle.std.proofs.lemmas.List.FromFn.{length-range_with_len}
 use Rattle.lk_model.specs.Lists.{among}
-use Rattle.lk_model.specs.Formula.{Cnf}
+use Rattle.lk_model.specs.Formulas.Formula.{Cnf}
 use Rattle.lk_model.proofs.Counting.{Differ-range, no_more, among-range}
 use Rattle.lk_model.proofs.Founds.{in_range}
 use Rattle.bipartite_match.specs.Matchings.{joins}

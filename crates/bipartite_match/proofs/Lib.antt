@@ -8,4 +8,3 @@ pub mod Begins
 pub mod Maximal
 pub mod Rounds
 pub mod Reaching
-pub mod WholeParts

@@ -2,9 +2,9 @@
 use Rattle.std.proofs.Common.{◌≡◌, ◌≢◌, ℕ, zero, suc, ◌-◌, ◌<◌, ◌≤◌, true, ◌==◌, List, [], ◌∷◌, length, get_or, refl, sym, ◌∙◌, subst, arith, inl, inr, IsTrue, ℤ, pos}
 use Rattle.std.proofs.lemmas.Bool.{eqb-true, eq-eqb}
 use Rattle.std.proofs.lemmas.List.{get_or_default}
-use Rattle.lk_model.specs.Literal.{variable, mentions}
-use Rattle.lk_model.specs.Formula.{Cnf, clause_at, IsWithinLimits}
-use Rattle.lk_model.specs.Lean.{are_positions}
+use Rattle.lk_model.specs.Formulas.Literal.{variable, mentions}
+use Rattle.lk_model.specs.Formulas.Formula.{Cnf, clause_at, IsWithinLimits}
+use Rattle.lk_model.specs.Formulas.Lean.{are_positions}
 use Rattle.lk_model.proofs.Booleans.{or_true, or_left, or_right}
 use Rattle.bipartite_match.specs.Matchings.{joins}
 use Rattle.bipartite_match.proofs.Numbers.{rising_at, rising_length}

@@ -3,8 +3,8 @@ use Rattle.std.proofs.Common.{◌≡◌, ◌≢◌, ℕ, ◌-◌, ◌<◌, ◌�
 use Rattle.std.specs.List.{range_with_len}
 use Rattle.std.proofs.lemmas.Bool.{eqb-true, eq-eqb}
 use Rattle.lk_model.specs.Lists.{among}
-use Rattle.lk_model.specs.Formula.{Cnf}
-use Rattle.lk_model.specs.Lean.{are_positions}
+use Rattle.lk_model.specs.Formulas.Formula.{Cnf}
+use Rattle.lk_model.specs.Formulas.Lean.{are_positions}
 use Rattle.lk_model.proofs.Counting.{Differ-filter, Differ-range, no_more, in_filter, from_filter, among-range}
 use Rattle.bipartite_match.specs.declared.matching.Matching.{Matching}
 use Rattle.bipartite_match.specs.Matchings.{IsMatching, pair_count, joins}

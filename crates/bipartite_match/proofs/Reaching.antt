@@ -4,9 +4,9 @@ use Rattle.std.proofs.Math.ListN.{get_or-map}
 use Rattle.std.proofs.lemmas.Bool.{le-leb, lt-ltb, eqb-true, eq-eqb}
 use Rattle.std.proofs.lemmas.List.{length-map}
 use Rattle.lk_model.specs.Lists.{among, rises_within}
-use Rattle.lk_model.specs.Literal.{mentions}
-use Rattle.lk_model.specs.Formula.{Cnf, is_formula, IsWithinLimits, clause_at, variable_occurs}
-use Rattle.lk_model.specs.Lean.{are_positions}
+use Rattle.lk_model.specs.Formulas.Literal.{mentions}
+use Rattle.lk_model.specs.Formulas.Formula.{Cnf, is_formula, IsWithinLimits, clause_at, variable_occurs}
+use Rattle.lk_model.specs.Formulas.Lean.{are_positions}
 use Rattle.lk_model.proofs.Booleans.{or_true, or_left, or_right}
 use Rattle.lk_model.proofs.Rising.{rises, rises_from}
 use Rattle.lk_model.proofs.Variables.{variable_bound, occurs}

@@ -3,7 +3,7 @@ use Rattle.std.proofs.Common.{◌≡◌, ◌≢◌, ℕ, ◌+◌, ◌-◌, ◌<�
 use Rattle.std.proofs.Math.ListN.{set}
 use Rattle.std.proofs.lemmas.Bool.{eqb-true, eq-eqb}
 use Rattle.std.proofs.lemmas.List.{length-set}
-use Rattle.lk_model.specs.Formula.{Cnf}
+use Rattle.lk_model.specs.Formulas.Formula.{Cnf}
 use Rattle.bipartite_match.specs.Matchings.{joins}
 use Rattle.bipartite_match.specs.Walks.{Reaches, along}
 use Rattle.bipartite_match.specs.Pairing.{Pairing, IsPairing}

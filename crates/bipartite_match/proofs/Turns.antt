@@ -4,7 +4,7 @@ use Rattle.std.proofs.Math.ListN.{set}
 use Rattle.std.proofs.lemmas.Bool.{eqb-true, eq-eqb}
 use Rattle.std.proofs.lemmas.List.{length-set, get_or_push, get_or_append_left}
 use Rattle.std.proofs.lemmas.List.Sums.{sum_by-set}
-use Rattle.lk_model.specs.Formula.{Cnf, is_formula}
+use Rattle.lk_model.specs.Formulas.Formula.{Cnf, is_formula}
 use Rattle.lk_model.proofs.Variables.{variable_bound}
 use Rattle.bipartite_match.specs.Matchings.{joins}
 use Rattle.bipartite_match.specs.Pairing.{Pairing, IsPairing, count_of, with_pair}

@@ -5,11 +5,7 @@
 mod matching;
 mod mates;
 mod paths;
-#[cfg(test)]
-mod plain;
 mod search;
-#[cfg(test)]
-mod tests;
 mod walk;
 
 pub use matching::{Matching, maximum};

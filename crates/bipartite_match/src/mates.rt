@@ -1,6 +1,6 @@
 //! Matchings by the indices of a part.
 ghost use Rattle.std.specs.Prelude.{◌≡◌, ◌<◌, ◌≤◌, [], ℕ, List, length, slice_index, replicate, map, IfOk};
-ghost use Rattle.lk_model.specs.Formula.{Cnf};
+ghost use Rattle.lk_model.specs.Formulas.Formula.{Cnf};
 ghost use Rattle.bipartite_match.specs.Pairing.{pairing_of, position_of, with_pair};
 ghost use Rattle.bipartite_match.specs.Found.{found_of};
 ghost use Rattle.bipartite_match.specs.Turned.{HasWalk, TurnsWalk, HasPath, TurnsPath, indices_of};

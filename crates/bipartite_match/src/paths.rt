@@ -1,8 +1,8 @@
 //! Walks of a round that share no clause, by a search in depth along the layers.
 ghost use Rattle.std.specs.Prelude.{◌≡◌, ◌+◌, ◌-◌, ◌<◌, ◌≤◌, ◌⊎◌, ◌++◌, ◌∷◌, [], ℕ, ℤ, pos, length, slice_index, slice_index_or, slice_set, OnOk, IfOk, IfSome, IsTrue, ◌↔◌};
-ghost use Rattle.lk_model.specs.Literal.{is_clause, variable};
-ghost use Rattle.lk_model.specs.Formula.{is_formula};
-ghost use Rattle.lk_model.specs.Lean.{are_positions};
+ghost use Rattle.lk_model.specs.Formulas.Literal.{is_clause, variable};
+ghost use Rattle.lk_model.specs.Formulas.Formula.{is_formula};
+ghost use Rattle.lk_model.specs.Formulas.Lean.{are_positions};
 ghost use Rattle.bipartite_match.specs.Pairing.{pairing_of, count_of, IsPairing};
 ghost use Rattle.bipartite_match.specs.Turned.{EndsAt, indices_of, LeadsOn};
 

@@ -1,6 +1,6 @@
 //! What alternating walks reach.
 ghost use Rattle.std.specs.Prelude.{◌≡◌, ◌≢◌, ◌+◌, ◌-◌, ◌≤◌, ℕ, length, slice_index, map, IfOk, IsTrue};
-ghost use Rattle.lk_model.specs.Lean.{are_positions};
+ghost use Rattle.lk_model.specs.Formulas.Lean.{are_positions};
 ghost use Rattle.bipartite_match.specs.Matchings.{IsMaximum};
 ghost use Rattle.bipartite_match.specs.Walks.{IsReached};
 ghost use Rattle.bipartite_match.specs.Found.{kept_of, rank_of};

@@ -2,10 +2,10 @@
 use Rattle.std.proofs.Common.{◌≡◌, ◌+◌, ◌<◌, ◌≤◌, ◌∙◌, Bool, true, false, List, [], length, refl, sym, ap, subst, arith, ℤ, Some, None, ◌⊎◌, inl, inr}
 use Rattle.std.specs.Prelude.{nat_le}
 use Rattle.std.proofs.lemmas.Bool.{leb-true}
-use Rattle.lk_model.specs.Lines.{Word}
+use Rattle.lk_model.specs.Texts.Lines.{Word}
 use Rattle.lk_model.specs.Limits.{max_vars, max_clauses}
-use Rattle.lk_model.specs.Formula.{Cnf, literal_count, with_clause}
-use Rattle.lk_model.specs.Growing.{Growing}
+use Rattle.lk_model.specs.Formulas.Formula.{Cnf, literal_count, with_clause}
+use Rattle.lk_model.specs.Held.Growing.{Growing}
 use Rattle.lk_model.proofs.Booleans.{and_true}
 use Rattle.lk_model.proofs.Rising.{rising_count}
 use Rattle.cert_text.specs.Drafts.{IsDraft, NextClause}

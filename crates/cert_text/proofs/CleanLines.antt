@@ -6,18 +6,18 @@ use Rattle.std.specs.Fmt.{decimal, signed_decimal}
 use Rattle.std.specs.Char.{is_ascii_digit}
 use Rattle.std.proofs.lemmas.Bool.{cases_Bool, eqb-true, leb-true, and_from}
 use Rattle.std.proofs.lemmas.List.Folds.{list_all-append}
-use Rattle.lk_model.specs.Lines.{Word}
+use Rattle.lk_model.specs.Texts.Lines.{Word}
 use Rattle.lk_model.specs.Lists.{is_between, rises_within}
-use Rattle.lk_model.specs.Literal.{variable, is_literal, is_distinct, is_clause}
-use Rattle.lk_model.specs.PlainText.{ended, literal_words}
-use Rattle.lk_model.specs.Text.{pair_line, document_lines}
-use Rattle.lk_model.specs.Form.{is_pair, is_in_form}
+use Rattle.lk_model.specs.Formulas.Literal.{variable, is_literal, is_distinct, is_clause}
+use Rattle.lk_model.specs.Texts.PlainText.{ended, literal_words}
+use Rattle.lk_model.specs.Documents.Text.{pair_line, document_lines}
+use Rattle.lk_model.specs.Documents.Form.{is_pair, is_in_form}
 use Rattle.lk_model.specs.declared.document.Pair.{Pair}
 use Rattle.lk_model.specs.declared.document.Document.{Document}
 use Rattle.lk_model.proofs.Booleans.{and_true}
 use Rattle.lk_model.proofs.Rising.{rises, rising_count}
 use Rattle.lk_text.specs.Cutting.{is_one_line}
-use Rattle.lk_model.specs.Built.{IsBuilt}
+use Rattle.cert_text.specs.Built.{IsBuilt}
 use Rattle.cert_text.specs.Fields.{has_no_space}
 use Rattle.cert_text.specs.Drafts.{IsDraft, lines_read, front_lines, size_line, keep_line, set_line, order_line, problem_line}
 use Rattle.cert_text.specs.declared.draft.Draft.{Draft}
@@ -153,7 +153,7 @@ clean_all d h =
 -- the lines that were read
 pub clean_read : (d : Draft) → IsDraft d → are_clean (lines_read d) ≡ true
 clean_read d h =
-    let behind = filled_lines d d.stage in
+    let behind = filled_lines d d.due in
     (and_true (are_clean (lines_read d)) (are_clean behind.0)
     (sym (list_all-append is_clean_line (lines_read d) behind.0) ∙ ap are_clean (sym behind.1) ∙ clean_all (filled d) (filled_form d h))).0
 

@@ -6,9 +6,9 @@ use Rattle.std.proofs.lemmas.List.{append_cancel_right}
 use Rattle.std.proofs.lemmas.List.Folds.{list_all-append}
 use Rattle.std.proofs.lemmas.List.Splits.{join_with_byte-slice_split}
 use Rattle.lk_model.specs.Lists.{is_empty}
-use Rattle.lk_model.specs.Lines.{Word}
-use Rattle.lk_model.specs.PlainText.{line}
-use Rattle.lk_model.specs.Reading.{cut_lines}
+use Rattle.lk_model.specs.Texts.Lines.{Word}
+use Rattle.lk_model.specs.Texts.PlainText.{line}
+use Rattle.lk_model.specs.Documents.Reading.{cut_lines}
 use Rattle.lk_model.proofs.Booleans.{and_true}
 use Rattle.lk_text.specs.Cutting.{is_one_line}
 use Rattle.cert_text.specs.Drafts.{fields}

@@ -6,20 +6,20 @@ use Rattle.std.proofs.lemmas.Bool.{and_from, leb-true}
 use Rattle.std.proofs.lemmas.List.{append-nil}
 use Rattle.std.proofs.lemmas.List.Sums.{sum_by-append, sum_by-cons}
 use Rattle.std.proofs.lemmas.List.Folds.{list_all-append}
-use Rattle.lk_model.specs.Lines.{Word}
+use Rattle.lk_model.specs.Texts.Lines.{Word}
 use Rattle.lk_model.specs.Lists.{rises_within}
 use Rattle.lk_model.specs.Limits.{max_vars, max_clauses, max_literals}
-use Rattle.lk_model.specs.Literal.{variable, is_literal, is_clause}
-use Rattle.lk_model.specs.Formula.{with_clause}
-use Rattle.lk_model.specs.PlainText.{literal_words}
-use Rattle.lk_model.specs.Text.{pair_line}
-use Rattle.lk_model.specs.Form.{is_pair}
+use Rattle.lk_model.specs.Formulas.Literal.{variable, is_literal, is_clause}
+use Rattle.lk_model.specs.Formulas.Formula.{with_clause}
+use Rattle.lk_model.specs.Texts.PlainText.{literal_words}
+use Rattle.lk_model.specs.Documents.Text.{pair_line}
+use Rattle.lk_model.specs.Documents.Form.{is_pair}
 use Rattle.lk_model.specs.declared.document.Pair.{Pair}
 use Rattle.lk_model.proofs.Booleans.{and_true}
 use Rattle.cert_text.specs.Drafts.{IsDraft, IsWhole, IsNextAt, NextPair, NextClause, lines_before, size_line, keep_line, set_line, front_lines, problem_line}
 use Rattle.cert_text.specs.declared.draft.Draft.{Draft}
-use Rattle.cert_text.specs.declared.draft.Stage.{Stage}
-use Rattle.cert_text.specs.declared.draft.Stage.TheVariants.{Class, Sizes, Keep, Set, Order, Pairs, Clauses}
+use Rattle.cert_text.specs.declared.draft.LineDue.{LineDue}
+use Rattle.cert_text.specs.declared.draft.LineDue.TheVariants.{Format, Sizes, Keep, Set, Order, Pairs, Clauses}
 use Rattle.cert_text.proofs.Spelled.{cons_parts, same_number, same_rising, same_set, same_ended, Further, further_pairs, further_clauses}
 use Rattle.cert_text.proofs.WholeDrafts.{back_lines}
 
@@ -112,7 +112,7 @@ more_clauses w d more g h s e =
     (subst (λ (n : ℕ). list_all (is_clause n) d.texts.clauses ≡ true) h.texts_vars h.formula)
     (subst (λ (n : ℕ). list_all (is_clause n) w.texts.clauses ≡ true) (g.texts_vars ∙ s.vars) g.formula) e
 
--- the whole draft at the stage of the pairs
+-- the whole draft where a pair line is due
 front_at_pairs : (w d : Draft) (more : List (List Word)) → IsDraft w → IsDraft d → front_lines w ++ back_lines w ≡ lines_before Pairs d ++ more
     → SameFront w d (map pair_line d.pairs ++ more)
 front_at_pairs w d more g h e = same_front w d (map pair_line d.pairs ++ more) g h (e ∙ append_assoc (front_lines d) (map pair_line d.pairs) more)
@@ -133,14 +133,14 @@ same_clauses w d more g h e =
 
 -- THE NEXT DRAFT
 
-abbrev Next : Stage → Draft → List Word → Type 0
+abbrev Next : LineDue → Draft → List Word → Type 0
 Next s d words = (next : Draft) × IsNextAt s d words next
 
 keep_next : (w d : Draft) (words : List Word) (more : List (List Word)) → IsDraft w → IsDraft d → front_lines w ++ back_lines w ≡ lines_before Keep d ++ words ∷ more → Next Keep d words
 keep_next w d words more g h e =
     let sizes = cons_parts (cons_parts e).1 in
     let same = same_sizes w d g h sizes.0 in (
-      record d { stage = Set; kept = w.kept },
+      record d { due = Set; kept = w.kept },
       record { kept = w.kept; line = sym (cons_parts sizes.1).0; form = subst (λ (m : ℕ). rises_within 0 m w.kept ≡ true) same.clauses g.kept; is = refl },
     )
 
@@ -148,7 +148,7 @@ set_next : (w d : Draft) (words : List Word) (more : List (List Word)) → IsDra
 set_next w d words more g h e =
     let sizes = cons_parts (cons_parts e).1 in
     let same = same_sizes w d g h sizes.0 in (
-      record d { stage = Order; set = w.set },
+      record d { due = Order; set = w.set },
       record { set = w.set; line = sym (cons_parts (cons_parts sizes.1).1).0; form = subst (λ (n : ℕ). rises_within 0 n (map variable w.set) ≡ true) same.vars g.set; is = refl },
     )
 
@@ -156,7 +156,7 @@ order_next : (w d : Draft) (words : List Word) (more : List (List Word)) → IsD
 order_next w d words more g h e =
     let sizes = cons_parts (cons_parts e).1 in
     let same = same_sizes w d g h sizes.0 in (
-      record d { stage = Pairs; order = w.order; pairs = [] },
+      record d { due = Pairs; order = w.order; pairs = [] },
       record { order = w.order; line = sym (cons_parts (cons_parts (cons_parts sizes.1).1).1).0; form = subst (λ (n : ℕ). list_all (is_literal n) w.order ≡ true) same.vars g.order; is = refl },
     )
 
@@ -189,7 +189,7 @@ pairs_next w d words more g h e = by_rest further.rest further.whole further.ahe
 
     by_rest : (rest : List Pair) → w.pairs ≡ d.pairs ++ rest → words ∷ more ≡ map pair_line rest ++ problem → Next Pairs d words
     by_rest [] whole f = (
-      record d { stage = Clauses },
+      record d { due = Clauses },
       inr (record {
         line = (cons_parts f).0 ∙ ap (λ (n : ℕ). problem_line n (length w.kept)) front.sizes.vars ∙ ap (λ (ps : List ℕ). problem_line d.vars (length ps)) front.kept;
         is = refl;
@@ -226,11 +226,11 @@ clauses_next w d words more g k h e = by_rest same.further.rest same.further.who
     by_rest (c ∷ rest) whole f = (record d { texts = with_clause d.texts c }, clause_next w d words c rest g k h same.sizes same.kept whole (cons_parts f).0)
 
 -- the next line of a whole draft that goes on from a draft leads to another draft
-pub next_at : (s : Stage) (w d : Draft) (words : List Word) (more : List (List Word)) → IsDraft w → IsWhole w → IsDraft d → front_lines w ++ back_lines w ≡ lines_before s d ++ words ∷ more
+pub next_at : (s : LineDue) (w d : Draft) (words : List Word) (more : List (List Word)) → IsDraft w → IsWhole w → IsDraft d → front_lines w ++ back_lines w ≡ lines_before s d ++ words ∷ more
     → (next : Draft) × IsNextAt s d words next
-next_at Class w d words more g k h e = (record d { stage = Sizes }, (sym (cons_parts e).0, refl))
+next_at Format w d words more g k h e = (record d { due = Sizes }, (sym (cons_parts e).0, refl))
 next_at Sizes w d words more g k h e = (
-  record d { stage = Keep; vars = w.vars; clauses = w.clauses; texts = record { vars = w.vars; clauses = [] } },
+  record d { due = Keep; vars = w.vars; clauses = w.clauses; texts = record { vars = w.vars; clauses = [] } },
   record { n = w.vars; m = w.clauses; line = sym (cons_parts (cons_parts e).1).0; form = g.size; is = refl },
 )
 next_at Keep w d words more g k h e = keep_next w d words more g h e
@@ -270,8 +270,8 @@ clauses_end w d g k h e = by_rest same.further.rest same.further.whole same.furt
     by_rest (c ∷ rest) whole f = absurd (let n : ⊥ = cc in n)
 
 -- a draft with all lines of a whole draft is whole
-pub whole_at : (s : Stage) (w d : Draft) → IsDraft w → IsWhole w → IsDraft d → front_lines w ++ back_lines w ≡ lines_before s d ++ [] → (s ≡ Clauses) × (length d.texts.clauses ≡ length d.kept)
-whole_at Class w d g k h e = absurd (let n : ⊥ = cc in n)
+pub whole_at : (s : LineDue) (w d : Draft) → IsDraft w → IsWhole w → IsDraft d → front_lines w ++ back_lines w ≡ lines_before s d ++ [] → (s ≡ Clauses) × (length d.texts.clauses ≡ length d.kept)
+whole_at Format w d g k h e = absurd (let n : ⊥ = cc in n)
 whole_at Sizes w d g k h e = absurd (let f = (cons_parts e).1 in let n : ⊥ = cc in n)
 whole_at Keep w d g k h e = absurd (let f = (cons_parts (cons_parts e).1).1 in let n : ⊥ = cc in n)
 whole_at Set w d g k h e = absurd (let f = (cons_parts (cons_parts (cons_parts e).1).1).1 in let n : ⊥ = cc in n)

@@ -6,7 +6,7 @@ use Rattle.std.proofs.lemmas.Bool.{cases_Bool}
 use Rattle.std.proofs.lemmas.List.{append-nil, length-drop}
 use Rattle.std.proofs.lemmas.List.Folds.{drop_split}
 use Rattle.std.proofs.Math.Seq.{drop-cons, drop-length}
-use Rattle.lk_model.specs.Reading.{cut_lines, onto_first}
+use Rattle.lk_model.specs.Documents.Reading.{cut_lines, onto_first}
 use Rattle.lk_model.proofs.Booleans.{and_true}
 use Rattle.lk_text.specs.Cutting.{is_one_line, IsNextLine}
 use Rattle.lk_text.specs.declared.cuts.Cut.{Cut}

@@ -4,20 +4,20 @@ use Rattle.std.specs.Prelude.{codes, decimal, nat_le}
 use Rattle.std.specs.List.{join_with_byte}
 use Rattle.std.proofs.lemmas.Bool.{leb-true, le-leb}
 use Rattle.std.proofs.lemmas.List.Splits.{join_with_byte-slice_split}
-use Rattle.lk_model.specs.Lines.{Word}
-use Rattle.lk_model.specs.PlainText.{ended, literal_words, number_words}
+use Rattle.lk_model.specs.Texts.Lines.{Word}
+use Rattle.lk_model.specs.Texts.PlainText.{ended, literal_words, number_words}
 use Rattle.lk_model.proofs.Booleans.{and_true}
-use Rattle.cert_text.specs.Drafts.{NextSizes, NextKeep, NextSet, NextOrder, fields, class_line}
+use Rattle.cert_text.specs.Drafts.{NextSizes, NextKeep, NextSet, NextOrder, fields, format_line}
 use Rattle.cert_text.specs.Fields.{two_within}
 use Rattle.cert_text.specs.FieldLists.{rising_from, literals_from}
 use Rattle.cert_text.specs.declared.draft.Draft.{Draft}
-use Rattle.cert_text.specs.declared.draft.Stage.TheVariants.{Keep, Set, Order, Pairs}
+use Rattle.cert_text.specs.declared.draft.LineDue.TheVariants.{Keep, Set, Order, Pairs}
 use Rattle.cert_text.proofs.ListForms.{ended_parts, rising_form, rising_back, literals_form, literals_back, any_literals, rising_literals, literals_rising}
 use Rattle.cert_text.proofs.NumberForms.{two_form, two_back}
 
--- a line of the words of the class is that line
-pub class_words : (line : List ℕ) → fields line ≡ class_line → line ≡ codes "c leank 1 pure"
-class_words line e = sym (join_with_byte-slice_split 32 line) ∙ ap (join_with_byte 32) e
+-- a line of the words of the format line is that line
+pub format_words : (line : List ℕ) → fields line ≡ format_line → line ≡ codes "c leank 1 pure"
+format_words line e = sym (join_with_byte-slice_split 32 line) ∙ ap (join_with_byte 32) e
 
 -- words behind a keyword
 tail_same : (a b c d : Word) (xs ys : List Word) → a ∷ b ∷ xs ≡ c ∷ d ∷ ys → xs ≡ ys
@@ -31,7 +31,7 @@ no_list words list keyword none e =
 
 -- KEEP
 
-pub keep_taken : (d : Draft) (words rest : List Word) (kept : List ℕ) → words ≡ codes "c" ∷ codes "keep" ∷ rest → Some kept ≡ rising_from 0 d.clauses rest → NextKeep d words (record d { stage = Set; kept = kept })
+pub keep_taken : (d : Draft) (words rest : List Word) (kept : List ℕ) → words ≡ codes "c" ∷ codes "keep" ∷ rest → Some kept ≡ rising_from 0 d.clauses rest → NextKeep d words (record d { due = Set; kept = kept })
 keep_taken d words rest kept w e =
     let f = rising_form 0 d.clauses rest kept (sym e) in
     record { kept = kept; line = w ∙ ap (λ (ws : List Word). codes "c" ∷ codes "keep" ∷ ws) f.0; form = f.1; is = refl }
@@ -44,7 +44,7 @@ keep_none d next words rest small w e n =
 
 -- SET
 
-pub set_taken : (d : Draft) (words rest : List Word) (set : List ℤ) → words ≡ codes "c" ∷ codes "set" ∷ rest → Some set ≡ literals_from true d.vars 0 rest → NextSet d words (record d { stage = Order; set = set })
+pub set_taken : (d : Draft) (words rest : List Word) (set : List ℤ) → words ≡ codes "c" ∷ codes "set" ∷ rest → Some set ≡ literals_from true d.vars 0 rest → NextSet d words (record d { due = Order; set = set })
 set_taken d words rest set w e =
     let f = literals_form true d.vars 0 rest set (sym e) in
     record { set = set; line = w ∙ ap (λ (ws : List Word). codes "c" ∷ codes "set" ∷ ws) f.0; form = rising_literals d.vars 0 set f.1; is = refl }
@@ -57,7 +57,7 @@ set_none d next words rest small w e n =
 
 -- ORDER
 
-pub order_taken : (d : Draft) (words rest : List Word) (order : List ℤ) → words ≡ codes "c" ∷ codes "order" ∷ rest → Some order ≡ literals_from false d.vars 0 rest → NextOrder d words (record d { stage = Pairs; order = order; pairs = [] })
+pub order_taken : (d : Draft) (words rest : List Word) (order : List ℤ) → words ≡ codes "c" ∷ codes "order" ∷ rest → Some order ≡ literals_from false d.vars 0 rest → NextOrder d words (record d { due = Pairs; order = order; pairs = [] })
 order_taken d words rest order w e =
     let f = literals_form false d.vars 0 rest order (sym e) in
     record { order = order; line = w ∙ ap (λ (ws : List Word). codes "c" ∷ codes "order" ∷ ws) f.0; form = sym (any_literals d.vars 0 order) ∙ f.1; is = refl }
@@ -71,7 +71,7 @@ order_none d next words rest small w e n =
 -- SIZES
 
 pub sizes_taken : (d : Draft) (words rest : List Word) (h : ℕ × ℕ) → words ≡ codes "c" ∷ codes "formula" ∷ rest → Some h ≡ two_within 1000000 4000000 rest
-    → NextSizes d words (record d { stage = Keep; vars = h.0; clauses = h.1; texts = record { vars = h.0; clauses = [] } })
+    → NextSizes d words (record d { due = Keep; vars = h.0; clauses = h.1; texts = record { vars = h.0; clauses = [] } })
 sizes_taken d words rest h w e =
     let t = two_form 1000000 4000000 rest h (sym e) in
     record {

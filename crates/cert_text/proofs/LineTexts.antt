@@ -2,10 +2,10 @@
 use Rattle.std.proofs.Common.{◌≡◌, ℕ, ◌+◌, ◌<◌, List, [], ◌∷◌, ◌++◌, length, drop, ap, refl, map, ◌∙◌, append_assoc, add-one, drop-cons}
 use Rattle.std.specs.List.{flat_map, join_with_byte, concat}
 use Rattle.std.specs.Prelude.{codes}
-use Rattle.lk_model.specs.Lines.{Word}
-use Rattle.lk_model.specs.PlainText.{line, ended}
-use Rattle.lk_model.specs.Formula.{Cnf, clause_at}
-use Rattle.lk_model.specs.Text.{comment, text_of, text_lines, document_lines}
+use Rattle.lk_model.specs.Texts.Lines.{Word}
+use Rattle.lk_model.specs.Texts.PlainText.{line, ended}
+use Rattle.lk_model.specs.Formulas.Formula.{Cnf, clause_at}
+use Rattle.lk_model.specs.Documents.Text.{comment, text_of, text_lines, document_lines}
 use Rattle.lk_model.specs.declared.document.Document.{Document}
 use Rattle.cert_text.specs.Spaced.{spaced}
 

@@ -9,10 +9,10 @@ use Rattle.std.proofs.lemmas.List.{append-nil}
 use Rattle.std.proofs.lemmas.List.Folds.{list_all-append}
 use Rattle.std.proofs.lemmas.Slice.Eq.{bytes_eq-Decides}
 use Rattle.lk_model.specs.Lists.{is_between, rises_within}
-use Rattle.lk_model.specs.Literal.{variable, contains, is_literal, is_distinct, is_clause}
-use Rattle.lk_model.specs.Lines.{Word}
-use Rattle.lk_model.specs.NumberWords.{plain_number}
-use Rattle.lk_model.specs.PlainText.{ended, literal_words, number_words}
+use Rattle.lk_model.specs.Formulas.Literal.{variable, contains, is_literal, is_distinct, is_clause}
+use Rattle.lk_model.specs.Texts.Lines.{Word}
+use Rattle.lk_model.specs.Texts.NumberWords.{plain_number}
+use Rattle.lk_model.specs.Texts.PlainText.{ended, literal_words, number_words}
 use Rattle.lk_model.proofs.Booleans.{and_true}
 use Rattle.lk_model.proofs.Literals.{clause-more, no_repeat}
 use Rattle.cert_text.specs.Fields.{number_within, literal_within}

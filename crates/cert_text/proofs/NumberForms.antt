@@ -3,8 +3,8 @@ use Rattle.std.proofs.Common.{◌≡◌, ℕ, ◌≤◌, ◌∙◌, List, [], �
 use Rattle.std.specs.Prelude.{nat_le, decimal}
 use Rattle.std.specs.Option.{option_zip}
 use Rattle.std.proofs.lemmas.Bool.{leb-true}
-use Rattle.lk_model.specs.Lines.{Word}
-use Rattle.lk_model.specs.NumberWords.{plain_number}
+use Rattle.lk_model.specs.Texts.Lines.{Word}
+use Rattle.lk_model.specs.Texts.NumberWords.{plain_number}
 use Rattle.lk_model.proofs.Booleans.{and_true}
 use Rattle.cert_text.specs.Fields.{number_within, two_within}
 use Rattle.cert_text.proofs.NumberTexts.{spelled}

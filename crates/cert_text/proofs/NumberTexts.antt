@@ -12,9 +12,9 @@ use Rattle.std.proofs.lemmas.List.Sums.{fold-append}
 use Rattle.std.proofs.lemmas.Slice.Eq.{bytes_eq-Decides}
 use Rattle.lk_model.proofs.Booleans.{and_true}
 use Rattle.lk_model.specs.Lists.{is_empty}
-use Rattle.lk_model.specs.Lines.{Word}
+use Rattle.lk_model.specs.Texts.Lines.{Word}
 use Rattle.lk_text.specs.Kinds.{if_in_range}
-use Rattle.lk_model.specs.NumberWords.{digits_value, natural, number, negated, not_negated, plain_number}
+use Rattle.lk_model.specs.Texts.NumberWords.{digits_value, natural, number, negated, not_negated, plain_number}
 
 -- digits of a number
 pub record IsSpelling (n : ℕ) (ds : List ℕ) : Type 0 where

@@ -4,11 +4,11 @@ use Rattle.std.specs.Prelude.{nat_le, codes, decimal, slice_get}
 use Rattle.std.proofs.lemmas.Bool.{leb-true, le-leb, lt-ltb}
 use Rattle.std.proofs.lemmas.List.{map-append}
 use Rattle.lk_model.specs.Lists.{is_between, rises_within}
-use Rattle.lk_model.specs.Lines.{Word}
-use Rattle.lk_model.specs.Form.{is_pair}
-use Rattle.lk_model.specs.NumberWords.{plain_number}
-use Rattle.lk_model.specs.PlainText.{number_words}
-use Rattle.lk_model.specs.Text.{pair_line}
+use Rattle.lk_model.specs.Texts.Lines.{Word}
+use Rattle.lk_model.specs.Documents.Form.{is_pair}
+use Rattle.lk_model.specs.Texts.NumberWords.{plain_number}
+use Rattle.lk_model.specs.Texts.PlainText.{number_words}
+use Rattle.lk_model.specs.Documents.Text.{pair_line}
 use Rattle.lk_model.specs.declared.document.Pair.{Pair}
 use Rattle.lk_model.proofs.Booleans.{and_true}
 use Rattle.lk_model.proofs.Rising.{rises}

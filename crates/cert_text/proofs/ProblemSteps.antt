@@ -1,8 +1,8 @@
 -- The problem line of the kept clauses.
 use Rattle.std.proofs.Common.{◌≡◌, ℕ, ◌∙◌, List, [], ◌∷◌, length, sym, ap, arith, Option, Some, None}
 use Rattle.std.specs.Prelude.{codes}
-use Rattle.lk_model.specs.Lines.{Word}
-use Rattle.lk_model.specs.PlainText.{number_words}
+use Rattle.lk_model.specs.Texts.Lines.{Word}
+use Rattle.lk_model.specs.Texts.PlainText.{number_words}
 use Rattle.cert_text.specs.Drafts.{IsDraft, problem_line}
 use Rattle.cert_text.specs.Fields.{two_within}
 use Rattle.cert_text.specs.declared.draft.Draft.{Draft}

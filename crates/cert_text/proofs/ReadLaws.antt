@@ -1,14 +1,14 @@
 -- A text, line by line, beside what was read of it.
-use Rattle.std.proofs.Common.{◌≡◌, ℕ, ◌+◌, ◌<◌, ◌≤◌, ◌∙◌, List, [], ◌∷◌, ◌++◌, length, take, drop, map, sym, ap, subst, arith, append_assoc, inl, inr}
+use Rattle.std.proofs.Common.{◌≡◌, ℕ, ◌+◌, ◌<◌, ◌≤◌, ◌∙◌, List, [], ◌∷◌, ◌++◌, length, take, drop, map, refl, sym, ap, subst, arith, append_assoc, inl, inr}
 use Rattle.std.specs.Prelude.{slice_range}
 use Rattle.std.proofs.lemmas.Bool.{cases_order}
 use Rattle.std.specs.List.{concat}
 use Rattle.std.proofs.lemmas.List.{append-nil, map-append, length-append, length-map, length-take, take-append-le, take_at, take_all, take-append-drop}
 use Rattle.std.proofs.Math.Seq.{drop-length}
-use Rattle.lk_model.specs.Lines.{Word}
-use Rattle.lk_model.specs.PlainText.{line}
-use Rattle.lk_model.specs.Reading.{cut_lines}
-use Rattle.lk_model.specs.Text.{text_of, text_lines, document_lines}
+use Rattle.lk_model.specs.Texts.Lines.{Word}
+use Rattle.lk_model.specs.Texts.PlainText.{line}
+use Rattle.lk_model.specs.Documents.Reading.{cut_lines}
+use Rattle.lk_model.specs.Documents.Text.{text_of, text_lines, document_lines}
 use Rattle.lk_model.specs.declared.document.Document.{Document}
 use Rattle.lk_model.specs.declared.document.DoneDocument.{DoneDocument}
 use Rattle.lk_model.specs.declared.document.Document.TheVariants.{Done}
@@ -17,8 +17,8 @@ use Rattle.lk_text.specs.declared.cuts.Cut.{Cut}
 use Rattle.cert_text.specs.Drafts.{IsDraft, IsNext, HasNoNext, IsWhole, fields, lines_read, lines_before, document_of}
 use Rattle.cert_text.specs.Readings.{IsReadAs, GoesOnBuilt, StopsAtLine, IsReadOnce, IsSpelledOnce, NeverStops, StopsAtOneLine}
 use Rattle.cert_text.specs.declared.draft.Draft.{Draft}
-use Rattle.cert_text.specs.declared.draft.Stage.{Stage}
-use Rattle.cert_text.specs.declared.draft.Stage.TheVariants.{Class}
+use Rattle.cert_text.specs.declared.draft.LineDue.{LineDue}
+use Rattle.cert_text.specs.declared.draft.LineDue.TheVariants.{Format}
 use Rattle.cert_text.proofs.DraftForms.{IsBlank, IsBlankAt, next_form, next_blank}
 use Rattle.cert_text.proofs.WholeDrafts.{whole_of, lines_of_whole}
 use Rattle.cert_text.proofs.DraftLaws.{next_lines, goes_on, follows, ends_whole, whole_lines, whole_form}
@@ -30,17 +30,17 @@ use Rattle.cert_text.proofs.SameDrafts.{same_document}
 -- the lines before a place are those of the draft
 pub record IsAt (bytes : List ℕ) (at number : ℕ) (d : Draft) : Type 0 where
   pub form : IsDraft d
-  pub blank : IsBlankAt d.stage d
+  pub blank : IsBlankAt d.due d
   pub lines : cut_lines bytes ≡ map line (lines_read d) ++ cut_lines (drop at bytes)
   pub count : number ≡ length (lines_read d)
 
 -- before the first line
-pub at_start : (bytes : List ℕ) (d : Draft) → d.stage ≡ Class → IsDraft d → IsBlank d → IsAt bytes 0 0 d
+pub at_start : (bytes : List ℕ) (d : Draft) → d.due ≡ Format → IsDraft d → IsBlank d → IsAt bytes 0 0 d
 at_start bytes d s h b = record {
   form = h;
-  blank = subst (λ (t : Stage). IsBlankAt t d) (sym s) b;
-  lines = ap (λ (t : Stage). map line (lines_before t d) ++ cut_lines bytes) (sym s);
-  count = ap (λ (t : Stage). length (lines_before t d)) (sym s);
+  blank = subst (λ (t : LineDue). IsBlankAt t d) (sym s) b;
+  lines = ap (λ (t : LineDue). map line (lines_before t d) ++ cut_lines bytes) (sym s);
+  count = ap (λ (t : LineDue). length (lines_before t d)) (sym s);
 }
 
 -- one line more
@@ -162,7 +162,7 @@ pub reads_whole : (bytes : List ℕ) (number : ℕ) (d : Draft) → IsAt bytes (
 unfolding text_of text_lines
 reads_whole bytes number d h w =
     let text = sym (lines_in_row bytes) ∙ ap concat (lines_at_end bytes number d h) ∙ ap (λ (ls : List (List Word)). concat (map line ls)) (sym (whole_lines d h.form w)) in
-    record { built = tt; text = record { form = whole_form d h.form w; text = text } }
+    record { built = record { unprotected = refl; body = tt }; text = record { form = whole_form d h.form w; text = text } }
 
 -- the lines of a text are those of its document
 lines_of_text : (bytes : List ℕ) (d : Document) → IsReadAs bytes d → cut_lines bytes ≡ map line (document_lines d)

@@ -1,11 +1,12 @@
 -- Whole drafts with the same lines are the same document.
 use Rattle.std.proofs.Common.{◌≡◌, ℕ, ◌∙◌, true, List, [], ◌∷◌, ◌++◌, map, length, sym, subst, ℤ}
+use Rattle.std.specs.Prelude.{None}
 use Rattle.std.specs.Fmt.{signed_decimal}
 use Rattle.std.specs.List.{list_all}
 use Rattle.std.proofs.lemmas.List.{append-nil}
-use Rattle.lk_model.specs.Literal.{is_literal}
-use Rattle.lk_model.specs.PlainText.{literal_words}
-use Rattle.lk_model.specs.Text.{pair_line}
+use Rattle.lk_model.specs.Formulas.Literal.{is_literal}
+use Rattle.lk_model.specs.Texts.PlainText.{literal_words}
+use Rattle.lk_model.specs.Documents.Text.{pair_line}
 use Rattle.lk_model.specs.declared.document.Pair.{Pair}
 use Rattle.lk_model.specs.declared.document.Body.TheVariants.{Pure}
 use Rattle.cert_text.specs.Drafts.{IsDraft, front_lines, order_line, problem_line, document_of}
@@ -64,6 +65,7 @@ same_document w d g h e =
     λ i. record {
       vars = s.vars i;
       clauses = s.clauses i;
+      protect = None;
       kept = front.kept i;
       set = set i;
       body = Pure (order i) (pairs i);

@@ -7,12 +7,12 @@ use Rattle.std.proofs.lemmas.Bool.{leb-true}
 use Rattle.std.proofs.lemmas.Fmt.{decimal_injective, signed_decimal_injective}
 use Rattle.std.proofs.lemmas.List.{append_cancel_right, append-nil}
 use Rattle.std.specs.Prelude.{codes}
-use Rattle.lk_model.specs.Lines.{Word}
+use Rattle.lk_model.specs.Texts.Lines.{Word}
 use Rattle.lk_model.specs.Lists.{is_between, rises_within}
-use Rattle.lk_model.specs.Literal.{variable, is_literal, is_distinct, is_clause}
-use Rattle.lk_model.specs.PlainText.{literal_words, ended}
-use Rattle.lk_model.specs.Text.{pair_line}
-use Rattle.lk_model.specs.Form.{is_pair}
+use Rattle.lk_model.specs.Formulas.Literal.{variable, is_literal, is_distinct, is_clause}
+use Rattle.lk_model.specs.Texts.PlainText.{literal_words, ended}
+use Rattle.lk_model.specs.Documents.Text.{pair_line}
+use Rattle.lk_model.specs.Documents.Form.{is_pair}
 use Rattle.lk_model.specs.declared.document.Pair.{Pair}
 use Rattle.lk_model.proofs.Booleans.{and_true}
 use Rattle.lk_model.proofs.Rising.{rises}

@@ -4,7 +4,7 @@ use Rattle.std.proofs.Math.Nat.{eq-or-lt_of_le}
 use Rattle.std.specs.Prelude.{nat_le}
 use Rattle.std.proofs.lemmas.Bool.{leb-true}
 use Rattle.lk_model.proofs.Booleans.{and_true}
-use Rattle.lk_model.specs.Growing.{Growing}
+use Rattle.lk_model.specs.Held.Growing.{Growing}
 use Rattle.lk_model.specs.declared.document.Document.{Document}
 use Rattle.lk_model.specs.declared.document.Document.TheVariants.{Done}
 use Rattle.lk_text.specs.Cutting.{IsNextLine}
@@ -13,7 +13,7 @@ use Rattle.cert_text.specs.Drafts.{IsDraft, IsNext, HasNoNext, IsWhole, fields, 
 use Rattle.cert_text.specs.Readings.{IsReadAs, StopsAtLine}
 use Rattle.cert_text.specs.Taking.{IsReady, IsReadyAgain, IsFresh, Takes, TakesSizes, TakesPair, TakesProblem, TakesPairOrProblem}
 use Rattle.cert_text.specs.declared.draft.Draft.{Draft}
-use Rattle.cert_text.specs.declared.draft.Stage.TheVariants.{Class}
+use Rattle.cert_text.specs.declared.draft.LineDue.TheVariants.{Format}
 use Rattle.cert_text.proofs.DraftForms.{IsBlank}
 use Rattle.cert_text.proofs.ReadLaws.{IsAt, at_start, reads_whole, stops_early}
 
@@ -43,7 +43,7 @@ pub fresh_at : (bytes : List ℕ) (d : Draft) → IsFresh d → IsAt bytes 0 0 d
 fresh_at bytes d e = subst (λ (x : Draft). IsAt bytes 0 0 x) (sym e) (at_start bytes fresh refl form blank)
   where
     fresh : Draft
-    fresh = record { stage = Class; vars = 0; clauses = 0; kept = []; set = []; order = []; pairs = []; texts = record { vars = 0; clauses = [] } }
+    fresh = record { due = Format; vars = 0; clauses = 0; kept = []; set = []; order = []; pairs = []; texts = record { vars = 0; clauses = [] } }
 
     form : IsDraft fresh
     form = record { size = refl; kept = refl; set = refl; order = refl; pair_vars = refl; pairs = refl; texts_vars = refl; formula = refl; literals = omega arith; count = omega arith; fresh = λ h. refl }

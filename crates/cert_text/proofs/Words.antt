@@ -1,7 +1,7 @@
 -- Lines of a few words.
 use Rattle.std.proofs.Common.{◌≡◌, ℕ, ◌∙◌, true, List, ◌∷◌, sym, ap, Option, Some, None, is_some}
 use Rattle.std.specs.Borrow.{Bor}
-use Rattle.lk_model.specs.Lines.{Word}
+use Rattle.lk_model.specs.Texts.Lines.{Word}
 use Rattle.cert_text.specs.Fields.{rest_fields, two_within, pair_within}
 use Rattle.cert_text.proofs.ListSteps.{has_word}
 

@@ -1,14 +1,14 @@
 -- What is left of a line.
-use Rattle.std.specs.Prelude.{ℕ, ◌+◌, List, [], ◌∷◌, ℤ, pos, negsuc, cond, Bool, not, ◌==◌}
+use Rattle.std.specs.Prelude.{ℕ, ◌+◌, List, [], ◌∷◌, ℤ, pos, negsuc, if◌then◌else◌, Bool, not, ◌==◌}
 use Rattle.std.specs.List.{list_all}
 use Rattle.std.specs.Option.{option_zip}
 use Rattle.std.specs.declared.option.Option.{Option}
 use Rattle.std.specs.declared.option.Option.TheVariants.{Some, None}
 use Rattle.std.specs.Borrow.{Bor}
 use Rattle.lk_model.specs.Lists.{is_between}
-use Rattle.lk_model.specs.Literal.{is_literal}
-use Rattle.lk_model.specs.Lines.{Word}
-use Rattle.lk_model.specs.NumberWords.{plain_number}
+use Rattle.lk_model.specs.Formulas.Literal.{is_literal}
+use Rattle.lk_model.specs.Texts.Lines.{Word}
+use Rattle.lk_model.specs.Texts.NumberWords.{plain_number}
 use Rattle.lk_model.specs.declared.document.Pair.{Pair}
 use Rattle.cert_text.specs.Drafts.{fields}
 
@@ -23,13 +23,13 @@ rest_fields (Some rest) = fields rest.now
 -- the number, if it is one from the first to the second
 abbrev pub number_within : ℕ → ℕ → Option ℤ → Option ℕ
 number_within low high None = None
-number_within low high (Some (pos n)) = cond (is_between low high n) (Some n) None
+number_within low high (Some (pos n)) = if is_between low high n then Some n else None
 number_within low high (Some (negsuc k)) = None
 
 -- the number, if it is a literal over the variables from 1 to n
 abbrev pub literal_within : ℕ → Option ℤ → Option ℤ
 literal_within n None = None
-literal_within n (Some x) = cond (is_literal n x) (Some x) None
+literal_within n (Some x) = if is_literal n x then Some x else None
 
 abbrev pub pair_by : Option ℕ → Option ℕ → Option ℕ → Option Pair
 pair_by (Some v) (Some a) (Some b) = Some (record { var = v; with = a; against = b })

@@ -1,3 +1,4 @@
+pub mod Built
 pub mod Spaced
 pub mod Drafts
 pub mod Fields

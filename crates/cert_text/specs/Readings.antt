@@ -1,17 +1,17 @@
--- Which texts are read: those of documents of the classes that are built; and where another text stops being one.
+-- Which texts are read: those of the documents that are built so far; and where another text stops being one.
 use Rattle.std.specs.Prelude.{◌≡◌, ℕ, ◌<◌, List}
-use Rattle.lk_model.specs.Reading.{IsTextOf, GoesOn}
+use Rattle.lk_model.specs.Documents.Reading.{IsTextOf, GoesOn}
 use Rattle.lk_model.specs.declared.document.Document.{Document}
 use Rattle.lk_model.specs.declared.verdict.ReadStop.{ReadStop}
 use Rattle.lk_model.specs.declared.verdict.ReadStop.TheVariants.{Line, OutOfMemory}
-use Rattle.lk_model.specs.Built.{IsBuilt}
+use Rattle.cert_text.specs.Built.{IsBuilt}
 
--- the bytes are the text of the document, which is in form and of a class that is built
+-- the bytes are the text of the document, which is in form and built
 pub record IsReadAs (bytes : List ℕ) (d : Document) : Type 0 where
   pub built : IsBuilt d
   pub text : IsTextOf bytes d
 
--- the text of some document of a built class has the same first k lines
+-- the text of some built document has the same first k lines
 pub record GoesOnBuilt (bytes : List ℕ) (k : ℕ) : Type 0 where
   pub goes_on : GoesOn bytes k
   pub built : IsBuilt goes_on.document

@@ -1,7 +1,7 @@
 -- Words as they are written.
 use Rattle.std.specs.Prelude.{ℕ, List, [], ◌∷◌, ◌++◌}
 use Rattle.std.specs.List.{flat_map}
-use Rattle.lk_model.specs.Lines.{Word}
+use Rattle.lk_model.specs.Texts.Lines.{Word}
 
 -- the words in a row, each with a space behind it
 abbrev pub spaced : List Word → List ℕ

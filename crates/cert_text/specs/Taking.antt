@@ -1,17 +1,17 @@
 -- What becomes of a draft and a line: the line is taken, or none of its kind could be.
 use Rattle.std.specs.Prelude.{◌≡◌, ℕ, Bool, true, false, List, [], ◌⊎◌}
-use Rattle.lk_model.specs.Growing.{Growing}
-use Rattle.cert_text.specs.Drafts.{class_line, NextSizes, NextKeep, NextSet, NextOrder, NextPair, NextProblem, NextClause, IsNext, HasNoNext, fields}
+use Rattle.lk_model.specs.Held.Growing.{Growing}
+use Rattle.cert_text.specs.Drafts.{format_line, NextSizes, NextKeep, NextSet, NextOrder, NextPair, NextProblem, NextClause, IsNext, HasNoNext, fields}
 use Rattle.cert_text.specs.declared.draft.Draft.{Draft}
-use Rattle.cert_text.specs.declared.draft.Stage.TheVariants.{Class, Sizes}
+use Rattle.cert_text.specs.declared.draft.LineDue.TheVariants.{Format, Sizes}
 
 -- a clause that grows, over the draft's variables, with no literal yet
 abbrev pub IsReady : Draft → Growing → Type 0
 IsReady d growing = growing ≡ record { vars = d.vars; literals = [] }
 
-abbrev pub TakesClass : Draft → List ℕ → Bool → Draft → Type 0
-TakesClass d line true next = (fields line ≡ class_line) × (next ≡ record d { stage = Sizes })
-TakesClass d line false next = fields line ≡ class_line → ⊥
+abbrev pub TakesFormat : Draft → List ℕ → Bool → Draft → Type 0
+TakesFormat d line true next = (fields line ≡ format_line) × (next ≡ record d { due = Sizes })
+TakesFormat d line false next = fields line ≡ format_line → ⊥
 
 abbrev pub TakesSizes : Draft → List ℕ → Bool → Draft → Type 0
 TakesSizes d line true next = NextSizes d (fields line) next
@@ -57,4 +57,4 @@ IsReadyAgain false d growing = Unit {0}
 
 -- the draft of which no line was read
 abbrev pub IsFresh : Draft → Type 0
-IsFresh d = d ≡ record { stage = Class; vars = 0; clauses = 0; kept = []; set = []; order = []; pairs = []; texts = record { vars = 0; clauses = [] } }
+IsFresh d = d ≡ record { due = Format; vars = 0; clauses = 0; kept = []; set = []; order = []; pairs = []; texts = record { vars = 0; clauses = [] } }

@@ -1,11 +1,11 @@
 //! The lines of a document, in their order.
 ghost use Rattle.std.specs.Prelude.{◌≡◌, ◌++◌, OnOk, IfOk};
 ghost use Rattle.std.specs.List.{flat_map};
-ghost use Rattle.lk_model.specs.PlainText.{line};
-ghost use Rattle.lk_model.specs.Documents.{class_of};
-ghost use Rattle.lk_model.specs.Text.{class_lines, class_word, document_lines, text_of};
+ghost use Rattle.lk_model.specs.Texts.PlainText.{line};
+ghost use Rattle.lk_model.specs.Documents.Documents.{class_of};
+ghost use Rattle.lk_model.specs.Documents.Text.{class_lines, class_word, document_lines, text_of};
 ghost use Rattle.lk_model.specs.declared.document.Document.TheVariants.{Done};
-ghost use Rattle.lk_model.specs.Built.{IsBuilt, IsBuiltBody};
+ghost use Rattle.cert_text.specs.Built.{IsBuilt, IsBuiltBody, IsBuiltDone};
 
 use crate::formula::{put_first_lines, put_formula};
 use crate::line::{put_literal_line, put_number_line};
@@ -13,8 +13,8 @@ use crate::pure::put_pure;
 use lk_model::{Body, Document, DoneDocument, OutOfMemory};
 use std::alloc::Global;
 
-/// The one text of a document: a finished one of the class pure, until the lines of the others are
-/// written. The error is want of memory for the text.
+/// The one text of a document: a finished one of the class pure without protected variables, until the
+/// lines of the others are written. The error is want of memory for the text.
 #[tactic(auto, using(crate::proofs::LineTexts::text_in_row))]
 pub fn print(alloc: Global, d: &Document) -> Result<Vec<u8>, OutOfMemory>
     requires { IsBuilt d.now }
@@ -29,7 +29,7 @@ pub fn print(alloc: Global, d: &Document) -> Result<Vec<u8>, OutOfMemory>
 }
 
 fn put_done(out: &mut Vec<u8>, d: &DoneDocument) -> Result<(), OutOfMemory>
-    requires { IsBuiltBody d.now.body }
+    requires { IsBuiltDone d.now }
     ensures { OnOk result (out.new.items
         ≡ out.old.items ++ flat_map line (document_lines (Done d.now))) }
 {

@@ -1,10 +1,10 @@
 //! What was read of a document so far.
 use lk_model::{Formula, List, Lit, Pair};
 
-/// Which line is to come next.
+/// Which line is due, that is, to come next.
 #[derive(Clone, Copy, PartialEq, Eq, Debug)]
-pub(crate) enum Stage {
-    Class,
+pub(crate) enum LineDue {
+    Format,
     Sizes,
     Keep,
     Set,
@@ -14,10 +14,11 @@ pub(crate) enum Stage {
     Clauses,
 }
 
-/// What was read of a finished document of the class pure, up to the line that is to come next.
+/// What was read of a finished document of the class pure without protected variables, up to the line
+/// that is due.
 #[derive(Drop)]
 pub(crate) struct Draft {
-    pub stage: Stage,
+    pub due: LineDue,
     pub vars: u32,
     pub clauses: u32,
     pub kept: List<u32>,

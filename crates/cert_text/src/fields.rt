@@ -1,7 +1,7 @@
 //! The words of a line between its spaces.
 ghost use Rattle.std.specs.Prelude.{◌≡◌, ◌≤◌, ◌+◌, ◌∷◌, [], ℕ, length, slice_index, slice_range, ◌<◌, IsTrue, IsNone, IfSome, List, ℤ};
-ghost use Rattle.lk_model.specs.NumberWords.{plain_number};
-ghost use Rattle.lk_model.specs.Lines.{Word};
+ghost use Rattle.lk_model.specs.Texts.NumberWords.{plain_number};
+ghost use Rattle.lk_model.specs.Texts.Lines.{Word};
 ghost use Rattle.cert_text.specs.Drafts.{fields};
 ghost use Rattle.cert_text.specs.Fields.{has_no_space, rest_fields, number_within, literal_within, pair_within, two_within};
 

@@ -1,14 +1,14 @@
 //! The first lines of a document, and the lines of a formula.
-ghost use Rattle.std.specs.Prelude.{◌≡◌, ◌++◌, ◌∷◌, [], OnOk, codes, map};
+ghost use Rattle.std.specs.Prelude.{◌≡◌, ◌++◌, ◌∷◌, [], OnOk, None, codes, map};
 ghost use Rattle.std.specs.List.{flat_map};
-ghost use Rattle.lk_model.specs.PlainText.{line, literal_words, number_words, plain_text};
-ghost use Rattle.lk_model.specs.Text.{comment, first_lines};
+ghost use Rattle.lk_model.specs.Texts.PlainText.{line, literal_words, number_words, plain_text};
+ghost use Rattle.lk_model.specs.Documents.Text.{comment, first_lines};
 
 use crate::line::{put, put_clause_line, put_number};
 use lk_model::{Formula, OutOfMemory};
 
-/// Appends the lines of the format and of the sizes. The word is that of a class, or says that the
-/// document is unfinished.
+/// Appends the lines of the format and of the sizes of a document without protected variables. The word
+/// is that of a class, or says that the document is unfinished.
 pub(crate) fn put_first_lines(
     out: &mut Vec<u8>,
     word: &[u8],
@@ -16,7 +16,7 @@ pub(crate) fn put_first_lines(
     clauses: u32,
 ) -> Result<(), OutOfMemory>
     ensures { OnOk result (out.new.items
-        ≡ out.old.items ++ flat_map line (first_lines word.now vars clauses)) }
+        ≡ out.old.items ++ flat_map line (first_lines word.now vars clauses None)) }
 {
     put_format_line(out, word)?;
     put_size_line(out, vars, clauses)

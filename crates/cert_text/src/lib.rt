@@ -9,12 +9,8 @@ mod laws;
 mod line;
 mod lists;
 mod pure;
-#[cfg(test)]
-mod read_tests;
 mod reading;
 mod steps;
-#[cfg(test)]
-mod tests;
 
 pub use document::print;
 pub use laws::text_law;

@@ -1,8 +1,8 @@
 //! Words and lines, appended to a text.
 ghost use Rattle.std.specs.Prelude.{◌≡◌, ◌++◌, ◌∷◌, [], OnOk, codes, map};
 ghost use Rattle.std.specs.Fmt.{decimal, signed_decimal};
-ghost use Rattle.lk_model.specs.PlainText.{line, ended, literal_words, number_words};
-ghost use Rattle.lk_model.specs.Text.{comment};
+ghost use Rattle.lk_model.specs.Texts.PlainText.{line, ended, literal_words, number_words};
+ghost use Rattle.lk_model.specs.Documents.Text.{comment};
 ghost use Rattle.cert_text.specs.Spaced.{spaced};
 
 use lk_model::{Lit, OutOfMemory};

@@ -1,6 +1,6 @@
 //! Lists that the word 0 closes.
 ghost use Rattle.std.specs.Prelude.{◌≡◌, ◌≤◌, ◌∷◌, [], ◌||◌, not, nat_lt, IfOk};
-ghost use Rattle.lk_model.specs.Literal.{variable};
+ghost use Rattle.lk_model.specs.Formulas.Literal.{variable};
 ghost use Rattle.cert_text.specs.Drafts.{fields};
 ghost use Rattle.cert_text.specs.FieldLists.{rising_from, literals_from, clause_from, IsClauseOf};
 

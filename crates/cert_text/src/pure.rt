@@ -1,8 +1,8 @@
 //! The lines of the class pure.
 ghost use Rattle.std.specs.Prelude.{◌≡◌, ◌++◌, OnOk, map};
 ghost use Rattle.std.specs.List.{flat_map};
-ghost use Rattle.lk_model.specs.PlainText.{line};
-ghost use Rattle.lk_model.specs.Text.{class_lines, pair_line};
+ghost use Rattle.lk_model.specs.Texts.PlainText.{line};
+ghost use Rattle.lk_model.specs.Documents.Text.{class_lines, pair_line};
 ghost use Rattle.lk_model.specs.declared.document.Body.TheVariants.{Pure};
 
 use crate::line::{put, put_literal_line, put_number};

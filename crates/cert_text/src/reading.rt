@@ -5,7 +5,7 @@ ghost use Rattle.cert_text.specs.Drafts.{IsWhole, document_of};
 ghost use Rattle.cert_text.specs.Readings.{IsReadAs, IsStop};
 ghost use Rattle.cert_text.specs.Taking.{IsFresh};
 
-use crate::draft::{Draft, Stage};
+use crate::draft::{Draft, LineDue};
 use crate::steps::take_line;
 use lk_model::{
     Body, Document, DoneDocument, Formula, FormulaError, List, OpenClause, OutOfMemory, ReadStop,
@@ -13,10 +13,10 @@ use lk_model::{
 use lk_text::next_line;
 use std::alloc::Global;
 
-/// The document that has this text: a finished one of the class pure, until the lines of the others are
-/// read. Other bytes are refused with the first line in which no such document's text can go on, counted
-/// from 1. A last line without its byte 10 is such a line; where the text ends too early, so is the line
-/// after its last one. The other error is want of memory.
+/// The document that has this text: a finished one of the class pure without protected variables, until
+/// the lines of the others are read. Other bytes are refused with the first line in which no such
+/// document's text can go on, counted from 1. A last line without its byte 10 is such a line; where the
+/// text ends too early, so is the line after its last one. The other error is want of memory.
 pub fn read(alloc: Global, bytes: &[u8]) -> Result<Document, ReadStop>
     ensures document { IfOk result (IsReadAs bytes.now) }
     ensures stop { IfErr result (IsStop bytes.now) }
@@ -46,7 +46,7 @@ fn finish(draft: Draft) -> Option<Document>
     ensures some { IfSome result (λ d. (d ≡ Done (document_of draft)) × IsWhole draft) }
     ensures none { IsNone result → IsWhole draft → ⊥ }
 {
-    if draft.stage != Stage::Clauses {
+    if draft.due != LineDue::Clauses {
         return None;
     }
     if draft.texts.len() as usize != draft.kept.len() {
@@ -55,6 +55,7 @@ fn finish(draft: Draft) -> Option<Document>
     Some(Document::Done(DoneDocument {
         vars: draft.vars,
         clauses: draft.clauses,
+        protect: None,
         kept: draft.kept,
         set: draft.set,
         body: Body::Pure {
@@ -75,7 +76,7 @@ fn fresh(alloc: Global) -> Result<Draft, OutOfMemory>
         Err(FormulaError::OutOfMemory) => return Err(OutOfMemory),
     };
     Ok(Draft {
-        stage: Stage::Class,
+        due: LineDue::Format,
         vars: 0,
         clauses: 0,
         kept: List::new(alloc),

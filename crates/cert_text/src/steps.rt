@@ -4,9 +4,9 @@ ghost use Rattle.lk_model.specs.Limits.{max_vars, max_clauses};
 ghost use Rattle.lk_model.specs.declared.document.Pair.{Pair};
 ghost use Rattle.cert_text.specs.Drafts.{IsDraft, fields, problem_line};
 ghost use Rattle.cert_text.specs.LastVars.{last_or};
-ghost use Rattle.cert_text.specs.Taking.{IsReady, IsReadyAgain, Takes, TakesPairOrProblem, TakesClass, TakesSizes, TakesKeep, TakesSet, TakesOrder, TakesPair, TakesProblem, TakesClause};
+ghost use Rattle.cert_text.specs.Taking.{IsReady, IsReadyAgain, Takes, TakesPairOrProblem, TakesFormat, TakesSizes, TakesKeep, TakesSet, TakesOrder, TakesPair, TakesProblem, TakesClause};
 
-use crate::draft::{Draft, Stage};
+use crate::draft::{Draft, LineDue};
 use crate::fields::{behind, pair_in, two_numbers};
 use crate::lists::{literals_in, numbers_in, read_clause};
 use lk_model::{Formula, FormulaError, List, MAX_CLAUSES, MAX_VARS, OpenClause, OutOfMemory, Pair};
@@ -25,31 +25,31 @@ pub(crate) fn take_line(
     ensures taken { IfOk result (λ taken. Takes draft.old line.now taken draft.new) }
     ensures ready { IfOk result (λ taken. IsReadyAgain taken draft.new growing.new) }
 {
-    match draft.stage {
-        Stage::Class => Ok(take_class(draft, line)),
-        Stage::Sizes => {
+    match draft.due {
+        LineDue::Format => Ok(take_format(draft, line)),
+        LineDue::Sizes => {
             let taken = take_sizes(alloc, draft, line)?;
             if taken {
                 *growing = OpenClause::new(alloc, draft.vars)?;
             }
             Ok(taken)
         }
-        Stage::Keep => take_keep(alloc, draft, line),
-        Stage::Set => take_set(alloc, draft, line),
-        Stage::Order => take_order(alloc, draft, line),
-        Stage::Pairs => take_pair_or_problem(draft, line),
-        Stage::Clauses => take_clause(draft, growing, line),
+        LineDue::Keep => take_keep(alloc, draft, line),
+        LineDue::Set => take_set(alloc, draft, line),
+        LineDue::Order => take_order(alloc, draft, line),
+        LineDue::Pairs => take_pair_or_problem(draft, line),
+        LineDue::Clauses => take_clause(draft, growing, line),
     }
 }
 
 /// Takes the line of the format and the class.
-fn take_class(draft: &mut Draft, line: &[u8]) -> bool
-    ensures { TakesClass draft.old line.now result draft.new }
+fn take_format(draft: &mut Draft, line: &[u8]) -> bool
+    ensures { TakesFormat draft.old line.now result draft.new }
 {
     if line != b"c leank 1 pure".as_slice() {
         return false;
     }
-    draft.stage = Stage::Sizes;
+    draft.due = LineDue::Sizes;
     true
 }
 
@@ -68,7 +68,7 @@ fn take_sizes(alloc: Global, draft: &mut Draft, line: &[u8]) -> Result<bool, Out
         Err(FormulaError::Limit) => unreachable!(),
         Err(FormulaError::OutOfMemory) => return Err(OutOfMemory),
     };
-    draft.stage = Stage::Keep;
+    draft.due = LineDue::Keep;
     draft.vars = vars;
     draft.clauses = clauses;
     draft.texts = texts;
@@ -86,7 +86,7 @@ fn take_keep(alloc: Global, draft: &mut Draft, line: &[u8]) -> Result<bool, OutO
     let Some(kept) = numbers_in(alloc, rest, draft.clauses)? else {
         return Ok(false);
     };
-    draft.stage = Stage::Set;
+    draft.due = LineDue::Set;
     draft.kept = kept;
     Ok(true)
 }
@@ -102,7 +102,7 @@ fn take_set(alloc: Global, draft: &mut Draft, line: &[u8]) -> Result<bool, OutOf
     let Some(set) = literals_in(alloc, rest, draft.vars, true)? else {
         return Ok(false);
     };
-    draft.stage = Stage::Order;
+    draft.due = LineDue::Order;
     draft.set = set;
     Ok(true)
 }
@@ -118,7 +118,7 @@ fn take_order(alloc: Global, draft: &mut Draft, line: &[u8]) -> Result<bool, Out
     let Some(order) = literals_in(alloc, rest, draft.vars, false)? else {
         return Ok(false);
     };
-    draft.stage = Stage::Pairs;
+    draft.due = LineDue::Pairs;
     draft.order = order;
     draft.pairs = List::new(alloc);
     Ok(true)
@@ -183,7 +183,7 @@ fn take_problem(draft: &mut Draft, line: &[u8]) -> bool
     if !is_problem(draft, line) {
         return false;
     }
-    draft.stage = Stage::Clauses;
+    draft.due = LineDue::Clauses;
     true
 }
 

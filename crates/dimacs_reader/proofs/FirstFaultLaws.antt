@@ -1,8 +1,8 @@
 -- The first fault that is met is the one with the least place.
 use Rattle.std.proofs.Common.{◌≡◌, ℕ, ◌+◌, ◌≤◌, ◌<◌, List, length, Some, arith, ◌∙◌}
-use Rattle.lk_model.specs.Lines.{lines_of}
-use Rattle.lk_model.specs.Dimacs.{content_lines}
-use Rattle.lk_model.specs.Fault.{least, content_faults, stop}
+use Rattle.lk_model.specs.Texts.Lines.{lines_of}
+use Rattle.lk_model.specs.Texts.Dimacs.{content_lines}
+use Rattle.lk_model.specs.Texts.Fault.{least, content_faults, stop}
 use Rattle.lk_model.specs.declared.text_fault.Fault.{Fault}
 use Rattle.dimacs_reader.specs.FirstFaults.{fault_from}
 use Rattle.dimacs_reader.proofs.Least.{least_above}

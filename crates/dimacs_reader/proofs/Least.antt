@@ -1,7 +1,7 @@
 -- The least of some faults, where their places have bounds.
 use Rattle.std.proofs.Common.{◌≡◌, ℕ, ◌<◌, ◌≤◌, Bool, true, false, cond, List, [], ◌∷◌, ◌++◌, refl, ◌∙◌, ap, subst, arith, Option, Some, None, nat_le}
 use Rattle.std.proofs.lemmas.Bool.{le-leb, lt-leb}
-use Rattle.lk_model.specs.Fault.{fault_if, earlier_of, least}
+use Rattle.lk_model.specs.Texts.Fault.{fault_if, earlier_of, least}
 use Rattle.lk_model.specs.declared.text_fault.Fault.{Fault}
 use Rattle.lk_model.specs.declared.text_fault.FaultKind.{FaultKind}
 use Rattle.dimacs_reader.specs.FirstFaults.{first_or, or_behind}

@@ -7,10 +7,10 @@ pub mod FirstFaultLaws
 pub mod TextLemmas
 pub mod PieceLemmas
 pub mod LineLemmas
-pub mod HeaderLemmas
+pub mod ProblemLemmas
 pub mod NumberLemmas
 pub mod WordKinds
-pub mod BodyLemmas
+pub mod StateLemmas
 pub mod Progress
 pub mod Stopping
 pub mod Spelling

@@ -1,16 +1,16 @@
--- The faults of lines behind a header, and of all lines.
+-- The faults of lines behind a problem line, and of all lines.
 use Rattle.std.proofs.Common.{◌≡◌, ℕ, ◌<◌, Bool, true, false, not, cond, ◌||◌, List, [], ◌∷◌, ◌++◌, length, refl, ◌∙◌, ap, arith, Option, Some, None, nat_lt}
 use Rattle.std.specs.Prelude.{filter, flat_map}
 use Rattle.std.proofs.lemmas.List.{append-nil}
 use Rattle.lk_model.specs.Limits.{max_vars, max_clauses}
-use Rattle.lk_model.specs.Lines.{Piece, words_of, texts}
-use Rattle.lk_model.specs.Dimacs.{is_problem, stated_by, runs_of}
-use Rattle.lk_model.specs.Fault.{fault_if, first_of_line, numbers_of, problem_faults, content_faults, least}
+use Rattle.lk_model.specs.Texts.Lines.{Piece, words_of, texts}
+use Rattle.lk_model.specs.Texts.Dimacs.{is_problem, stated_by, runs_of}
+use Rattle.lk_model.specs.Texts.Fault.{fault_if, first_of_line, numbers_of, problem_faults, content_faults, least}
 use Rattle.lk_model.specs.declared.text_fault.Fault.{Fault}
 use Rattle.lk_model.specs.declared.text_fault.FaultKind.{FaultKind}
 use Rattle.lk_model.specs.declared.text_fault.FaultKind.TheVariants.{NoHeader, SecondHeader, TooFewClauses, Limit}
 use Rattle.dimacs_reader.specs.LineKinds.{kind_by}
-use Rattle.dimacs_reader.specs.FirstFaults.{or_behind, fault_among, fault_at_end, line_fault, fault_behind, header_fault, first_line_fault, fault_from}
+use Rattle.dimacs_reader.specs.FirstFaults.{or_behind, fault_among, fault_at_end, line_fault, fault_behind, problem_line_fault, first_line_fault, fault_from}
 use Rattle.dimacs_reader.specs.declared.kinds.LineKind.{LineKind}
 use Rattle.dimacs_reader.specs.declared.kinds.LineKind.TheVariants.{Skipped, EndMark, Problem, Numbers}
 use Rattle.dimacs_reader.proofs.Least.{Above, above_append, above_less, above_at, at_fault_if, least_first}
@@ -18,9 +18,9 @@ use Rattle.dimacs_reader.proofs.Placing.{AreLines, words_order}
 use Rattle.dimacs_reader.proofs.LineSteps.{counted_of, end_of, Adds, adds, IsPlaced, kind_placed}
 use Rattle.dimacs_reader.proofs.WordFaults.{faults_of, faults_above, least_words}
 
--- BEHIND A HEADER
+-- BEHIND A PROBLEM LINE
 
--- the faults of headers behind the first one
+-- the faults of problem lines behind the first one
 abbrev pub seconds : List Piece → List Fault
 seconds lines = flat_map (λ line. fault_if true SecondHeader (first_of_line line)) (filter is_problem lines)
 
@@ -28,7 +28,7 @@ seconds lines = flat_map (λ line. fault_if true SecondHeader (first_of_line lin
 abbrev pub number_words : List Piece → List Piece
 number_words lines = flat_map words_of (filter (λ line. not (is_problem line)) lines)
 
--- a header is one more fault, and a line of numbers is none
+-- a problem line is one more fault, and a line of numbers is none
 seconds_problem : (line : Piece) (lines : List Piece) → is_problem line ≡ true
     → seconds (line ∷ lines) ≡ record { kind = SecondHeader; place = first_of_line line } ∷ seconds lines
 seconds_problem line lines e =
@@ -38,7 +38,7 @@ seconds_numbers : (line : Piece) (lines : List Piece) → is_problem line ≡ fa
 seconds_numbers line lines e =
     ap (λ (b : Bool). flat_map (λ l. fault_if true SecondHeader (first_of_line l)) (cond b (line ∷ filter is_problem lines) (filter is_problem lines))) e
 
--- a header has no words of numbers, and a line of numbers has its words
+-- a problem line has no words of numbers, and a line of numbers has its words
 words_problem : (line : Piece) (lines : List Piece) → is_problem line ≡ true → number_words (line ∷ lines) ≡ number_words lines
 words_problem line lines e =
     ap (λ (b : Bool). flat_map words_of (cond (not b) (line ∷ filter (λ l. not (is_problem l)) lines) (filter (λ l. not (is_problem l)) lines))) e
@@ -47,7 +47,7 @@ words_numbers : (line : Piece) (lines : List Piece) → is_problem line ≡ fals
 words_numbers line lines e =
     ap (λ (b : Bool). flat_map words_of (cond (not b) (line ∷ filter (λ l. not (is_problem l)) lines) (filter (λ l. not (is_problem l)) lines))) e
 
--- the faults of further headers stand behind the place before the lines
+-- the faults of further problem lines stand behind the place before the lines
 pub seconds_above : (n : ℕ) (lines : List Piece) (last : ℕ) → AreLines n lines last → Above n (seconds (counted_of lines))
 seconds_above n [] last a = tt
 seconds_above n (line ∷ lines) last a =
@@ -96,7 +96,7 @@ least_end clauses earlier end =
     ap (λ (ws : List Piece). least (fault_if (nat_lt (length (runs_of (numbers_of ws))) clauses) TooFewClauses end)) (append-nil earlier)
     ∙ least_if (nat_lt (length (runs_of (numbers_of earlier))) clauses) TooFewClauses end
 
--- all faults behind a header
+-- all faults behind a problem line
 abbrev pub all_behind : ℕ → ℕ → List Piece → List Piece → ℕ → List Fault
 all_behind vars clauses earlier lines over = seconds (counted_of lines) ++ faults_behind vars clauses earlier lines over
 
@@ -106,7 +106,7 @@ pub all_above : (vars clauses n : ℕ) (lines : List Piece) (last over : ℕ) �
 all_above vars clauses n lines last over a h earlier =
     above_append n (seconds (counted_of lines)) (faults_behind vars clauses earlier lines over) (seconds_above n lines last a) (behind_above vars clauses n lines last over a h earlier)
 
--- the least of the faults behind a header is the first one
+-- the least of the faults behind a problem line is the first one
 pub least_behind : (vars clauses n : ℕ) (lines : List Piece) (last over : ℕ) → AreLines n lines last → last < over
     → (earlier : List Piece) → least (all_behind vars clauses earlier lines over) ≡ fault_behind vars clauses earlier lines over
 least_behind vars clauses n [] last over a h earlier = least_end clauses earlier over
@@ -139,25 +139,25 @@ least_behind vars clauses n (line ∷ lines) last over a h earlier =
 abbrev pub all_faults : List Piece → ℕ → List Fault
 all_faults lines over = content_faults (counted_of lines) (end_of lines over)
 
--- all faults of a header and of the lines behind it
-abbrev header_faults : Option (ℕ × ℕ) → Piece → List Piece → ℕ → List Fault
-header_faults stated line lines over = problem_faults stated line (counted_of lines) (end_of lines over)
+-- all faults of a problem line and of the lines behind it
+abbrev faults_of_problem_line : Option (ℕ × ℕ) → Piece → List Piece → ℕ → List Fault
+faults_of_problem_line stated line lines over = problem_faults stated line (counted_of lines) (end_of lines over)
 
--- the faults of lines whose first one is a header, and of others
-faults_header : (line : Piece) (lines : List Piece) (end : ℕ) → is_problem line ≡ true
+-- the faults of lines whose first one is a problem line, and of others
+faults_problem_line : (line : Piece) (lines : List Piece) (end : ℕ) → is_problem line ≡ true
     → content_faults (line ∷ lines) end ≡ problem_faults (stated_by (texts (words_of line))) line lines end
-faults_header line lines end e =
+faults_problem_line line lines end e =
     ap (λ (b : Bool). cond b (problem_faults (stated_by (texts (words_of line))) line lines end) (fault_if true NoHeader (first_of_line line))) e
 
-faults_no_header : (line : Piece) (lines : List Piece) (end : ℕ) → is_problem line ≡ false → content_faults (line ∷ lines) end ≡ fault_if true NoHeader (first_of_line line)
-faults_no_header line lines end e =
+faults_no_problem_line : (line : Piece) (lines : List Piece) (end : ℕ) → is_problem line ≡ false → content_faults (line ∷ lines) end ≡ fault_if true NoHeader (first_of_line line)
+faults_no_problem_line line lines end e =
     ap (λ (b : Bool). cond b (problem_faults (stated_by (texts (words_of line))) line lines end) (fault_if true NoHeader (first_of_line line))) e
 
--- all faults of a header and of the lines behind it stand behind the place before the header
-header_above : (n : ℕ) (stated : Option (ℕ × ℕ)) (line : Piece) (lines : List Piece) (last over : ℕ) → n < line.last → AreLines line.last lines last → last < over
-    → Above n (header_faults stated line lines over)
-header_above n None line lines last over p a h = (p, tt)
-header_above n (Some (vars, clauses)) line lines last over p a h =
+-- all faults of a problem line and of the lines behind it stand behind the place before the problem line
+problem_line_above : (n : ℕ) (stated : Option (ℕ × ℕ)) (line : Piece) (lines : List Piece) (last over : ℕ) → n < line.last → AreLines line.last lines last → last < over
+    → Above n (faults_of_problem_line stated line lines over)
+problem_line_above n None line lines last over p a h = (p, tt)
+problem_line_above n (Some (vars, clauses)) line lines last over p a h =
     above_append n (fault_if (nat_lt max_vars vars || nat_lt max_clauses clauses) Limit line.last) (all_behind vars clauses [] lines over)
     (above_at n line.last (fault_if (nat_lt max_vars vars || nat_lt max_clauses clauses) Limit line.last) p (at_fault_if _ Limit line.last))
     (above_less n line.last (all_behind vars clauses [] lines over) (omega (arith, p)) (all_above vars clauses line.last lines last over a h []))
@@ -174,15 +174,15 @@ lines_above n (line ∷ lines) last over a h =
     above_by Skipped s p later = rw (s.0, s.1) later
     above_by (Problem first) s p later =
         let b = p in
-        rw (s.0, s.1, faults_header line (counted_of lines) (end_of lines over) s.2)
-        (header_above n (stated_by (texts (words_of line))) line lines last over (omega (arith, b)) a.1 h)
-    above_by (Numbers first) s p later = rw (s.0, s.1, faults_no_header line (counted_of lines) (end_of lines over) s.2, s.3) (p.0, tt)
+        rw (s.0, s.1, faults_problem_line line (counted_of lines) (end_of lines over) s.2)
+        (problem_line_above n (stated_by (texts (words_of line))) line lines last over (omega (arith, b)) a.1 h)
+    above_by (Numbers first) s p later = rw (s.0, s.1, faults_no_problem_line line (counted_of lines) (end_of lines over) s.2, s.3) (p.0, tt)
 
--- the least fault of a header and of the lines behind it is the first one
-least_header : (stated : Option (ℕ × ℕ)) (line : Piece) (lines : List Piece) (last over : ℕ) → AreLines line.last lines last → last < over
-    → least (header_faults stated line lines over) ≡ header_fault stated line.last lines over
-least_header None line lines last over a h = refl
-least_header (Some (vars, clauses)) line lines last over a h = at_limit (nat_lt max_vars vars || nat_lt max_clauses clauses)
+-- the least fault of a problem line and of the lines behind it is the first one
+least_problem_line : (stated : Option (ℕ × ℕ)) (line : Piece) (lines : List Piece) (last over : ℕ) → AreLines line.last lines last → last < over
+    → least (faults_of_problem_line stated line lines over) ≡ problem_line_fault stated line.last lines over
+least_problem_line None line lines last over a h = refl
+least_problem_line (Some (vars, clauses)) line lines last over a h = at_limit (nat_lt max_vars vars || nat_lt max_clauses clauses)
   where
     at_limit : (b : Bool) → least (fault_if b Limit line.last ++ all_behind vars clauses [] lines over)
         ≡ cond b (Some (record { kind = Limit; place = line.last })) (fault_behind vars clauses [] lines over)
@@ -197,9 +197,9 @@ least_lines n (line ∷ lines) last over a h = least_by (kind_by (words_of line)
   where
     least_by : (kind : LineKind) → Adds kind line lines over → least (all_faults lines over) ≡ fault_from lines over
         → least (all_faults (line ∷ lines) over)
-        ≡ first_line_fault kind (fault_from lines over) (header_fault (stated_by (texts (words_of line))) line.last lines over)
+        ≡ first_line_fault kind (fault_from lines over) (problem_line_fault (stated_by (texts (words_of line))) line.last lines over)
     least_by (EndMark first) s later = rw (s.0, s.1) refl
     least_by Skipped s later = rw (s.0, s.1) later
     least_by (Problem first) s later =
-        rw (s.0, s.1, faults_header line (counted_of lines) (end_of lines over) s.2) (least_header (stated_by (texts (words_of line))) line lines last over a.1 h)
-    least_by (Numbers first) s later = rw (s.0, s.1, faults_no_header line (counted_of lines) (end_of lines over) s.2, s.3) refl
+        rw (s.0, s.1, faults_problem_line line (counted_of lines) (end_of lines over) s.2) (least_problem_line (stated_by (texts (words_of line))) line lines last over a.1 h)
+    least_by (Numbers first) s later = rw (s.0, s.1, faults_no_problem_line line (counted_of lines) (end_of lines over) s.2, s.3) refl

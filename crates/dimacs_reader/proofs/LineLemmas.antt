@@ -7,15 +7,15 @@ use Rattle.std.proofs.lemmas.Bool.{cases_Bool, eqb-true}
 use Rattle.std.proofs.lemmas.List.{take-append-drop, take_all, get_or-take, get_or-drop}
 use Rattle.std.proofs.lemmas.List.Folds.{list_all-append}
 use Rattle.lk_model.specs.Lists.{is_empty}
-use Rattle.lk_model.specs.Lines.{Piece, Word, texts}
-use Rattle.lk_model.specs.Dimacs.{stated_by}
-use Rattle.lk_model.specs.NumberWords.{natural}
+use Rattle.lk_model.specs.Texts.Lines.{Piece, Word, texts}
+use Rattle.lk_model.specs.Texts.Dimacs.{stated_by}
+use Rattle.lk_model.specs.Texts.NumberWords.{natural}
 use Rattle.lk_model.proofs.Booleans.{and_true}
 use Rattle.lk_text.specs.Cutting.{is_one_line, IsNextWord, IsNextLine}
 use Rattle.lk_text.specs.declared.cuts.Cut.{Cut}
 use Rattle.dimacs_reader.specs.Contents.{words_after, first_of, content_from}
 use Rattle.dimacs_reader.specs.LineKinds.{kind_by}
-use Rattle.dimacs_reader.specs.Headers.{capped}
+use Rattle.dimacs_reader.specs.ProblemLines.{capped}
 use Rattle.dimacs_reader.specs.declared.kinds.LineKind.{LineKind}
 use Rattle.dimacs_reader.specs.declared.kinds.LineKind.TheVariants.{Skipped, EndMark, Problem, Numbers}
 use Rattle.dimacs_reader.proofs.TextLemmas.{length-range, content_next}
@@ -118,7 +118,7 @@ pub some_test : {X : Type 0} (xs : List X) (b : Bool) → b ≡ nat_eq (length x
 some_test [] b e t = absurd (cc (e, t))
 some_test (x ∷ xs) b e t = refl
 
--- HEADERS
+-- PROBLEM LINES
 
 -- too few words or too many
 pub states_few : (words : List Word) → length words < 4 → stated_by words ≡ None
@@ -131,11 +131,11 @@ states_few (a ∷ b ∷ d ∷ f ∷ words) h = absurd (omega (arith, h))
 pub states_many : (a b d f g : Word) (words : List Word) → stated_by (a ∷ b ∷ d ∷ f ∷ g ∷ words) ≡ None
 states_many a b d f g words = refl
 
--- words that state no header
+-- words that state no problem line
 pub states_other : (a b d f : Word) → (bytes_eq a (codes "p") && bytes_eq b (codes "cnf")) ≡ false → stated_by (a ∷ b ∷ d ∷ f ∷ []) ≡ None
-states_other a b d f no_header = ap (λ (t : Bool). cond t (option_zip (natural d) (natural f)) None) no_header
+states_other a b d f no_problem_line = ap (λ (t : Bool). cond t (option_zip (natural d) (natural f)) None) no_problem_line
 
--- the numbers of a header
+-- the numbers of a problem line
 abbrev capped_at : Option ℕ → Option ℕ
 capped_at o = option_map (λ n. min n (2 ^ 127)) o
 
@@ -147,25 +147,25 @@ zip_capped (Some v) (Some c) x y e f =
     let right : y ≡ min c (2 ^ 127) = cc in
     ap (λ (n : ℕ). Some (n, min c (2 ^ 127))) (sym left) ∙ ap (λ (n : ℕ). Some (x, n)) (sym right)
 
-pub states_header : (a b d f : Word) (x y : ℕ) → (bytes_eq a (codes "p") && bytes_eq b (codes "cnf")) ≡ true
+pub states_problem_line : (a b d f : Word) (x y : ℕ) → (bytes_eq a (codes "p") && bytes_eq b (codes "cnf")) ≡ true
     → Some x ≡ capped_at (natural d) → Some y ≡ capped_at (natural f) → option_map capped (stated_by (a ∷ b ∷ d ∷ f ∷ [])) ≡ Some (x, y)
-states_header a b d f x y header vars clauses =
-    ap (λ (t : Bool). option_map capped (cond t (option_zip (natural d) (natural f)) None)) header ∙ zip_capped (natural d) (natural f) x y vars clauses
+states_problem_line a b d f x y problem vars clauses =
+    ap (λ (t : Bool). option_map capped (cond t (option_zip (natural d) (natural f)) None)) problem ∙ zip_capped (natural d) (natural f) x y vars clauses
 
--- a header without one of its numbers
+-- a problem line without one of its numbers
 pub states_no_vars : (a b d f : Word) → None ≡ capped_at (natural d) → stated_by (a ∷ b ∷ d ∷ f ∷ []) ≡ None
-states_no_vars a b d f e = by_header (bytes_eq a (codes "p") && bytes_eq b (codes "cnf")) (natural d) e
+states_no_vars a b d f e = by_problem_line (bytes_eq a (codes "p") && bytes_eq b (codes "cnf")) (natural d) e
   where
-    by_header : (t : Bool) (o : Option ℕ) → None ≡ capped_at o → cond t (option_zip o (natural f)) None ≡ None
-    by_header true None h = refl
-    by_header true (Some v) h = absurd (let g : ⊥ = cc in g)
-    by_header false o h = refl
+    by_problem_line : (t : Bool) (o : Option ℕ) → None ≡ capped_at o → cond t (option_zip o (natural f)) None ≡ None
+    by_problem_line true None h = refl
+    by_problem_line true (Some v) h = absurd (let g : ⊥ = cc in g)
+    by_problem_line false o h = refl
 
 pub states_no_clauses : (a b d f : Word) → None ≡ capped_at (natural f) → stated_by (a ∷ b ∷ d ∷ f ∷ []) ≡ None
-states_no_clauses a b d f e = by_header (bytes_eq a (codes "p") && bytes_eq b (codes "cnf")) (natural d) (natural f) e
+states_no_clauses a b d f e = by_problem_line (bytes_eq a (codes "p") && bytes_eq b (codes "cnf")) (natural d) (natural f) e
   where
-    by_header : (t : Bool) (v o : Option ℕ) → None ≡ capped_at o → cond t (option_zip v o) None ≡ None
-    by_header true None None h = refl
-    by_header true (Some v) None h = refl
-    by_header true v (Some c) h = absurd (let g : ⊥ = cc in g)
-    by_header false v o h = refl
+    by_problem_line : (t : Bool) (v o : Option ℕ) → None ≡ capped_at o → cond t (option_zip v o) None ≡ None
+    by_problem_line true None None h = refl
+    by_problem_line true (Some v) None h = refl
+    by_problem_line true v (Some c) h = absurd (let g : ⊥ = cc in g)
+    by_problem_line false v o h = refl

@@ -3,9 +3,9 @@ use Rattle.std.proofs.Common.{◌≡◌, ℕ, suc, ◌+◌, ◌<◌, ◌≤◌, 
 use Rattle.std.specs.Prelude.{filter, take_while, find, slice_get, slice_index, unwrap_or, option_map}
 use Rattle.std.specs.List.{prefix_len}
 use Rattle.lk_model.specs.Lists.{is_empty}
-use Rattle.lk_model.specs.Lines.{Piece, first_place, words_of}
-use Rattle.lk_model.specs.Dimacs.{first_byte, is_blank_line, is_comment, is_problem, is_end_mark}
-use Rattle.lk_model.specs.Fault.{first_of_line}
+use Rattle.lk_model.specs.Texts.Lines.{Piece, first_place, words_of}
+use Rattle.lk_model.specs.Texts.Dimacs.{first_byte, is_blank_line, is_comment, is_problem, is_end_mark}
+use Rattle.lk_model.specs.Texts.Fault.{first_of_line}
 use Rattle.dimacs_reader.specs.LineKinds.{kind_by}
 use Rattle.dimacs_reader.specs.declared.kinds.LineKind.{LineKind}
 use Rattle.dimacs_reader.specs.declared.kinds.LineKind.TheVariants.{Skipped, EndMark, Problem, Numbers}
@@ -25,7 +25,7 @@ end_of lines over = unwrap_or (option_map first_of_line (find is_end_mark lines)
 abbrev first_place_of : List Piece → ℕ → ℕ
 first_place_of words last = unwrap_or (option_map first_place (slice_get words 0)) last
 
--- what a kind says of three tests of a line: is it an end mark, is it skipped, is it a header
+-- what a kind says of three tests of a line: is it an end mark, is it skipped, is it a problem line
 abbrev Tests : LineKind → Bool → Bool → Bool → ℕ → Type 0
 Tests (EndMark first) end skipped problem place = (end ≡ true) × (place ≡ first)
 Tests Skipped end skipped problem place = (end ≡ false) × (skipped ≡ true)

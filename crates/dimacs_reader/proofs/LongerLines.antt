@@ -3,8 +3,8 @@ use Rattle.std.proofs.Common.{◌≡◌, ◌⊎◌, ℕ, ◌+◌, ◌-◌, ◌<�
 use Rattle.std.specs.Prelude.{filter}
 use Rattle.std.specs.List.{slice_split}
 use Rattle.lk_model.specs.Lists.{is_empty}
-use Rattle.lk_model.specs.Lines.{Piece, is_blank, placed_after, words_of}
-use Rattle.lk_model.specs.Fault.{word_faults}
+use Rattle.lk_model.specs.Texts.Lines.{Piece, is_blank, placed_after, words_of}
+use Rattle.lk_model.specs.Texts.Fault.{word_faults}
 use Rattle.lk_model.specs.declared.text_fault.Fault.{Fault}
 use Rattle.dimacs_reader.specs.LineKinds.{kind_by}
 use Rattle.dimacs_reader.specs.FirstFaults.{first_or, fault_among}

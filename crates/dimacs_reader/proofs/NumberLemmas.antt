@@ -9,8 +9,8 @@ use Rattle.std.proofs.lemmas.List.{append-nil}
 use Rattle.std.proofs.lemmas.List.Elements.{filter-append}
 use Rattle.std.proofs.lemmas.List.Sums.{sum_by-cons, length-filter, count_by-le-length}
 use Rattle.lk_model.specs.Lists.{is_empty, is_zero}
-use Rattle.lk_model.specs.Literal.{contains}
-use Rattle.lk_model.specs.Dimacs.{without_empty_last, without_repeats}
+use Rattle.lk_model.specs.Formulas.Literal.{contains}
+use Rattle.lk_model.specs.Texts.Dimacs.{without_empty_last, without_repeats}
 
 -- RUNS
 

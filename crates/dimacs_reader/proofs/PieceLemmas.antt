@@ -7,7 +7,7 @@ use Rattle.std.proofs.lemmas.List.{append-nil}
 use Rattle.std.proofs.Math.Seq.{drop-cons, drop-length}
 use Rattle.std.proofs.lemmas.List.Splits.{slice_split_at, slice_split_none, slice_split-cons_yes}
 use Rattle.lk_model.specs.Lists.{is_empty}
-use Rattle.lk_model.specs.Lines.{Piece, is_newline, is_blank, placed_after, words_of, texts}
+use Rattle.lk_model.specs.Texts.Lines.{Piece, is_newline, is_blank, placed_after, words_of, texts}
 use Rattle.lk_model.proofs.Booleans.{and_true}
 use Rattle.lk_text.specs.Cutting.{has_no_blank, IsNextLine, IsNextWord, HasNoWord}
 use Rattle.lk_text.specs.declared.cuts.Cut.{Cut}

@@ -4,7 +4,7 @@ use Rattle.std.specs.Prelude.{filter}
 use Rattle.std.specs.List.{slice_split, onto_first}
 use Rattle.std.proofs.lemmas.Bool.{cases_Bool}
 use Rattle.lk_model.specs.Lists.{is_empty}
-use Rattle.lk_model.specs.Lines.{Piece, first_place, is_newline, is_blank, placed_after, lines_of, words_of}
+use Rattle.lk_model.specs.Texts.Lines.{Piece, first_place, is_newline, is_blank, placed_after, lines_of, words_of}
 
 -- PIECES
 

@@ -2,24 +2,24 @@
 use Rattle.std.proofs.Common.{◌≡◌, ℕ, ◌+◌, ◌<◌, ◌≤◌, Bool, true, false, cond, ◌||◌, List, [], ◌∷◌, ◌++◌, length, Option, Some, None, refl, sym, ◌∙◌, ap, arith, inl, inr, length-append, nat_lt}
 use Rattle.std.specs.List.{slice_split}
 use Rattle.lk_model.specs.Limits.{max_vars, max_clauses}
-use Rattle.lk_model.specs.Lines.{Piece, is_newline, placed_after, words_of, texts}
-use Rattle.lk_model.specs.Dimacs.{stated_by}
+use Rattle.lk_model.specs.Texts.Lines.{Piece, is_newline, placed_after, words_of, texts}
+use Rattle.lk_model.specs.Texts.Dimacs.{stated_by}
 use Rattle.lk_model.specs.declared.text_fault.Fault.{Fault}
 use Rattle.lk_model.specs.declared.text_fault.FaultKind.TheVariants.{NoHeader, Limit}
 use Rattle.dimacs_reader.specs.LineKinds.{kind_by}
-use Rattle.dimacs_reader.specs.FirstFaults.{or_behind, fault_among, fault_at_end, line_fault, fault_behind, header_fault, first_line_fault, fault_from, text_fault}
+use Rattle.dimacs_reader.specs.FirstFaults.{or_behind, fault_among, fault_at_end, line_fault, fault_behind, problem_line_fault, first_line_fault, fault_from, text_fault}
 use Rattle.dimacs_reader.specs.declared.kinds.LineKind.{LineKind}
 use Rattle.dimacs_reader.proofs.Placing.{room, room_split}
 use Rattle.dimacs_reader.proofs.LineSteps.{kind_placed}
 use Rattle.dimacs_reader.proofs.PieceLemmas.{piece}
 use Rattle.dimacs_reader.proofs.NumberLemmas.{glue, split_part, split-append}
-use Rattle.dimacs_reader.proofs.LateFaults.{late_fault, or_late, late_end, late_behind, late_from, late_header, same_line, late_line, same_first, late_first}
+use Rattle.dimacs_reader.proofs.LateFaults.{late_fault, or_late, late_end, late_behind, late_from, late_problem_line, same_line, late_line, same_first, late_first}
 use Rattle.dimacs_reader.proofs.LongerLines.{GoesOn, line_goes_on}
 pub use Rattle.dimacs_reader.proofs.LateFaults.{within}
 
 -- THE LAST LINE
 
--- the last line behind a header, where it goes on and others follow
+-- the last line behind a problem line, where it goes on and others follow
 last_behind : (k vars clauses n end over over2 : ℕ) (earlier : List Piece) (line line2 : Piece) (later : List (List ℕ))
     → GoesOn k (words_of line) (words_of line2) end → k < over → k < n → n + room later ≤ over2
     → within k (fault_behind vars clauses earlier (line2 ∷ placed_after n later) over2) ≡ within k (fault_behind vars clauses earlier (line ∷ []) over)
@@ -44,31 +44,31 @@ last_behind k vars clauses n end over over2 earlier line line2 later g h i o =
           ∙ sym (ap (λ (ws : List Piece). within k (line_fault (kind_by ws) clauses earlier here skipped taken)) e.0 ∙ late)
     ]
 
--- the same before the header
+-- the same before the problem line
 last_from : (k n end over over2 : ℕ) (line line2 : Piece) (later : List (List ℕ)) → GoesOn k (words_of line) (words_of line2) end
     → k < line.last → k < line2.last → k < over → k < n → n + room later ≤ over2
     → within k (fault_from (line2 ∷ placed_after n later) over2) ≡ within k (fault_from (line ∷ []) over)
 last_from k n end over over2 line line2 later g a b h i o =
     let skipped = fault_from [] over in
     let skipped2 = fault_from (placed_after n later) over2 in
-    let header = header_fault (stated_by (texts (words_of line))) line.last [] over in
-    let header2 = header_fault (stated_by (texts (words_of line2))) line2.last (placed_after n later) over2 in
+    let problem = problem_line_fault (stated_by (texts (words_of line))) line.last [] over in
+    let problem2 = problem_line_fault (stated_by (texts (words_of line2))) line2.last (placed_after n later) over2 in
     let late = late_fault k (record { kind = NoHeader; place = over }) h in
     let late2 = late_from k n over2 later i o in
-    let headed = late_header k (stated_by (texts (words_of line))) line.last over over [] a h (omega arith) in
-    let headed2 = late_header k (stated_by (texts (words_of line2))) line2.last n over2 later b i o in
+    let headed = late_problem_line k (stated_by (texts (words_of line))) line.last over over [] a h (omega arith) in
+    let headed2 = late_problem_line k (stated_by (texts (words_of line2))) line2.last n over2 later b i o in
     elim g.kind [
       | inl e ↦
-          ap (λ (kind : LineKind). within k (first_line_fault kind skipped2 header2)) e
-          ∙ same_first k (kind_by (words_of line)) skipped skipped2 header header2 (late2 ∙ sym late) (headed2 ∙ sym headed)
+          ap (λ (kind : LineKind). within k (first_line_fault kind skipped2 problem2)) e
+          ∙ same_first k (kind_by (words_of line)) skipped skipped2 problem problem2 (late2 ∙ sym late) (headed2 ∙ sym headed)
       | inr e ↦
-          late_first k end (kind_by (words_of line2)) skipped2 header2 (kind_placed k (words_of line2) end e.1) late2 headed2
-          ∙ sym (ap (λ (ws : List Piece). within k (first_line_fault (kind_by ws) skipped header)) e.0 ∙ late)
+          late_first k end (kind_by (words_of line2)) skipped2 problem2 (kind_placed k (words_of line2) end e.1) late2 headed2
+          ∙ sym (ap (λ (ws : List Piece). within k (first_line_fault (kind_by ws) skipped problem)) e.0 ∙ late)
     ]
 
 -- ALL LINES
 
--- the first fault behind a header, where the last line goes on
+-- the first fault behind a problem line, where the last line goes on
 same_behind : (k vars clauses n over over2 : ℕ) (parts : List (List ℕ)) (first : List ℕ) (later : List (List ℕ)) (earlier : List Piece)
     → k + 1 < n + room parts → n + room parts ≤ over → n + room (glue parts (first ∷ later)) ≤ over2
     → within k (fault_behind vars clauses earlier (placed_after n (glue parts (first ∷ later))) over2) ≡ within k (fault_behind vars clauses earlier (placed_after n parts) over)
@@ -95,12 +95,12 @@ same_behind k vars clauses n over over2 (run ∷ next ∷ parts) first later ear
     same_taken None b c e = e
     same_taken (Some f) b c e = refl
 
--- a header, where the last line behind it goes on
-same_header : (k : ℕ) (stated : Option (ℕ × ℕ)) (last n over over2 : ℕ) (parts : List (List ℕ)) (first : List ℕ) (later : List (List ℕ))
+-- a problem line, where the last line behind it goes on
+same_problem_line : (k : ℕ) (stated : Option (ℕ × ℕ)) (last n over over2 : ℕ) (parts : List (List ℕ)) (first : List ℕ) (later : List (List ℕ))
     → k + 1 < n + room parts → n + room parts ≤ over → n + room (glue parts (first ∷ later)) ≤ over2
-    → within k (header_fault stated last (placed_after n (glue parts (first ∷ later))) over2) ≡ within k (header_fault stated last (placed_after n parts) over)
-same_header k None last n over over2 parts first later h o o2 = refl
-same_header k (Some (vars, clauses)) last n over over2 parts first later h o o2 = by_test (nat_lt max_vars vars || nat_lt max_clauses clauses)
+    → within k (problem_line_fault stated last (placed_after n (glue parts (first ∷ later))) over2) ≡ within k (problem_line_fault stated last (placed_after n parts) over)
+same_problem_line k None last n over over2 parts first later h o o2 = refl
+same_problem_line k (Some (vars, clauses)) last n over over2 parts first later h o o2 = by_test (nat_lt max_vars vars || nat_lt max_clauses clauses)
   where
     by_test : (b : Bool) → within k (cond b (Some (record { kind = Limit; place = last })) (fault_behind vars clauses [] (placed_after n (glue parts (first ∷ later))) over2))
         ≡ within k (cond b (Some (record { kind = Limit; place = last })) (fault_behind vars clauses [] (placed_after n parts) over))
@@ -124,9 +124,9 @@ same_from k n over over2 (run ∷ next ∷ parts) first later h o o2 =
     let last = n + length run in
     let rest = placed_after (last + 1) (next ∷ parts) in
     let rest2 = placed_after (last + 1) (glue (next ∷ parts) (first ∷ later)) in
-    same_first k (kind_by words) (fault_from rest over) (fault_from rest2 over2) (header_fault stated last rest over) (header_fault stated last rest2 over2)
+    same_first k (kind_by words) (fault_from rest over) (fault_from rest2 over2) (problem_line_fault stated last rest over) (problem_line_fault stated last rest2 over2)
     (same_from k (last + 1) over over2 (next ∷ parts) first later (omega (arith, h)) (omega (arith, o)) (omega (arith, o2)))
-    (same_header k stated last (last + 1) over over2 (next ∷ parts) first later (omega (arith, h)) (omega (arith, o)) (omega (arith, o2)))
+    (same_problem_line k stated last (last + 1) over over2 (next ∷ parts) first later (omega (arith, h)) (omega (arith, o)) (omega (arith, o2)))
 
 -- the first fault of a text, within the first k bytes, where more bytes follow
 pub same_within : (k : ℕ) (text more : List ℕ) → k < length text → within k (text_fault (text ++ more)) ≡ within k (text_fault text)

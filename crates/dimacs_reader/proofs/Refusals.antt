@@ -4,9 +4,9 @@ use Rattle.std.specs.Prelude.{option_map, count_by}
 use Rattle.std.proofs.lemmas.Bool.{le-ltb, lt-ltb, le-leb, lt-leb, cases_lt}
 use Rattle.std.proofs.lemmas.List.{take-append-le, length-append}
 use Rattle.lk_model.specs.Limits.{max_bytes}
-use Rattle.lk_model.specs.Lines.{is_newline, line_number}
-use Rattle.lk_model.specs.Dimacs.{content_lines}
-use Rattle.lk_model.specs.Fault.{fault_if, content_faults, stop, least, earlier_of}
+use Rattle.lk_model.specs.Texts.Lines.{is_newline, line_number}
+use Rattle.lk_model.specs.Texts.Dimacs.{content_lines}
+use Rattle.lk_model.specs.Texts.Fault.{fault_if, content_faults, stop, least, earlier_of}
 use Rattle.lk_model.specs.declared.text_fault.Fault.{Fault}
 use Rattle.lk_model.specs.declared.text_fault.FaultKind.{FaultKind}
 use Rattle.lk_model.specs.declared.text_fault.FaultKind.TheVariants.{NoHeader, BadHeader, SecondHeader, BadToken, BeyondStated, TooManyClauses, TooFewClauses, Limit, TooLong}

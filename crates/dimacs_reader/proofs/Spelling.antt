@@ -6,10 +6,10 @@ use Rattle.std.proofs.lemmas.Bool.{cases_Bool}
 use Rattle.std.proofs.lemmas.List.{map-append}
 use Rattle.lk_model.specs.Lists.{is_empty}
 use Rattle.lk_model.specs.Limits.{max_vars, max_bytes}
-use Rattle.lk_model.specs.Formula.{Cnf}
-use Rattle.lk_model.specs.Lines.{Piece, Word, is_newline, lines_of, words_of, texts}
-use Rattle.lk_model.specs.NumberWords.{number}
-use Rattle.lk_model.specs.Dimacs.{Spells, first_byte, is_blank_line, is_comment, is_end_mark, content_lines, stated_by}
+use Rattle.lk_model.specs.Formulas.Formula.{Cnf}
+use Rattle.lk_model.specs.Texts.Lines.{Piece, Word, is_newline, lines_of, words_of, texts}
+use Rattle.lk_model.specs.Texts.NumberWords.{number}
+use Rattle.lk_model.specs.Texts.Dimacs.{Spells, first_byte, is_blank_line, is_comment, is_end_mark, content_lines, stated_by}
 use Rattle.dimacs_reader.specs.Contents.{words_in, first_of, is_end, is_content, content_of, content_from, IsWritten}
 use Rattle.dimacs_reader.proofs.TextLemmas.{content_line, with_line}
 use Rattle.dimacs_reader.proofs.PieceLemmas.{texts_placed, words_texts}
@@ -81,20 +81,20 @@ all_words (line ∷ lines) = map-append (λ (p : Piece). p.bytes) (words_of line
 
 -- WHAT A TEXT SPELLS
 
--- a header and what is written behind it
-pub record Spelled (header : List ℕ) (rest : List (List ℕ)) (F : Cnf) : Type 0 where
-  pub stated : stated_by (words_in header) ≡ Some (F.vars, length F.clauses)
+-- a problem line and what is written behind it
+pub record Spelled (bytes : List ℕ) (rest : List (List ℕ)) (F : Cnf) : Type 0 where
+  pub stated : stated_by (words_in bytes) ≡ Some (F.vars, length F.clauses)
   pub written : IsWritten F.vars (flat_map words_in rest) F
   pub small : F.vars ≤ max_vars
 
 -- the pieces behind bytes
-behind : (pieces : List Piece) (header : List ℕ) (rest : List (List ℕ)) → texts pieces ≡ header ∷ rest → (problem : Piece) × (others : List Piece) × (pieces ≡ problem ∷ others) × (problem.bytes ≡ header) × (texts others ≡ rest)
-behind [] header rest e = absurd (let f : ⊥ = cc in f)
-behind (problem ∷ others) header rest e = (problem, others, refl, (let h : problem.bytes ≡ header = cc in h), (let t : texts others ≡ rest = cc in t))
+behind : (pieces : List Piece) (bytes : List ℕ) (rest : List (List ℕ)) → texts pieces ≡ bytes ∷ rest → (problem : Piece) × (others : List Piece) × (pieces ≡ problem ∷ others) × (problem.bytes ≡ bytes) × (texts others ≡ rest)
+behind [] bytes rest e = absurd (let f : ⊥ = cc in f)
+behind (problem ∷ others) bytes rest e = (problem, others, refl, (let h : problem.bytes ≡ bytes = cc in h), (let t : texts others ≡ rest = cc in t))
 
-pub spells : (text header : List ℕ) (rest : List (List ℕ)) (F : Cnf) → content_from text 0 ≡ header ∷ rest → Spelled header rest F → length text ≤ max_bytes → Spells text F
-spells text header rest F first s short =
-    let b = behind (content_lines text) header rest (lines_by text ∙ first) in
+pub spells : (text bytes : List ℕ) (rest : List (List ℕ)) (F : Cnf) → content_from text 0 ≡ bytes ∷ rest → Spelled bytes rest F → length text ≤ max_bytes → Spells text F
+spells text bytes rest F first s short =
+    let b = behind (content_lines text) bytes rest (lines_by text ∙ first) in
     record {
       problem = b.0;
       others = b.1;

@@ -2,13 +2,13 @@
 use Rattle.std.proofs.Common.{◌≡◌, ℕ, ◌<◌, not, ◌&&◌, List, [], ◌∷◌, ◌++◌, length, refl, sym, ◌∙◌, ap, arith, append_assoc, ℤ, Option, Some, None, nat_le, nat_lt, count_by}
 use Rattle.std.specs.Prelude.{flat_map}
 use Rattle.std.proofs.lemmas.List.{append-nil}
-use Rattle.lk_model.specs.Literal.{variable}
+use Rattle.lk_model.specs.Formulas.Literal.{variable}
 use Rattle.lk_model.specs.Limits.{max_literals}
 use Rattle.lk_model.specs.Lists.{with_earlier, is_zero, is_nonzero}
-use Rattle.lk_model.specs.Lines.{Piece}
-use Rattle.lk_model.specs.NumberWords.{number}
-use Rattle.lk_model.specs.Dimacs.{runs_of}
-use Rattle.lk_model.specs.Fault.{fault_if, number_faults, word_faults, numbers_of, least}
+use Rattle.lk_model.specs.Texts.Lines.{Piece}
+use Rattle.lk_model.specs.Texts.NumberWords.{number}
+use Rattle.lk_model.specs.Texts.Dimacs.{runs_of}
+use Rattle.lk_model.specs.Texts.Fault.{fault_if, number_faults, word_faults, numbers_of, least}
 use Rattle.lk_model.specs.declared.text_fault.Fault.{Fault}
 use Rattle.lk_model.specs.declared.text_fault.FaultKind.TheVariants.{BeyondStated, TooManyClauses, TooFewClauses, Limit}
 use Rattle.dimacs_reader.specs.FirstFaults.{first_or, or_behind, fault_among}

@@ -3,7 +3,7 @@ use Rattle.std.proofs.Common.{◌≡◌, ℕ, ◌∙◌, true, false, ap, inl, i
 use Rattle.std.specs.Prelude.{nat_le}
 use Rattle.std.proofs.lemmas.Bool.{cases_Bool}
 use Rattle.std.proofs.lemmas.Bool.Decides.{Decides-int_eq}
-use Rattle.lk_model.specs.Literal.{variable, is_literal}
+use Rattle.lk_model.specs.Formulas.Literal.{variable, is_literal}
 use Rattle.lk_model.specs.Lists.{is_zero}
 use Rattle.lk_model.proofs.Booleans.{and_true}
 

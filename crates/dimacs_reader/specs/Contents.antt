@@ -3,11 +3,11 @@ use Rattle.std.specs.Prelude.{◌≡◌, ◌≤◌, ℕ, Bool, not, ◌||◌, �
 use Rattle.std.specs.List.{slice_split, list_all}
 use Rattle.lk_model.specs.Lists.{is_empty, is_nonzero}
 use Rattle.lk_model.specs.Limits.{max_clauses, max_literals}
-use Rattle.lk_model.specs.Literal.{variable}
-use Rattle.lk_model.specs.Formula.{Cnf}
-use Rattle.lk_model.specs.Lines.{Piece, Word, is_newline, is_blank, placed_after}
-use Rattle.lk_model.specs.NumberWords.{number}
-use Rattle.lk_model.specs.Dimacs.{runs_of, without_repeats}
+use Rattle.lk_model.specs.Formulas.Literal.{variable}
+use Rattle.lk_model.specs.Formulas.Formula.{Cnf}
+use Rattle.lk_model.specs.Texts.Lines.{Piece, Word, is_newline, is_blank, placed_after}
+use Rattle.lk_model.specs.Texts.NumberWords.{number}
+use Rattle.lk_model.specs.Texts.Dimacs.{runs_of, without_repeats}
 
 -- the words of a line
 abbrev pub words_in : List ℕ → List Word

@@ -1,9 +1,9 @@
 -- How a text is refused.
 use Rattle.std.specs.Prelude.{◌≡◌, ℕ, ◌≤◌, List, ◌++◌, length, Option, Some, None, option_map}
 use Rattle.lk_model.specs.Limits.{max_bytes}
-use Rattle.lk_model.specs.Formula.{Cnf}
-use Rattle.lk_model.specs.Dimacs.{Spells}
-use Rattle.lk_model.specs.Fault.{fault_of}
+use Rattle.lk_model.specs.Formulas.Formula.{Cnf}
+use Rattle.lk_model.specs.Texts.Dimacs.{Spells}
+use Rattle.lk_model.specs.Texts.Fault.{fault_of}
 use Rattle.lk_model.specs.declared.text_fault.Fault.{Fault}
 use Rattle.lk_model.specs.declared.text_fault.FaultKind.{FaultKind}
 use Rattle.lk_model.specs.declared.text_fault.FaultKind.TheVariants as kind

@@ -1,9 +1,9 @@
 -- The first fault of a text, met line by line and word by word.
-use Rattle.std.specs.Prelude.{ℕ, ◌+◌, ◌||◌, List, [], ◌∷◌, ◌++◌, length, cond, Option, Some, None, nat_lt}
+use Rattle.std.specs.Prelude.{ℕ, ◌+◌, ◌||◌, List, [], ◌∷◌, ◌++◌, length, if◌then◌else◌, Option, Some, None, nat_lt}
 use Rattle.lk_model.specs.Limits.{max_vars, max_clauses}
-use Rattle.lk_model.specs.Lines.{Piece, lines_of, words_of, texts}
-use Rattle.lk_model.specs.Dimacs.{stated_by, runs_of}
-use Rattle.lk_model.specs.Fault.{word_faults, numbers_of}
+use Rattle.lk_model.specs.Texts.Lines.{Piece, lines_of, words_of, texts}
+use Rattle.lk_model.specs.Texts.Dimacs.{stated_by, runs_of}
+use Rattle.lk_model.specs.Texts.Fault.{word_faults, numbers_of}
 use Rattle.lk_model.specs.declared.text_fault.Fault.{Fault}
 use Rattle.lk_model.specs.declared.text_fault.FaultKind.TheVariants.{NoHeader, BadHeader, SecondHeader, TooFewClauses, Limit}
 use Rattle.dimacs_reader.specs.LineKinds.{kind_by}
@@ -29,9 +29,9 @@ fault_among vars clauses earlier (word ∷ words) =
 -- the fault of words that end at this place with too few clauses
 abbrev pub fault_at_end : ℕ → List Piece → ℕ → Option Fault
 fault_at_end clauses words end =
-    cond (nat_lt (length (runs_of (numbers_of words))) clauses) (Some (record { kind = TooFewClauses; place = end })) None
+    if nat_lt (length (runs_of (numbers_of words))) clauses then Some (record { kind = TooFewClauses; place = end }) else None
 
--- the first fault of a line behind the header and of what comes behind the line: where it is skipped, and where its
+-- the first fault of a line behind the problem line and of what comes behind the line: where it is skipped, and where its
 -- words are taken
 abbrev pub line_fault : LineKind → ℕ → List Piece → Option Fault → Option Fault → Option Fault → Option Fault
 line_fault (EndMark first) clauses earlier here skipped taken = fault_at_end clauses earlier first
@@ -39,7 +39,7 @@ line_fault Skipped clauses earlier here skipped taken = skipped
 line_fault (Problem first) clauses earlier here skipped taken = Some (record { kind = SecondHeader; place = first })
 line_fault (Numbers first) clauses earlier here skipped taken = or_behind here taken
 
--- the first fault of the lines behind the header, which stand behind earlier words; over is the place behind them
+-- the first fault of the lines behind the problem line, which stand behind earlier words; over is the place behind them
 abbrev pub fault_behind : ℕ → ℕ → List Piece → List Piece → ℕ → Option Fault
 fault_behind vars clauses earlier [] over = fault_at_end clauses earlier over
 fault_behind vars clauses earlier (line ∷ lines) over =
@@ -47,24 +47,24 @@ fault_behind vars clauses earlier (line ∷ lines) over =
     (fault_behind vars clauses earlier lines over)
     (fault_behind vars clauses (earlier ++ words_of line) lines over)
 
--- the first fault of a header that states these numbers, and of the lines behind it
-abbrev pub header_fault : Option (ℕ × ℕ) → ℕ → List Piece → ℕ → Option Fault
-header_fault None last lines over = Some (record { kind = BadHeader; place = last })
-header_fault (Some (vars, clauses)) last lines over =
-    cond (nat_lt max_vars vars || nat_lt max_clauses clauses) (Some (record { kind = Limit; place = last })) (fault_behind vars clauses [] lines over)
+-- the first fault of a problem line that states these numbers, and of the lines behind it
+abbrev pub problem_line_fault : Option (ℕ × ℕ) → ℕ → List Piece → ℕ → Option Fault
+problem_line_fault None last lines over = Some (record { kind = BadHeader; place = last })
+problem_line_fault (Some (vars, clauses)) last lines over =
+    if nat_lt max_vars vars || nat_lt max_clauses clauses then Some (record { kind = Limit; place = last }) else fault_behind vars clauses [] lines over
 
--- the first fault of a line before or at the header
+-- the first fault of a line before or at the problem line
 abbrev pub first_line_fault : LineKind → Option Fault → Option Fault → Option Fault
-first_line_fault (EndMark first) skipped header = Some (record { kind = NoHeader; place = first })
-first_line_fault Skipped skipped header = skipped
-first_line_fault (Problem first) skipped header = header
-first_line_fault (Numbers first) skipped header = Some (record { kind = NoHeader; place = first })
+first_line_fault (EndMark first) skipped problem = Some (record { kind = NoHeader; place = first })
+first_line_fault Skipped skipped problem = skipped
+first_line_fault (Problem first) skipped problem = problem
+first_line_fault (Numbers first) skipped problem = Some (record { kind = NoHeader; place = first })
 
 -- the first fault of the lines of a text, behind which over is the next place
 abbrev pub fault_from : List Piece → ℕ → Option Fault
 fault_from [] over = Some (record { kind = NoHeader; place = over })
 fault_from (line ∷ lines) over =
-    first_line_fault (kind_by (words_of line)) (fault_from lines over) (header_fault (stated_by (texts (words_of line))) line.last lines over)
+    first_line_fault (kind_by (words_of line)) (fault_from lines over) (problem_line_fault (stated_by (texts (words_of line))) line.last lines over)
 
 -- the first fault of a text, but for its length
 abbrev pub text_fault : List ℕ → Option Fault

@@ -2,7 +2,7 @@ pub mod Contents
 pub mod LineKinds
 pub mod FirstFaults
 pub mod Numbers
-pub mod Bodies
-pub mod Headers
+pub mod ReadStates
+pub mod ProblemLines
 pub mod Faults
 pub mod Reading

@@ -1,8 +1,8 @@
--- What a word is behind the header.
+-- What a word is behind the problem line.
 use Rattle.std.specs.Prelude.{◌≡◌, ℕ, ℤ, pos, false, nat_le, Option, Some, IsTrue, IsSomeAnd}
-use Rattle.lk_model.specs.Literal.{is_literal, variable}
-use Rattle.dimacs_reader.specs.declared.body.Number.{Number}
-use Rattle.dimacs_reader.specs.declared.body.Number.TheVariants.{Zero, Literal, Past}
+use Rattle.lk_model.specs.Formulas.Literal.{is_literal, variable}
+use Rattle.dimacs_reader.specs.declared.clauses.Number.{Number}
+use Rattle.dimacs_reader.specs.declared.clauses.Number.TheVariants.{Zero, Literal, Past}
 
 -- the word writes the 0, a literal over the variables from 1 to n, or a number with another variable
 abbrev pub IsNumber : ℕ → Option ℤ → Number → Type 0

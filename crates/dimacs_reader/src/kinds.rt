@@ -14,7 +14,7 @@ pub(crate) enum LineKind {
     Skipped,
     /// The end of what is read.
     EndMark { first: usize },
-    /// A header.
+    /// A problem line.
     Problem { first: usize },
     /// Numbers, or whatever stands in their place.
     Numbers { first: usize },

@@ -1,14 +1,12 @@
 //! Reads formulas from their DIMACS texts.
 #![tactic(auto)]
 
-mod body;
-mod header;
+mod clauses;
 mod kinds;
+mod problem;
 mod reader;
 mod refusal;
 mod stop;
-#[cfg(test)]
-mod tests;
 mod text;
 
 pub use reader::Reader;

@@ -1,7 +1,7 @@
 //! The reader of formulas.
 ghost use Rattle.std.specs.Prelude.{◌≡◌, ◌≢◌, ◌<◌, ◌≤◌, [], ◌++◌, length, OnOk, IfOk, IfErr, None, Some};
 ghost use Rattle.lk_model.specs.Limits.{max_bytes};
-ghost use Rattle.lk_model.specs.Dimacs.{Spells};
+ghost use Rattle.lk_model.specs.Texts.Dimacs.{Spells};
 ghost use Rattle.dimacs_reader.specs.Faults.{IsRefusalOf, IsSettledAs};
 ghost use Rattle.dimacs_reader.specs.declared.refusal.Refused.{Refused};
 ghost use Rattle.dimacs_reader.specs.declared.refusal.Refused.TheVariants.{OutOfMemory as MemoryOut};

@@ -1,24 +1,22 @@
 //! How texts are refused.
 ghost use Rattle.std.specs.Prelude.{◌≡◌, ◌≤◌};
-ghost use Rattle.lk_model.specs.Lines.{line_number};
+ghost use Rattle.lk_model.specs.Texts.Lines.{line_number};
 ghost use Rattle.dimacs_reader.specs.Faults.{refusal_by};
 ghost use Rattle.dimacs_reader.specs.declared.refusal.Refused.TheVariants.{OutOfMemory as MemoryOut};
 
 use lk_model::{Fault, FaultKind, OutOfMemory};
 use std::alloc::{AllocError, AllocFailed};
-use std::error::Error;
-use std::fmt;
 
 /// Why a text is no formula, with the line of its first fault, counted from 1; or want of memory.
 #[derive(Clone, Copy, Debug, PartialEq, Eq)]
 pub enum Refused {
-    /// A number, the end mark or the end of the text comes before the header.
+    /// A number, the end mark or the end of the text comes before the problem line.
     NoHeader { line: u64 },
     /// The first line that begins with `p` is not `p cnf V C`.
     BadHeader { line: u64 },
     /// A further line begins with `p`.
     SecondHeader { line: u64 },
-    /// A word behind the header is no number.
+    /// A word behind the problem line is no number.
     BadToken { line: u64 },
     /// The variable of a literal is past V.
     BeyondStated { line: u64 },
@@ -62,25 +60,6 @@ fn line_of(text: &[u8], place: usize) -> u64
     let before = text.iter().take(place - 1);
     before.filter(|b| **b == b'\n').count() as u64 + 1
 }
-
-impl fmt::Display for Refused {
-    fn fmt<W: fmt::Write>(&self, f: &mut fmt::Formatter<W>) -> fmt::Result {
-        match self {
-            Refused::NoHeader { line } => write!(f, "line {line}: no header"),
-            Refused::BadHeader { line } => write!(f, "line {line}: bad header"),
-            Refused::SecondHeader { line } => write!(f, "line {line}: second header"),
-            Refused::BadToken { line } => write!(f, "line {line}: bad token"),
-            Refused::BeyondStated { line } => write!(f, "line {line}: variable beyond header"),
-            Refused::TooManyClauses { line } => write!(f, "line {line}: too many clauses"),
-            Refused::TooFewClauses { line } => write!(f, "line {line}: too few clauses"),
-            Refused::Limit { line } => write!(f, "line {line}: past a limit"),
-            Refused::TooLong { line } => write!(f, "line {line}: too long"),
-            Refused::OutOfMemory => f.write_str("out of memory"),
-        }
-    }
-}
-
-impl Error for Refused {}
 
 impl From<AllocError> for Refused {
     ghost from_gives = { λ _ e. e ≡ MemoryOut };

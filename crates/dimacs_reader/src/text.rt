@@ -3,8 +3,8 @@ ghost use Rattle.std.specs.Prelude.{◌≡◌, Some, IfOk, IfErr};
 ghost use Rattle.dimacs_reader.specs.FirstFaults.{text_fault};
 ghost use Rattle.dimacs_reader.specs.Faults.{ForFault, IsReadText};
 
-use crate::body::read_clauses;
-use crate::header::{header_line, stated};
+use crate::clauses::read_clauses;
+use crate::problem::{problem_line, stated};
 use crate::stop::Stop;
 use lk_model::{Fault, Formula, FormulaError};
 use std::alloc::Global;
@@ -14,7 +14,7 @@ pub(crate) fn formula_of(alloc: Global, text: &[u8]) -> Result<Formula, Stop>
     ensures ok { IfOk result (IsReadText text.now) }
     ensures fault { IfErr result (λ s. ForFault s (λ f. text_fault text.now ≡ Some f)) }
 {
-    let cut = header_line(text)?;
+    let cut = problem_line(text)?;
     let (vars, clauses) = match stated(&text[cut.begin..cut.end]) {
         Ok(numbers) => numbers,
         Err(kind) => {

@@ -5,10 +5,10 @@ use Rattle.std.proofs.lemmas.List.Elements.{All-append, All-cons, All-nil}
 use Rattle.std.proofs.lemmas.List.FromFn.{length-range_with_len}
 use Rattle.std.specs.List.{All}
 use Rattle.lk_model.specs.Lists.{up_to, sum_of}
-use Rattle.lk_model.specs.Literal.{contains, complement}
-use Rattle.lk_model.specs.Balance.{incidence}
-use Rattle.lk_model.specs.Formula.{Cnf, clause_at, variables_at, variables_to, variable_occurs}
-use Rattle.lk_model.specs.Rows.{Row, lack, sign_of, start_row, start_rows, start_cost, less_column, start_of}
+use Rattle.lk_model.specs.Formulas.Literal.{contains, complement}
+use Rattle.lk_model.specs.Formulas.Balance.{incidence}
+use Rattle.lk_model.specs.Formulas.Formula.{Cnf, clause_at, variables_at, variables_to, variable_occurs}
+use Rattle.lk_model.specs.Linear.Rows.{Row, lack, sign_of, start_row, start_rows, start_cost, less_column, start_of}
 use Rattle.exact_pivot.specs.Reached.{AtStart}
 use Rattle.exact_pivot.specs.Shape.{IsTableau}
 use Rattle.exact_pivot.proofs.Shapes.{tableau_of}

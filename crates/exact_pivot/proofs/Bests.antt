@@ -4,9 +4,9 @@ use Rattle.std.proofs.Math.Nat.{eq-or-lt_of_le}
 use Rattle.std.proofs.lemmas.Bool.{ltb-true, ltb-false}
 use Rattle.std.proofs.lemmas.Int.{ints}
 use Rattle.std.proofs.lemmas.List.{get_or_past}
-use Rattle.lk_model.specs.Rows.{TableauRows, entry, row_at, m_of, r_of, right_column}
-use Rattle.lk_model.specs.Pivot.{in_first_phase}
-use Rattle.lk_model.specs.Phases.{entering, leaving, may_leave, leaves_before}
+use Rattle.lk_model.specs.Linear.Rows.{TableauRows, entry, row_at, m_of, r_of, right_column}
+use Rattle.lk_model.specs.Linear.Pivot.{in_first_phase}
+use Rattle.lk_model.specs.Linear.Phases.{entering, leaving, may_leave, leaves_before}
 use Rattle.lk_model.proofs.Booleans.{or_false}
 use Rattle.exact_pivot.specs.Best.{LeavesBelow, IsBest}
 use Rattle.exact_pivot.specs.Reached.{IsRowOf, ReachedRows}

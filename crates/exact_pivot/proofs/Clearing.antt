@@ -6,9 +6,9 @@ use Rattle.std.proofs.Math.ListN.{get_or-map}
 use Rattle.std.proofs.lemmas.Int.{ints}
 use Rattle.std.proofs.lemmas.List.{length-map}
 use Rattle.lk_model.specs.Lists.{is_zero}
-use Rattle.lk_model.specs.Arithmetic.{gcd, gcd_of, reduced, primitive}
-use Rattle.lk_model.specs.Rows.{entry}
-use Rattle.lk_model.specs.Pivot.{cleared, combined}
+use Rattle.lk_model.specs.Linear.Arithmetic.{gcd, gcd_of, reduced, primitive}
+use Rattle.lk_model.specs.Linear.Rows.{entry}
+use Rattle.lk_model.specs.Linear.Pivot.{cleared, combined}
 use Rattle.lk_model.proofs.GcdLaws.{gcd_is_gcd}
 use Rattle.exact_rows.specs.Made.{mixed}
 use Rattle.exact_rows.proofs.Divisors.{gcd_of_some, gcd_of_comm}

@@ -2,9 +2,9 @@
 use Rattle.std.proofs.Common.{◌≡◌, ℕ, zero, suc, ◌+◌, ◌<◌, ◌≤◌, List, [], ◌∷◌, ◌++◌, take, drop, set, length, get_or, Some, None, ℤ, refl, sym, ap, ◌∙◌, arith, drop-cons}
 use Rattle.std.proofs.lemmas.List.{drop_all}
 use Rattle.std.specs.Option.{option_or}
-use Rattle.lk_model.specs.Arithmetic.{first_wide}
-use Rattle.lk_model.specs.Rows.{Row}
-use Rattle.lk_model.specs.Pivot.{made_to_clear}
+use Rattle.lk_model.specs.Linear.Arithmetic.{first_wide}
+use Rattle.lk_model.specs.Linear.Rows.{Row}
+use Rattle.lk_model.specs.Linear.Pivot.{made_to_clear}
 use Rattle.lk_model.specs.declared.wide.Wide.{Wide}
 use Rattle.exact_rows.proofs.Wides.{first_wide-append}
 use Rattle.exact_pivot.specs.Moves.{made_to_clear_all}

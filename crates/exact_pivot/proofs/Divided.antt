@@ -4,7 +4,7 @@ use Rattle.std.proofs.Math.Nat.{zero-div, mul-div_cancel', eq-zero_of_zero-dvd}
 use Rattle.std.proofs.lemmas.Int.{ints}
 use Rattle.std.proofs.lemmas.Nat.Gcd.{dvd_trans, IsGcd-from_zero}
 use Rattle.std.specs.Int.{◌∣◌}
-use Rattle.lk_model.specs.Arithmetic.{gcd, content, primitive}
+use Rattle.lk_model.specs.Linear.Arithmetic.{gcd, content, primitive}
 use Rattle.lk_model.proofs.GcdLaws.{gcd_is_gcd}
 use Rattle.exact_pivot.proofs.Wholes.{one_mul}
 

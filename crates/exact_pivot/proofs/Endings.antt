@@ -5,9 +5,9 @@ use Rattle.std.specs.Option.{option_or, option_map_or}
 use Rattle.std.proofs.lemmas.List.{take_more, take_all}
 use Rattle.std.proofs.lemmas.List.FromFn.{get_or-range_with_len, length-range_with_len}
 use Rattle.lk_model.specs.Lists.{up_to, is_nonzero}
-use Rattle.lk_model.specs.Arithmetic.{first_wide, made}
-use Rattle.lk_model.specs.Rows.{Row, TableauRows, entry, m_of, r_of, sign_at, artificial, right_column}
-use Rattle.lk_model.specs.Ends.{numerator, denominator, common, dual_number, share_number, shares_of, dual_at_end, made_in_dual, units_at_end, made_in_units}
+use Rattle.lk_model.specs.Linear.Arithmetic.{first_wide, made}
+use Rattle.lk_model.specs.Linear.Rows.{Row, TableauRows, entry, m_of, r_of, sign_at, artificial, right_column}
+use Rattle.lk_model.specs.Linear.Ends.{numerator, denominator, common, dual_number, share_number, shares_of, dual_at_end, made_in_dual, units_at_end, made_in_units}
 use Rattle.lk_model.specs.declared.wide.Op.TheVariants.{Product}
 use Rattle.lk_model.specs.declared.wide.Wide.{Wide as Operands}
 use Rattle.lk_model.specs.declared.document.Dual.{Dual}

@@ -5,7 +5,7 @@ use Rattle.std.specs.List.{flat_map}
 use Rattle.std.specs.Option.{option_or}
 use Rattle.std.specs.Result.{result_err}
 use Rattle.lk_model.specs.Limits.{is_in_range}
-use Rattle.lk_model.specs.Arithmetic.{first_wide, made}
+use Rattle.lk_model.specs.Linear.Arithmetic.{first_wide, made}
 use Rattle.lk_model.specs.declared.wide.Op.{Op}
 use Rattle.lk_model.specs.declared.wide.Wide.{Wide}
 use Rattle.exact_rows.specs.Made.{IsMade}

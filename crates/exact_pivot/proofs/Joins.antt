@@ -4,9 +4,9 @@ use Rattle.std.proofs.Math.Nat.{le_of_dvd}
 use Rattle.std.proofs.lemmas.Nat.{le-div}
 use Rattle.std.proofs.lemmas.List.{drop_all}
 use Rattle.std.proofs.lemmas.Int.{ints}
-use Rattle.lk_model.specs.Arithmetic.{first_wide, gcd, gcd_of, reduced}
-use Rattle.lk_model.specs.Rows.{Row}
-use Rattle.lk_model.specs.Ends.{denominator, lcm_from, made_in_lcm}
+use Rattle.lk_model.specs.Linear.Arithmetic.{first_wide, gcd, gcd_of, reduced}
+use Rattle.lk_model.specs.Linear.Rows.{Row}
+use Rattle.lk_model.specs.Linear.Ends.{denominator, lcm_from, made_in_lcm}
 use Rattle.lk_model.specs.declared.wide.Op.TheVariants.{Product}
 use Rattle.lk_model.specs.declared.wide.Wide.{Wide}
 use Rattle.lk_model.proofs.GcdLaws.{gcd_is_gcd}

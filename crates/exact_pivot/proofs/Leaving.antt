@@ -5,8 +5,8 @@ use Rattle.std.proofs.lemmas.Bool.{ltb-true, ltb-false, lt-ltb, le-ltb}
 use Rattle.std.proofs.lemmas.Int.{ints}
 use Rattle.std.specs.declared.cmp.Ordering.TheVariants.{Less, Equal, Greater}
 use Rattle.std.specs.Ordering.{is_eq}
-use Rattle.lk_model.specs.Rows.{TableauRows, entry, row_at, r_of, right_column}
-use Rattle.lk_model.specs.Phases.{may_leave, leaves_before, leaving}
+use Rattle.lk_model.specs.Linear.Rows.{TableauRows, entry, row_at, r_of, right_column}
+use Rattle.lk_model.specs.Linear.Phases.{may_leave, leaves_before, leaving}
 use Rattle.exact_pivot.specs.Best.{LeavesBelow, IsBest}
 use Rattle.exact_pivot.proofs.Finds.{find_none, find_first, all_range, not_all_range}
 use Rattle.exact_pivot.proofs.Orders.{Before, NotBefore, before_chain, before_asym}

@@ -3,7 +3,7 @@ use Rattle.std.proofs.Common.{◌≡◌, ℕ, zero, suc, ◌+◌, ◌≤◌, Boo
 use Rattle.std.proofs.lemmas.List.Elements.{All-append, All-cons, All-nil}
 use Rattle.std.specs.List.{All, range_with_len}
 use Rattle.lk_model.specs.Lists.{up_to}
-use Rattle.lk_model.specs.Crossed.{is_in}
+use Rattle.lk_model.specs.Held.VariableSets.{is_in}
 
 none_at : (n k : ℕ) → get_or (replicate n false) k false ≡ false
 none_at zero k = refl

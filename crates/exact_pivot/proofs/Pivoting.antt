@@ -5,9 +5,9 @@ use Rattle.std.specs.Option.{option_or}
 use Rattle.std.proofs.lemmas.List.{get_or_read}
 use Rattle.std.proofs.lemmas.List.Elements.{All-cons}
 use Rattle.lk_model.specs.Lists.{up_to}
-use Rattle.lk_model.specs.Arithmetic.{first_wide}
-use Rattle.lk_model.specs.Rows.{Row, TableauRows, row_at, r_of, right_column}
-use Rattle.lk_model.specs.Pivot.{in_first_phase, turned, cleared, made_to_clear, row_after, pivoted, made_in_pivot}
+use Rattle.lk_model.specs.Linear.Arithmetic.{first_wide}
+use Rattle.lk_model.specs.Linear.Rows.{Row, TableauRows, row_at, r_of, right_column}
+use Rattle.lk_model.specs.Linear.Pivot.{in_first_phase, turned, cleared, made_to_clear, row_after, pivoted, made_in_pivot}
 use Rattle.lk_model.specs.declared.wide.Wide.{Wide}
 use Rattle.exact_rows.proofs.Wides.{first_wide-append}
 use Rattle.exact_pivot.specs.Reached.{IsPivot}

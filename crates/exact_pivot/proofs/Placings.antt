@@ -4,7 +4,7 @@ use Rattle.std.specs.List.{range_with_len, AllByRecursion}
 use Rattle.std.proofs.Math.Nat.{eq-or-lt_of_le}
 use Rattle.std.proofs.lemmas.Bool.{ne_eqb, eq-eqb}
 use Rattle.std.proofs.lemmas.List.{drop_all}
-use Rattle.lk_model.specs.Rows.{Row}
+use Rattle.lk_model.specs.Linear.Rows.{Row}
 use Rattle.exact_pivot.specs.Placed.{placed_at, placed}
 
 -- a number at a place that lies outside the range

@@ -4,7 +4,7 @@ use Rattle.std.proofs.lemmas.List.{append_assoc, get_or_past}
 use Rattle.std.proofs.lemmas.Bool.{ltb-true, ltb-false}
 use Rattle.std.specs.List.{range_with_len}
 use Rattle.lk_model.specs.Lists.{up_to}
-use Rattle.lk_model.specs.Rows.{entry}
+use Rattle.lk_model.specs.Linear.Rows.{entry}
 use Rattle.exact_pivot.specs.Small.{AreSmall}
 
 take_more : {X Y : Type 0} (f : X → Y) (xs : List X) (i : ℕ) (d : X) → i < length xs → map f (take (i + 1) xs) ≡ map f (take i xs) ++ f (get_or xs i d) ∷ []

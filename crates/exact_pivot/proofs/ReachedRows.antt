@@ -5,9 +5,9 @@ use Rattle.std.proofs.lemmas.Bool.{leb-true}
 use Rattle.std.proofs.lemmas.Int.{ints}
 use Rattle.std.specs.Option.{option_map_or}
 use Rattle.lk_model.specs.Lists.{is_nonzero}
-use Rattle.lk_model.specs.Rows.{TableauRows, entry, row_at, m_of, r_of, right_column, start_of}
-use Rattle.lk_model.specs.Pivot.{in_first_phase}
-use Rattle.lk_model.specs.Phases.{PivotOn, StageStands, EndsLean, next, entering, leaving, artificial_row, replacing}
+use Rattle.lk_model.specs.Linear.Rows.{TableauRows, entry, row_at, m_of, r_of, right_column, start_of}
+use Rattle.lk_model.specs.Linear.Pivot.{in_first_phase}
+use Rattle.lk_model.specs.Linear.Phases.{PivotOn, StageStands, EndsLean, next, entering, leaving, artificial_row, replacing}
 use Rattle.exact_pivot.specs.Reached.{AtStart, ByPivot, IsRowOf, ReachedRows, ReachedRowsLaw, IsPivot, LeavingLaw}
 use Rattle.exact_pivot.proofs.Finds.{find_says}
 use Rattle.exact_pivot.proofs.Steps.{IsLeast, kept_by_pivot}

@@ -3,10 +3,10 @@ use Rattle.std.proofs.Common.{◌≡◌, ℕ, Bool, false, cond, int_lt, ◌+◌
 use Rattle.std.proofs.lemmas.List.{get_or-map, length-map}
 use Rattle.std.proofs.lemmas.List.Elements.{All-from_get_or}
 use Rattle.std.specs.List.{All}
-use Rattle.lk_model.specs.Formula.{Cnf, variables_at}
-use Rattle.lk_model.specs.Rows.{Row, TableauRows, entry, row_at, r_of, right_column, start_of, lack, sign_of}
-use Rattle.lk_model.specs.Pivot.{pivoted}
-use Rattle.lk_model.specs.Phases.{next, PivotOn}
+use Rattle.lk_model.specs.Formulas.Formula.{Cnf, variables_at}
+use Rattle.lk_model.specs.Linear.Rows.{Row, TableauRows, entry, row_at, r_of, right_column, start_of, lack, sign_of}
+use Rattle.lk_model.specs.Linear.Pivot.{pivoted}
+use Rattle.lk_model.specs.Linear.Phases.{next, PivotOn}
 use Rattle.exact_pivot.specs.Reached.{IsReached, ByPivot, IsRowOf, IsPivot}
 use Rattle.exact_pivot.specs.Shape.{IsRow, IsTableau}
 use Rattle.exact_pivot.proofs.Leaving.{HasRights}

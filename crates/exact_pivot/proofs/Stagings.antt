@@ -2,9 +2,9 @@
 use Rattle.std.proofs.Common.{◌≡◌, ℕ, ◌+◌, ◌-◌, ◌<◌, Bool, cond, List, [], ◌∷◌, map, length, get_or, Some, None, Result, Ok, Err, ℤ, pos, ◌*ℤ◌, refl, sym, ap, ◌∙◌, arith, subst}
 use Rattle.std.proofs.lemmas.List.FromFn.{get_or-range_with_len, get_or-map-range_with_len, length-range_with_len, length-map-range_with_len}
 use Rattle.lk_model.specs.Lists.{up_to}
-use Rattle.lk_model.specs.Arithmetic.{first_wide, made, primitive}
-use Rattle.lk_model.specs.Rows.{Row, TableauRows, entry, m_of, r_of}
-use Rattle.lk_model.specs.Phases.{stage_of, made_in_stage}
+use Rattle.lk_model.specs.Linear.Arithmetic.{first_wide, made, primitive}
+use Rattle.lk_model.specs.Linear.Rows.{Row, TableauRows, entry, m_of, r_of}
+use Rattle.lk_model.specs.Linear.Phases.{stage_of, made_in_stage}
 use Rattle.lk_model.specs.declared.wide.Op.TheVariants.{Difference}
 use Rattle.lk_model.specs.declared.wide.Wide.{Wide}
 use Rattle.lk_model.specs.declared.document.Stage.{Stage}

@@ -5,8 +5,8 @@ use Rattle.std.proofs.Math.IntN.{*ℤ_comm, *ℤ-zero, zero-*ℤ}
 use Rattle.std.proofs.lemmas.Int.{ints}
 use Rattle.std.specs.List.{range_with_len}
 use Rattle.lk_model.specs.Lists.{sum_of, is_zero}
-use Rattle.lk_model.specs.Rows.{TableauRows, entry, row_at, m_of, r_of, unit_column, right_column}
-use Rattle.lk_model.specs.Pivot.{in_first_phase}
+use Rattle.lk_model.specs.Linear.Rows.{TableauRows, entry, row_at, m_of, r_of, unit_column, right_column}
+use Rattle.lk_model.specs.Linear.Pivot.{in_first_phase}
 use Rattle.exact_pivot.specs.Reached.{IsRowOf, artificial_cost, total, Solves, ReachedRows}
 use Rattle.exact_pivot.proofs.Wholes.{mul_sub, sub_mul, cancel_zero, times_least}
 use Rattle.exact_pivot.proofs.Artificials.{art_middle, art_last}

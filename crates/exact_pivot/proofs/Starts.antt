@@ -7,9 +7,9 @@ use Rattle.std.proofs.lemmas.List.{get_or-map, get_or-replicate, length-map, len
 use Rattle.std.proofs.lemmas.List.FromFn.{length-map-range_with_len, get_or-map-range_with_len}
 use Rattle.std.specs.List.{range_with_len}
 use Rattle.lk_model.specs.Lists.{up_to, sum_of, among}
-use Rattle.lk_model.specs.Formula.{Cnf, clause_at, variables_at}
-use Rattle.lk_model.specs.Balance.{incidence}
-use Rattle.lk_model.specs.Rows.{Row, entry, lack, sign_of, start_row, start_rows, less_column, start_cost, start_of}
+use Rattle.lk_model.specs.Formulas.Formula.{Cnf, clause_at, variables_at}
+use Rattle.lk_model.specs.Formulas.Balance.{incidence}
+use Rattle.lk_model.specs.Linear.Rows.{Row, entry, lack, sign_of, start_row, start_rows, less_column, start_cost, start_of}
 use Rattle.lk_model.proofs.Booleans.{or_left, or_right}
 use Rattle.lk_model.proofs.Counting.{Differ, more, Differ-filter, Differ-range}
 use Rattle.exact_pivot.specs.Reached.{Columns, ReachedRows}

@@ -5,8 +5,8 @@ use Rattle.std.proofs.lemmas.Bool.{ne_eqb, eqb-true}
 use Rattle.std.proofs.lemmas.Int.{ints}
 use Rattle.std.proofs.lemmas.List.FromFn.{length-map-range_with_len, get_or-map-range_with_len}
 use Rattle.lk_model.specs.Lists.{up_to, sum_of, is_nonzero}
-use Rattle.lk_model.specs.Rows.{Row, TableauRows, entry, row_at, m_of, r_of, artificial, unit_column, right_column}
-use Rattle.lk_model.specs.Pivot.{in_first_phase, turned, cleared, row_after, pivoted}
+use Rattle.lk_model.specs.Linear.Rows.{Row, TableauRows, entry, row_at, m_of, r_of, artificial, unit_column, right_column}
+use Rattle.lk_model.specs.Linear.Pivot.{in_first_phase, turned, cleared, row_after, pivoted}
 use Rattle.exact_pivot.specs.Reached.{IsRowOf, artificial_cost, Columns, total, Solves, IsCombined, ReachedRows, IsPivot}
 use Rattle.exact_pivot.proofs.Wholes.{one_mul, mul_assoc, mul_sub, cancel, cancel_least, mixed_sum, mixed_zero, mixed_first, mixed_some, mixed_back, times_least}
 use Rattle.exact_pivot.proofs.Clearing.{IsCleared, cleared_clears, IsTurned, turned_turns, turned_width}

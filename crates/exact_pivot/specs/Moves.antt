@@ -1,10 +1,10 @@
 -- The moves of the linear run as the code names them, and the stops of its calls.
-use Rattle.std.specs.Prelude.{◌≡◌, ⊤, ℕ, ℤ, List, map, cond, neg_ℤ, int_lt, pos, Some, None, Result, Ok, Err}
-use Rattle.lk_model.specs.Arithmetic.{first_wide}
+use Rattle.std.specs.Prelude.{◌≡◌, ⊤, ℕ, ℤ, List, map, if◌then◌else◌, neg_ℤ, int_lt, pos, Some, None, Result, Ok, Err}
+use Rattle.lk_model.specs.Linear.Arithmetic.{first_wide}
 use Rattle.std.specs.List.{flat_map}
-use Rattle.lk_model.specs.Pivot.{cleared, made_to_clear}
-use Rattle.lk_model.specs.Rows.{Row, entry}
-use Rattle.lk_model.specs.Phases.{NextMove, PivotOn, StageStands, EndsLean}
+use Rattle.lk_model.specs.Linear.Pivot.{cleared, made_to_clear}
+use Rattle.lk_model.specs.Linear.Rows.{Row, entry}
+use Rattle.lk_model.specs.Linear.Phases.{NextMove, PivotOn, StageStands, EndsLean}
 use Rattle.lk_model.specs.declared.wide.Wide.{Wide as Operands}
 use Rattle.exact_pivot.specs.declared.stop.Next.{Next}
 use Rattle.exact_pivot.specs.declared.stop.Next.TheVariants.{Pivot, Touch, Lean}
@@ -18,7 +18,7 @@ move_of Lean = EndsLean
 
 -- a row, multiplied by -1 where its entry in column k is negative, with k as its basic column
 abbrev pub turned_on : ℕ → Row → Row
-turned_on k row = record { entries = cond (int_lt (entry row.entries k) (pos 0)) (map neg_ℤ row.entries) row.entries; basic = k }
+turned_on k row = record { entries = (if int_lt (entry row.entries k) (pos 0) then map neg_ℤ row.entries else row.entries); basic = k }
 
 -- A call that makes these results gives this value where none of them is out of range, and else the operands of the first
 -- one that is. It may want memory at any time.

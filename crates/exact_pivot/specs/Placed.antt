@@ -1,10 +1,10 @@
 -- Numbers of rows, and where they are placed by the rows' basic columns.
-use Rattle.std.specs.Prelude.{ℕ, ◌<◌, ◌==◌, cond, List, [], ◌∷◌, map, ℤ, pos, int_div, ◌+ℤ◌, ◌*ℤ◌, ◌<ℤ◌, ◌+◌, ◌++◌, length, filter, zip}
+use Rattle.std.specs.Prelude.{ℕ, ◌<◌, ◌==◌, if◌then◌else◌, List, [], ◌∷◌, map, ℤ, pos, int_div, ◌+ℤ◌, ◌*ℤ◌, ◌<ℤ◌, ◌+◌, ◌++◌, length, filter, zip}
 use Rattle.std.specs.List.{flat_map}
 use Rattle.lk_model.specs.Lists.{up_to, is_nonzero}
-use Rattle.lk_model.specs.Arithmetic.{made}
-use Rattle.lk_model.specs.Rows.{Row, entry}
-use Rattle.lk_model.specs.Ends.{numerator, denominator, lcm_from, made_in_lcm}
+use Rattle.lk_model.specs.Linear.Arithmetic.{made}
+use Rattle.lk_model.specs.Linear.Rows.{Row, entry}
+use Rattle.lk_model.specs.Linear.Ends.{numerator, denominator, lcm_from, made_in_lcm}
 use Rattle.lk_model.specs.declared.wide.Op.TheVariants.{Product, Sum}
 use Rattle.lk_model.specs.declared.wide.Wide.{Wide}
 use Rattle.lk_model.specs.declared.document.Dual.{Dual}
@@ -37,7 +37,7 @@ made_in_sum l k row = made Product (int_div l (denominator k row)) (numerator k 
 abbrev pub placed_at : ℤ → List Row → List ℤ → ℕ → ℤ
 placed_at d [] zs c = d
 placed_at d (row ∷ rows) [] c = d
-placed_at d (row ∷ rows) (z ∷ zs) c = cond (row.basic == c) z (placed_at d rows zs c)
+placed_at d (row ∷ rows) (z ∷ zs) c = if row.basic == c then z else placed_at d rows zs c
 
 abbrev pub placed : ℤ → ℕ → List Row → List ℤ → List ℤ
 placed d m rows zs = map (placed_at d rows zs) (up_to m)

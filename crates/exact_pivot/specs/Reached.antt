@@ -1,10 +1,10 @@
 -- What is reached from the starting rows by the pivots of the linear run, and what holds of all rows that are.
 use Rattle.std.specs.Prelude.{◌≡◌, ◌≢◌, ℕ, ◌+◌, ◌<◌, ◌≤◌, List, [], ◌∷◌, ◌++◌, map, length, replicate, ℤ, pos, ◌-ℤ◌, ◌*ℤ◌, ◌<ℤ◌, ◌≤ℤ◌, ◌⊎◌, IsTrue, IsFalse, Some}
 use Rattle.lk_model.specs.Lists.{up_to, sum_of}
-use Rattle.lk_model.specs.Formula.{Cnf}
-use Rattle.lk_model.specs.Rows.{TableauRows, entry, row_at, m_of, r_of, artificial, unit_column, right_column, start_of}
-use Rattle.lk_model.specs.Pivot.{in_first_phase, turned, pivoted}
-use Rattle.lk_model.specs.Phases.{PivotOn, next, entering, leaving}
+use Rattle.lk_model.specs.Formulas.Formula.{Cnf}
+use Rattle.lk_model.specs.Linear.Rows.{TableauRows, entry, row_at, m_of, r_of, artificial, unit_column, right_column, start_of}
+use Rattle.lk_model.specs.Linear.Pivot.{in_first_phase, turned, pivoted}
+use Rattle.lk_model.specs.Linear.Phases.{PivotOn, next, entering, leaving}
 
 -- the rows for the positions S, and those after a pivot that the run makes
 pub data IsReached (F : Cnf) (S : List ℕ) : TableauRows → Type 0 where

@@ -1,8 +1,8 @@
 -- What a tableau keeps: its rows are reached from the starting ones for some clauses, and what follows of their shape.
 use Rattle.std.specs.Prelude.{◌≡◌, ℕ, ◌+◌, ◌<◌, ◌≤◌, ◌^◌, pos, negsuc, List, ◌≤ℤ◌, ◌<ℤ◌, length, ◌⊎◌}
 use Rattle.std.specs.List.{All}
-use Rattle.lk_model.specs.Formula.{Cnf}
-use Rattle.lk_model.specs.Rows.{Row, TableauRows, entry, r_of, right_column}
+use Rattle.lk_model.specs.Formulas.Formula.{Cnf}
+use Rattle.lk_model.specs.Linear.Rows.{Row, TableauRows, entry, r_of, right_column}
 use Rattle.exact_pivot.specs.Reached.{IsReached}
 
 -- a row of so many columns, with a basic column before the cost unit, in which it is positive

@@ -2,7 +2,7 @@
 use Rattle.std.specs.Prelude.{ℕ, ◌+◌, ◌≤◌, List, [], ◌∷◌, ◌++◌, map, length, replicate, ℤ, pos, unsigned_abs}
 use Rattle.std.specs.List.{All}
 use Rattle.lk_model.specs.Lists.{up_to}
-use Rattle.lk_model.specs.Rows.{Row, less_column}
+use Rattle.lk_model.specs.Linear.Rows.{Row, less_column}
 
 abbrev pub AreSmall : List ℤ → Type 0
 AreSmall xs = All (λ x. unsigned_abs x ≤ 4_000_000) xs

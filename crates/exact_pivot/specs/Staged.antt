@@ -1,9 +1,9 @@
 -- The numbers of a stage, in the words of the rows and the cost row.
-use Rattle.std.specs.Prelude.{ℕ, ◌+◌, ◌-◌, Bool, cond, nat_lt, List, [], ◌∷◌, map, filter, find, zip, ℤ, ◌-ℤ◌, ◌*ℤ◌, Option, unwrap_or, slice_index_or}
+use Rattle.std.specs.Prelude.{ℕ, ◌+◌, ◌-◌, Bool, if◌then◌else◌, nat_lt, List, [], ◌∷◌, map, filter, find, zip, ℤ, ◌-ℤ◌, ◌*ℤ◌, Option, unwrap_or, slice_index_or}
 use Rattle.std.specs.List.{flat_map}
 use Rattle.lk_model.specs.Lists.{up_to, is_nonzero}
-use Rattle.lk_model.specs.Arithmetic.{made}
-use Rattle.lk_model.specs.Rows.{Row, entry}
+use Rattle.lk_model.specs.Linear.Arithmetic.{made}
+use Rattle.lk_model.specs.Linear.Rows.{Row, entry}
 use Rattle.lk_model.specs.declared.wide.Op.TheVariants.{Difference}
 use Rattle.lk_model.specs.declared.wide.Wide.{Wide}
 use Rattle.lk_model.specs.declared.document.Weight.{Weight}
@@ -35,10 +35,10 @@ abbrev pub signed_number : List ℤ → (ℕ → ℤ) → ℕ → ℤ
 signed_number signs f j = entry signs j *ℤ f j
 
 abbrev pub stage_numbers : Bool → ℕ → ℕ → List ℤ → List Row → List ℤ → List ℤ
-stage_numbers first m r signs rows cost = map (signed_number signs (λ j. cond first (difference_at m r cost j) (row_number m r rows j))) (up_to r)
+stage_numbers first m r signs rows cost = map (signed_number signs (λ j. if first then difference_at m r cost j else row_number m r rows j)) (up_to r)
 
 abbrev pub made_in_numbers : Bool → ℕ → ℕ → List ℤ → List Wide
-made_in_numbers first m r cost = cond first (flat_map (made_in_difference m r cost) (up_to r)) []
+made_in_numbers first m r cost = if first then flat_map (made_in_difference m r cost) (up_to r) else []
 
 -- the first phase lasts while the right side of the cost row is not 0
 abbrev pub lasts : ℕ → ℕ → List ℤ → Bool

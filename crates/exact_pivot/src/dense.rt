@@ -2,9 +2,9 @@
 ghost use Rattle.std.specs.Prelude.{◌≡◌, pos, neg_ℤ, map, cond, [], ◌<ℤ◌, length, IsTrue, OnOk, OnErr};
 ghost use Rattle.std.specs.Result.{result_err};
 ghost use Rattle.lk_model.specs.Limits.{is_in_range};
-ghost use Rattle.lk_model.specs.Arithmetic.{first_wide};
-ghost use Rattle.lk_model.specs.Rows.{entry};
-ghost use Rattle.lk_model.specs.Pivot.{cleared, made_to_clear};
+ghost use Rattle.lk_model.specs.Linear.Arithmetic.{first_wide};
+ghost use Rattle.lk_model.specs.Linear.Rows.{entry};
+ghost use Rattle.lk_model.specs.Linear.Pivot.{cleared, made_to_clear};
 ghost use Rattle.exact_rows.specs.Made.{AreInRange};
 
 use exact_rows::combine;

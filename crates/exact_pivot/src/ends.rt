@@ -3,9 +3,9 @@ ghost use Rattle.std.specs.Prelude.{◌≡◌, ◌+◌, ◌<◌, ◌^◌, pos, n
 ghost use Rattle.std.specs.List.{All, flat_map};
 ghost use Rattle.std.specs.Result.{result_err};
 ghost use Rattle.lk_model.specs.Limits.{is_in_range};
-ghost use Rattle.lk_model.specs.Arithmetic.{first_wide, gcd_of, reduced, made};
-ghost use Rattle.lk_model.specs.Rows.{TableauRows, right_column};
-ghost use Rattle.lk_model.specs.Ends.{numerator, denominator, made_in_dual, dual_at_end, made_in_units, units_at_end};
+ghost use Rattle.lk_model.specs.Linear.Arithmetic.{first_wide, gcd_of, reduced, made};
+ghost use Rattle.lk_model.specs.Linear.Rows.{TableauRows, right_column};
+ghost use Rattle.lk_model.specs.Linear.Ends.{numerator, denominator, made_in_dual, dual_at_end, made_in_units, units_at_end};
 ghost use Rattle.exact_rows.specs.Made.{IsMade};
 ghost use Rattle.exact_pivot.specs.Moves.{Gives};
 ghost use Rattle.exact_pivot.specs.Shape.{IsRow};

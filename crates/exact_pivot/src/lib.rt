@@ -14,6 +14,3 @@ pub use laws::{leaving_law, reached_rows_law};
 pub use lk_model::{Op, Wide};
 pub use stop::{Next, PivotStop};
 pub use tableau::Tableau;
-
-#[cfg(test)]
-mod tests;

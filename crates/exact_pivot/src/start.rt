@@ -1,14 +1,14 @@
 //! The rows at the start.
 ghost use Rattle.std.specs.Prelude.{◌≡◌, ℕ, ◌||◌, ◌<◌, ◌≤◌, ◌+◌, ◌==◌, ◌++◌, ◌∷◌, [], cond, int_lt, negsuc, pos, ◌^◌, ◌-ℤ◌, ◌*ℤ◌, ◌≤ℤ◌, length, map, replicate, zip, IsTrue, IfOk, OnOk, unsigned_abs};
 ghost use Rattle.lk_model.specs.Lists.{rises_within, up_to};
-ghost use Rattle.lk_model.specs.Formula.{clause_at, variables_at, variable_occurs, IsWithinLimits};
-ghost use Rattle.lk_model.specs.Balance.{incidence};
-ghost use Rattle.lk_model.specs.Rows.{Row, lack, sign_of, start_row, start_rows, less_column};
+ghost use Rattle.lk_model.specs.Formulas.Formula.{clause_at, variables_at, variable_occurs, IsWithinLimits};
+ghost use Rattle.lk_model.specs.Formulas.Balance.{incidence};
+ghost use Rattle.lk_model.specs.Linear.Rows.{Row, lack, sign_of, start_row, start_rows, less_column};
 ghost use Rattle.exact_pivot.specs.Small.{AreSmall, cost_of};
 ghost use Rattle.std.specs.List.{All};
 ghost use Rattle.lk_model.specs.Limits.{is_in_range};
-ghost use Rattle.lk_model.specs.Literal.{contains, is_clause, mentions};
-ghost use Rattle.lk_model.specs.Crossed.{is_in};
+ghost use Rattle.lk_model.specs.Formulas.Literal.{contains, is_clause, mentions};
+ghost use Rattle.lk_model.specs.Held.VariableSets.{is_in};
 ghost use Rattle.exact_rows.specs.Made.{AreInRange};
 
 use crate::dense::DenseRow;

@@ -1,10 +1,10 @@
 //! The rows of the linear run at one moment.
 ghost use Rattle.std.specs.Prelude.{◌≡◌, ℕ, pos, ◌+◌, ◌<◌, ◌≤◌, ◌^◌, ◌≤ℤ◌, length, IsTrue, IfOk};
 ghost use Rattle.lk_model.specs.Lists.{rises_within};
-ghost use Rattle.lk_model.specs.Rows.{start_of, entry, row_at, m_of, r_of, right_column};
-ghost use Rattle.lk_model.specs.Pivot.{in_first_phase, pivoted, made_in_pivot};
-ghost use Rattle.lk_model.specs.Ends.{dual_at_end, units_at_end, made_in_dual, made_in_units};
-ghost use Rattle.lk_model.specs.Phases.{next, PivotOn, StageStands, EndsLean, stage_of, made_in_stage, entering, may_leave, leaves_before, leaving, artificial_row, replacing};
+ghost use Rattle.lk_model.specs.Linear.Rows.{start_of, entry, row_at, m_of, r_of, right_column};
+ghost use Rattle.lk_model.specs.Linear.Pivot.{in_first_phase, pivoted, made_in_pivot};
+ghost use Rattle.lk_model.specs.Linear.Ends.{dual_at_end, units_at_end, made_in_dual, made_in_units};
+ghost use Rattle.lk_model.specs.Linear.Phases.{next, PivotOn, StageStands, EndsLean, stage_of, made_in_stage, entering, may_leave, leaves_before, leaving, artificial_row, replacing};
 ghost use Rattle.exact_pivot.specs.Moves.{move_of, Gives};
 ghost use Rattle.exact_pivot.specs.Shape.{IsTableau};
 ghost use Rattle.exact_pivot.specs.Best.{IsBest, order_of_quotients};
@@ -35,7 +35,7 @@ pub struct Tableau {
 }
 
 impl Model for Tableau {
-    ghost use Rattle.lk_model.specs.Rows.{TableauRows};
+    ghost use Rattle.lk_model.specs.Linear.Rows.{TableauRows};
 
     ghost Value = { TableauRows };
 
@@ -80,7 +80,7 @@ impl Tableau {
     }
 
     /// What the run does next.
-    #[tactic(auto, unfolding(lk_model::specs::Phases::next))]
+    #[tactic(auto, unfolding(lk_model::specs::Linear::Phases::next))]
     pub fn next_pivot(&self) -> Next
         ensures { move_of result ≡ next self.now }
     {

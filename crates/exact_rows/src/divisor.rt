@@ -1,7 +1,7 @@
 //! Greatest common divisors.
 ghost use Rattle.std.specs.Prelude.{◌≡◌, ◌≤◌, IsTrue, max};
 ghost use Rattle.lk_model.specs.Limits.{is_in_range};
-ghost use Rattle.lk_model.specs.Arithmetic.{gcd, gcd_of};
+ghost use Rattle.lk_model.specs.Linear.Arithmetic.{gcd, gcd_of};
 
 /// The greatest common divisor of two numbers within ±(2^127 - 1), at least 0. That of 0 and 0 is 0.
 pub fn gcd(a: i128, b: i128) -> i128

@@ -1,7 +1,7 @@
 //! Results of arithmetic, or their operands where they are too wide.
 ghost use Rattle.std.specs.Prelude.{SomeIff, FitsSigned};
 ghost use mir.Syntax.{w128};
-ghost use Rattle.lk_model.specs.Arithmetic.{result_by};
+ghost use Rattle.lk_model.specs.Linear.Arithmetic.{result_by};
 ghost use Rattle.exact_rows.specs.Made.{IsMade};
 
 use lk_model::{Op, Wide};

@@ -2,8 +2,8 @@
 ghost use Rattle.std.specs.Prelude.{◌≡◌, ◌≢◌, pos, ◌<ℤ◌, ◌*ℤ◌, ◌-ℤ◌, int_div, length, IsTrue, OnOk, OnErr, None};
 ghost use Rattle.std.specs.Result.{result_err};
 ghost use Rattle.lk_model.specs.Limits.{is_in_range};
-ghost use Rattle.lk_model.specs.Arithmetic.{content, primitive, first_wide};
-ghost use Rattle.lk_model.specs.Pivot.{combined, made_in_row};
+ghost use Rattle.lk_model.specs.Linear.Arithmetic.{content, primitive, first_wide};
+ghost use Rattle.lk_model.specs.Linear.Pivot.{combined, made_in_row};
 ghost use Rattle.exact_rows.specs.Made.{AreInRange, made_at, made_by, mixed};
 
 use crate::divisor::gcd;

@@ -4,10 +4,10 @@ use Rattle.std.specs.Prelude.{find, ◌==◌}
 use Rattle.std.specs.Option.{option_map_or}
 use Rattle.std.proofs.lemmas.Bool.{eq-eqb, ne_eqb}
 use Rattle.lk_model.specs.Lists.{rises_within}
-use Rattle.lk_model.specs.Literal.{is_same_list}
-use Rattle.lk_model.specs.Formula.{Cnf, clause_at}
-use Rattle.lk_model.specs.Documents.{clause_line_at}
-use Rattle.lk_model.specs.CommonChecks.{kept_clause}
+use Rattle.lk_model.specs.Formulas.Literal.{is_same_list}
+use Rattle.lk_model.specs.Formulas.Formula.{Cnf, clause_at}
+use Rattle.lk_model.specs.Documents.Documents.{clause_line_at}
+use Rattle.lk_model.specs.Checks.CommonChecks.{kept_clause}
 use Rattle.lk_model.specs.declared.document.DoneDocument.{DoneDocument}
 use Rattle.lk_model.proofs.Rising.{rises, rising_bounds}
 

@@ -1,19 +1,20 @@
 -- The first failing check, from the places of the checks in their order.
 use Rattle.std.proofs.Common.{◌≡◌, ◌∙◌, ℕ, true, List, [], ◌∷◌, ◌++◌, length, map, refl, sym, ap, subst, arith, ℤ, Option, Some, None}
-use Rattle.std.specs.Prelude.{◌==◌, nat_le}
+use Rattle.std.specs.Prelude.{◌==◌, nat_le, find, false}
 use Rattle.std.specs.List.{list_all}
 use Rattle.std.specs.Option.{option_map_or, option_or}
 use Rattle.std.proofs.lemmas.Bool.{eqb-true, le-leb}
 use Rattle.lk_model.specs.Lists.{rises_within}
-use Rattle.lk_model.specs.Literal.{variable, is_literal}
+use Rattle.lk_model.specs.Formulas.Literal.{variable, is_literal}
 use Rattle.lk_model.specs.Limits.{max_literals}
-use Rattle.lk_model.specs.Formula.{Cnf, is_formula, literal_count}
-use Rattle.lk_model.specs.Assignment.{assignment_of, first_unsatisfied}
-use Rattle.lk_model.specs.Form.{is_done_in_form, is_body, is_pair, are_clause_lines}
-use Rattle.lk_model.specs.Check.{Check, first_of}
-use Rattle.lk_model.specs.CommonChecks.{other_formula, kept_clause, not_autarky, not_exactly_removed}
-use Rattle.lk_model.specs.PureChecks.{bad_order, bad_pair}
-use Rattle.lk_model.specs.Checks.{first_four, class_checks, first_failure}
+use Rattle.lk_model.specs.Formulas.Formula.{Cnf, is_formula, literal_count, variables_to}
+use Rattle.lk_model.specs.Formulas.Crossed.{no_variable, protected_by}
+use Rattle.lk_model.specs.Formulas.Assignment.{assignment_of, first_unsatisfied}
+use Rattle.lk_model.specs.Documents.Form.{is_done_in_form, is_body, is_pair, are_clause_lines}
+use Rattle.lk_model.specs.Checks.Check.{Check, first_of}
+use Rattle.lk_model.specs.Checks.CommonChecks.{other_formula, kept_clause, protected_set, not_autarky, not_exactly_removed}
+use Rattle.lk_model.specs.Checks.PureChecks.{bad_order, bad_pair}
+use Rattle.lk_model.specs.Checks.Checks.{first_five, class_checks, first_failure, first_failure_under}
 use Rattle.lk_model.specs.declared.document.Pair.{Pair}
 use Rattle.lk_model.specs.declared.document.Body.{Body}
 use Rattle.lk_model.specs.declared.document.Body.TheVariants.{Pure}
@@ -24,7 +25,7 @@ use Rattle.lk_model.specs.declared.verdict.Kind.TheVariants.{OtherFormula, KeptC
 use Rattle.lk_model.specs.declared.verdict.Why.{Why}
 use Rattle.lk_model.proofs.Booleans.{and_true}
 use Rattle.lk_model.proofs.Rising.{rises}
-use Rattle.lean_checker.proofs.AcceptedForms.{form_rises}
+use Rattle.kernel_laws.proofs.Passed.{in_form}
 
 -- a kind that fails at a place
 abbrev pub failure : Kind → ℕ → Why
@@ -46,7 +47,15 @@ first_of-append (c ∷ cs) ds = at_place c.kind c.place (first_of cs) (first_of 
     at_place k None x y z e = e
     at_place k (Some p) x y z e = refl
 
--- THE FIRST FOUR
+-- THE FIRST FIVE, of which no set line fails the third where nothing is protected
+
+never : (ns : List ℕ) → find (λ n. false) ns ≡ None
+never [] = refl
+never (n ∷ ns) = never ns
+
+protected_passes : (F : Cnf) (d : DoneDocument) → None ≡ (protected_set no_variable F d).place
+unfolding protected_set
+protected_passes F d = sym (never (variables_to F.vars))
 
 other_kind : (F : Cnf) (d : DoneDocument) → (other_formula F d.vars d.clauses).kind ≡ OtherFormula
 unfolding other_formula
@@ -69,35 +78,43 @@ pub unsatisfied_is : (F : Cnf) (d : DoneDocument) → first_unsatisfied (assignm
 unfolding not_autarky
 unsatisfied_is F d = refl
 
+abbrev behind_third : Cnf → DoneDocument → List Check
+behind_third F d = not_autarky F d ∷ not_exactly_removed F d ∷ []
+
 abbrev behind_second : Cnf → DoneDocument → List Check
-behind_second F d = not_autarky F d ∷ not_exactly_removed F d ∷ []
+behind_second F d = protected_set no_variable F d ∷ behind_third F d
 
 abbrev behind_first : Cnf → DoneDocument → List Check
 behind_first F d = kept_clause F d ∷ behind_second F d
 
-pub first_fails : (F : Cnf) (d : DoneDocument) (p : ℕ) → Some p ≡ (other_formula F d.vars d.clauses).place → Some (failure OtherFormula p) ≡ first_of (first_four F d)
+-- where the first two pass, the first failure of all is that of what stands behind the third
+behind_two : (F : Cnf) (d : DoneDocument) → None ≡ (other_formula F d.vars d.clauses).place → None ≡ (kept_clause F d).place
+    → first_of (behind_third F d) ≡ first_of (first_five no_variable F d)
+behind_two F d a b = passes_first (protected_set no_variable F d) (behind_third F d) (protected_passes F d)
+    ∙ passes_first (kept_clause F d) (behind_second F d) b ∙ passes_first (other_formula F d.vars d.clauses) (behind_first F d) a
+
+pub first_fails : (F : Cnf) (d : DoneDocument) (p : ℕ) → Some p ≡ (other_formula F d.vars d.clauses).place → Some (failure OtherFormula p) ≡ first_of (first_five no_variable F d)
 first_fails F d p e = ap (λ (k : Kind). Some (failure k p)) (sym (other_kind F d)) ∙ fails_first (other_formula F d.vars d.clauses) (behind_first F d) p e
 
-pub second_fails : (F : Cnf) (d : DoneDocument) (p : ℕ) → None ≡ (other_formula F d.vars d.clauses).place → Some p ≡ (kept_clause F d).place → Some (failure KeptClause p) ≡ first_of (first_four F d)
+pub second_fails : (F : Cnf) (d : DoneDocument) (p : ℕ) → None ≡ (other_formula F d.vars d.clauses).place → Some p ≡ (kept_clause F d).place → Some (failure KeptClause p) ≡ first_of (first_five no_variable F d)
 second_fails F d p a e =
     ap (λ (k : Kind). Some (failure k p)) (sym (kept_kind F d)) ∙ fails_first (kept_clause F d) (behind_second F d) p e
     ∙ passes_first (other_formula F d.vars d.clauses) (behind_first F d) a
 
-pub third_fails : (F : Cnf) (d : DoneDocument) (p : ℕ) → None ≡ (other_formula F d.vars d.clauses).place → None ≡ (kept_clause F d).place → Some p ≡ (not_autarky F d).place → Some (failure NotAutarky p) ≡ first_of (first_four F d)
-third_fails F d p a b e =
-    ap (λ (k : Kind). Some (failure k p)) (sym (autarky_kind F d)) ∙ fails_first (not_autarky F d) (not_exactly_removed F d ∷ []) p e
-    ∙ passes_first (kept_clause F d) (behind_second F d) b ∙ passes_first (other_formula F d.vars d.clauses) (behind_first F d) a
+pub autarky_fails_first : (F : Cnf) (d : DoneDocument) (p : ℕ) → None ≡ (other_formula F d.vars d.clauses).place → None ≡ (kept_clause F d).place → Some p ≡ (not_autarky F d).place
+    → Some (failure NotAutarky p) ≡ first_of (first_five no_variable F d)
+autarky_fails_first F d p a b e =
+    ap (λ (k : Kind). Some (failure k p)) (sym (autarky_kind F d)) ∙ fails_first (not_autarky F d) (not_exactly_removed F d ∷ []) p e ∙ behind_two F d a b
 
-pub fourth_fails : (F : Cnf) (d : DoneDocument) (p : ℕ) → None ≡ (other_formula F d.vars d.clauses).place → None ≡ (kept_clause F d).place → None ≡ (not_autarky F d).place → Some p ≡ (not_exactly_removed F d).place
-    → Some (failure NotExactlyRemoved p) ≡ first_of (first_four F d)
-fourth_fails F d p a b c e =
+pub removal_fails_first : (F : Cnf) (d : DoneDocument) (p : ℕ) → None ≡ (other_formula F d.vars d.clauses).place → None ≡ (kept_clause F d).place → None ≡ (not_autarky F d).place
+    → Some p ≡ (not_exactly_removed F d).place → Some (failure NotExactlyRemoved p) ≡ first_of (first_five no_variable F d)
+removal_fails_first F d p a b c e =
     ap (λ (k : Kind). Some (failure k p)) (sym (removed_kind F d)) ∙ fails_first (not_exactly_removed F d) [] p e
-    ∙ passes_first (not_autarky F d) (not_exactly_removed F d ∷ []) c ∙ passes_first (kept_clause F d) (behind_second F d) b ∙ passes_first (other_formula F d.vars d.clauses) (behind_first F d) a
+    ∙ passes_first (not_autarky F d) (not_exactly_removed F d ∷ []) c ∙ behind_two F d a b
 
-pub none_of_four : (F : Cnf) (d : DoneDocument) → None ≡ (other_formula F d.vars d.clauses).place → None ≡ (kept_clause F d).place → None ≡ (not_autarky F d).place → None ≡ (not_exactly_removed F d).place → None ≡ first_of (first_four F d)
-none_of_four F d a b c e =
-    passes_first (not_exactly_removed F d) [] e ∙ passes_first (not_autarky F d) (not_exactly_removed F d ∷ []) c
-    ∙ passes_first (kept_clause F d) (behind_second F d) b ∙ passes_first (other_formula F d.vars d.clauses) (behind_first F d) a
+pub none_of_five : (F : Cnf) (d : DoneDocument) → None ≡ (other_formula F d.vars d.clauses).place → None ≡ (kept_clause F d).place → None ≡ (not_autarky F d).place
+    → None ≡ (not_exactly_removed F d).place → None ≡ first_of (first_five no_variable F d)
+none_of_five F d a b c e = passes_first (not_exactly_removed F d) [] e ∙ passes_first (not_autarky F d) (not_exactly_removed F d ∷ []) c ∙ behind_two F d a b
 
 -- THE CLASS PURE
 
@@ -105,32 +122,33 @@ order_kind : (F : Cnf) (d : DoneDocument) (order : List ℤ) → (bad_order F d 
 unfolding bad_order
 order_kind F d order = refl
 
-pair_kind : (F : Cnf) (d : DoneDocument) (pairs : List Pair) → (bad_pair F d pairs).kind ≡ BadPair
+pair_kind : (F : Cnf) (d : DoneDocument) (pairs : List Pair) → (bad_pair no_variable F d pairs).kind ≡ BadPair
 unfolding bad_pair
 pair_kind F d pairs = refl
 
-pub order_fails : (F : Cnf) (d : DoneDocument) (order : List ℤ) (pairs : List Pair) (p : ℕ) → Some p ≡ (bad_order F d order).place → Some (failure BadOrder p) ≡ first_of (class_checks F d (Pure order pairs))
-order_fails F d order pairs p e = ap (λ (k : Kind). Some (failure k p)) (sym (order_kind F d order)) ∙ fails_first (bad_order F d order) (bad_pair F d pairs ∷ []) p e
+pub order_fails : (F : Cnf) (d : DoneDocument) (order : List ℤ) (pairs : List Pair) (p : ℕ) → Some p ≡ (bad_order F d order).place → Some (failure BadOrder p) ≡ first_of (class_checks no_variable F d (Pure order pairs))
+order_fails F d order pairs p e = ap (λ (k : Kind). Some (failure k p)) (sym (order_kind F d order)) ∙ fails_first (bad_order F d order) (bad_pair no_variable F d pairs ∷ []) p e
 
-pub pair_fails : (F : Cnf) (d : DoneDocument) (order : List ℤ) (pairs : List Pair) (p : ℕ) → None ≡ (bad_order F d order).place → Some p ≡ (bad_pair F d pairs).place → Some (failure BadPair p) ≡ first_of (class_checks F d (Pure order pairs))
-pair_fails F d order pairs p a e = ap (λ (k : Kind). Some (failure k p)) (sym (pair_kind F d pairs)) ∙ fails_first (bad_pair F d pairs) [] p e ∙ passes_first (bad_order F d order) (bad_pair F d pairs ∷ []) a
+pub pair_fails : (F : Cnf) (d : DoneDocument) (order : List ℤ) (pairs : List Pair) (p : ℕ) → None ≡ (bad_order F d order).place → Some p ≡ (bad_pair no_variable F d pairs).place → Some (failure BadPair p) ≡ first_of (class_checks no_variable F d (Pure order pairs))
+pair_fails F d order pairs p a e = ap (λ (k : Kind). Some (failure k p)) (sym (pair_kind F d pairs)) ∙ fails_first (bad_pair no_variable F d pairs) [] p e ∙ passes_first (bad_order F d order) (bad_pair no_variable F d pairs ∷ []) a
 
-pub none_of_pure : (F : Cnf) (d : DoneDocument) (order : List ℤ) (pairs : List Pair) → None ≡ (bad_order F d order).place → None ≡ (bad_pair F d pairs).place → None ≡ first_of (class_checks F d (Pure order pairs))
-none_of_pure F d order pairs a e = passes_first (bad_pair F d pairs) [] e ∙ passes_first (bad_order F d order) (bad_pair F d pairs ∷ []) a
+pub none_of_pure : (F : Cnf) (d : DoneDocument) (order : List ℤ) (pairs : List Pair) → None ≡ (bad_order F d order).place → None ≡ (bad_pair no_variable F d pairs).place → None ≡ first_of (class_checks no_variable F d (Pure order pairs))
+none_of_pure F d order pairs a e = passes_first (bad_pair no_variable F d pairs) [] e ∙ passes_first (bad_order F d order) (bad_pair no_variable F d pairs ∷ []) a
 
 -- ALL
 
-failure_is : (F : Cnf) (d : DoneDocument) → option_or (first_of (first_four F d)) (first_of (class_checks F d d.body)) ≡ first_failure F (Done d)
-unfolding first_failure
-failure_is F d = sym (first_of-append (first_four F d) (class_checks F d d.body))
+failure_is : (F : Cnf) (d : DoneDocument) → d.protect ≡ None → option_or (first_of (first_five no_variable F d)) (first_of (class_checks no_variable F d d.body)) ≡ first_failure F (Done d)
+unfolding first_failure_under
+failure_is F d none = sym (first_of-append (first_five no_variable F d) (class_checks no_variable F d d.body))
+    ∙ ap (λ (o : Option (List ℕ)). first_of (first_five (protected_by o) F d ++ class_checks (protected_by o) F d d.body)) (sym none)
 
--- one of the four is the first that fails
-pub common_found : (F : Cnf) (d : DoneDocument) (why : Why) → Some why ≡ first_of (first_four F d) → Some why ≡ first_failure F (Done d)
-common_found F d why e = ap (λ (o : Option Why). option_or o (first_of (class_checks F d d.body))) e ∙ failure_is F d
+-- one of the five is the first that fails
+pub common_found : (F : Cnf) (d : DoneDocument) (why : Why) → d.protect ≡ None → Some why ≡ first_of (first_five no_variable F d) → Some why ≡ first_failure F (Done d)
+common_found F d why none e = ap (λ (o : Option Why). option_or o (first_of (class_checks no_variable F d d.body))) e ∙ failure_is F d none
 
 -- or the first of those of the class
-pub class_found : (F : Cnf) (d : DoneDocument) (o : Option Why) → None ≡ first_of (first_four F d) → o ≡ first_of (class_checks F d d.body) → o ≡ first_failure F (Done d)
-class_found F d o none e = e ∙ ap (λ (w : Option Why). option_or w (first_of (class_checks F d d.body))) none ∙ failure_is F d
+pub class_found : (F : Cnf) (d : DoneDocument) (o : Option Why) → d.protect ≡ None → None ≡ first_of (first_five no_variable F d) → o ≡ first_of (class_checks no_variable F d d.body) → o ≡ first_failure F (Done d)
+class_found F d o unprotected none e = e ∙ ap (λ (w : Option Why). option_or w (first_of (class_checks no_variable F d d.body))) none ∙ failure_is F d unprotected
 
 -- WHAT THE FORM GIVES
 
@@ -150,10 +168,6 @@ pub record ArePureParts (n m : ℕ) (order : List ℤ) (pairs : List Pair) : Typ
   pub pairs_rise : rises_within 0 n (map (λ (q : Pair). q.var) pairs) ≡ true
   pub pairs_within : list_all (is_pair m) pairs ≡ true
 
-body_form : (d : DoneDocument) → is_done_in_form d ≡ true → is_body d.vars d.clauses d.body ≡ true
-unfolding is_done_in_form
-body_form d form = (and_true _ (is_body d.vars d.clauses d.body) (and_true _ (are_clause_lines d.vars (length d.kept) d.texts) form).0).1
-
 parts_of : (n m : ℕ) (order : List ℤ) (pairs : List Pair) → is_body n m (Pure order pairs) ≡ true → ArePureParts n m order pairs
 unfolding is_body
 parts_of n m order pairs form =
@@ -162,7 +176,7 @@ parts_of n m order pairs form =
     record { order_literals = b.0; pairs_rise = b.1; pairs_within = a.1 }
 
 pub pure_parts : (d : DoneDocument) (order : List ℤ) (pairs : List Pair) → is_done_in_form d ≡ true → d.body ≡ Pure order pairs → ArePureParts d.vars d.clauses order pairs
-pure_parts d order pairs form is = parts_of d.vars d.clauses order pairs (subst (λ (b : Body). is_body d.vars d.clauses b ≡ true) is (body_form d form))
+pure_parts d order pairs form is = parts_of d.vars d.clauses order pairs (subst (λ (b : Body). is_body d.vars d.clauses b ≡ true) is (in_form d form).body)
 
 -- the literals of a rising line are literals over the variables
 rising_literals : (low n : ℕ) (ls : List ℤ) → rises_within low n (map variable ls) ≡ true → list_all (is_literal n) ls ≡ true
@@ -172,4 +186,4 @@ rising_literals low n (l ∷ ls) up =
     rw (le-leb 1 (variable l) (omega (arith, r.above)), le-leb (variable l) n r.within, rising_literals (variable l) n ls r.more) refl
 
 pub set_literals : (d : DoneDocument) → is_done_in_form d ≡ true → list_all (is_literal d.vars) d.set ≡ true
-set_literals d form = rising_literals 0 d.vars d.set (form_rises d form).set
+set_literals d form = rising_literals 0 d.vars d.set (in_form d form).set

@@ -6,9 +6,9 @@ use Rattle.std.proofs.lemmas.Bool.{cases_eq, eq-eqb, ne_eqb, leb-true, le-leb}
 use Rattle.std.proofs.lemmas.List.{get_or-replicate, length-replicate, length-set, take_more}
 use Rattle.std.proofs.lemmas.List.Folds.{list_any-append}
 use Rattle.lk_model.specs.Lists.{among, rises_within, up_to}
-use Rattle.lk_model.specs.Formula.{Cnf, clause_at, positions_of}
-use Rattle.lk_model.specs.Assignment.{Assignment, assignment_of}
-use Rattle.lk_model.specs.CommonChecks.{not_exactly_removed}
+use Rattle.lk_model.specs.Formulas.Formula.{Cnf, clause_at, positions_of}
+use Rattle.lk_model.specs.Formulas.Assignment.{Assignment, assignment_of}
+use Rattle.lk_model.specs.Checks.CommonChecks.{not_exactly_removed}
 use Rattle.lk_model.specs.declared.document.DoneDocument.{DoneDocument}
 use Rattle.lk_model.proofs.Booleans.{and_true}
 use Rattle.lk_model.proofs.Flags.{or_no, or_yes}

@@ -1,9 +1,5 @@
-pub mod PassedChecks
-pub mod SetLiterals
-pub mod AcceptedForms
-pub mod AcceptedOrders
-pub mod AcceptedPairs
-pub mod AcceptedReductions
+pub mod Sizes
+pub mod Reduced
 pub mod LiteralSetLemmas
 pub mod ClauseLines
 pub mod OtherFormulas

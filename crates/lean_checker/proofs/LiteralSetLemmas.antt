@@ -6,7 +6,7 @@ use Rattle.std.specs.Ordering.{int_eq}
 use Rattle.std.proofs.lemmas.Bool.{cases_Bool}
 use Rattle.std.proofs.lemmas.Bool.Decides.{Decides-int_eq}
 use Rattle.std.proofs.lemmas.List.{get_or-replicate, length-replicate, length-set, take_more}
-use Rattle.lk_model.specs.Literal.{contains, is_literal, rank_of}
+use Rattle.lk_model.specs.Formulas.Literal.{contains, is_literal, rank_of}
 use Rattle.lk_model.proofs.Booleans.{and_true}
 use Rattle.lk_model.proofs.Ranks.{rank_apart, rank_small}
 use Rattle.lk_model.proofs.Flags.{contains-push, or_no, or_yes}

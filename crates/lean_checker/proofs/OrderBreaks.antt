@@ -5,7 +5,7 @@ use Rattle.std.specs.Ordering.{int_eq}
 use Rattle.std.specs.List.{list_any}
 use Rattle.std.proofs.lemmas.Bool.{cases_Bool, cond-true, cond-false, leb-true, le-leb}
 use Rattle.std.proofs.lemmas.Bool.Decides.{Decides-int_eq}
-use Rattle.lk_model.specs.Literal.{complement, contains}
+use Rattle.lk_model.specs.Formulas.Literal.{complement, contains}
 use Rattle.lk_model.proofs.Booleans.{and_true, or_true, or_left, or_right}
 use Rattle.lean_checker.specs.Order.{place_in, least_place, broken_place, first_broken}
 use Rattle.lean_checker.proofs.OrderPlaces.{place_bounds, place_early, early_place, place_at, read_place, least_below, least_held}

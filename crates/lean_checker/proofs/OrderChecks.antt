@@ -6,9 +6,9 @@ use Rattle.std.proofs.Math.Seq.{take-take}
 use Rattle.std.proofs.lemmas.Bool.{cases_Bool, cases_eq, cond-true, cond-false, eq-eqb, ne_eqb}
 use Rattle.std.proofs.lemmas.List.{get_or-take}
 use Rattle.lk_model.specs.Lists.{up_to}
-use Rattle.lk_model.specs.Literal.{contains}
-use Rattle.lk_model.specs.Formula.{Cnf}
-use Rattle.lk_model.specs.PureChecks.{breaks_order, bad_order}
+use Rattle.lk_model.specs.Formulas.Literal.{contains}
+use Rattle.lk_model.specs.Formulas.Formula.{Cnf}
+use Rattle.lk_model.specs.Checks.PureChecks.{breaks_order, bad_order}
 use Rattle.lk_model.specs.declared.document.DoneDocument.{DoneDocument}
 use Rattle.lk_model.proofs.Founds.{none_found, up_to_bounds}
 use Rattle.lean_checker.specs.Order.{first_broken, is_unsound, IsSoundCount}

@@ -4,7 +4,7 @@ use Rattle.std.specs.Prelude.{nat_le}
 use Rattle.std.specs.Ordering.{int_eq}
 use Rattle.std.proofs.lemmas.Bool.{cases_Bool, cond-true, cond-false, leb-true, le-leb}
 use Rattle.std.proofs.lemmas.Bool.Decides.{Decides-int_eq}
-use Rattle.lk_model.specs.Literal.{complement, contains}
+use Rattle.lk_model.specs.Formulas.Literal.{complement, contains}
 use Rattle.lk_model.proofs.Booleans.{or_true, or_left, or_right}
 use Rattle.lean_checker.specs.Order.{place_in, least_place, broken_place, first_broken}
 

@@ -3,8 +3,8 @@ use Rattle.std.proofs.Common.{◌≡◌, ℕ, length, refl, Some, None}
 use Rattle.std.specs.Prelude.{◌==◌}
 use Rattle.std.proofs.lemmas.Bool.{eq-eqb, ne_eqb}
 use Rattle.std.proofs.Math.Bool.{and-false}
-use Rattle.lk_model.specs.Formula.{Cnf}
-use Rattle.lk_model.specs.CommonChecks.{other_formula}
+use Rattle.lk_model.specs.Formulas.Formula.{Cnf}
+use Rattle.lk_model.specs.Checks.CommonChecks.{other_formula}
 
 -- the same numbers
 pub same_formula : (F : Cnf) (vars clauses : ℕ) → vars ≡ F.vars → clauses ≡ length F.clauses → None ≡ (other_formula F vars clauses).place

@@ -7,12 +7,13 @@ use Rattle.std.proofs.lemmas.Bool.{cases_Bool, cases_eq, eq-eqb, ne_eqb, leb-tru
 use Rattle.std.proofs.lemmas.List.{length-set, take_more, get_or-map, length-map}
 use Rattle.std.proofs.lemmas.List.Folds.{find-append}
 use Rattle.lk_model.specs.Lists.{among, rises_within}
-use Rattle.lk_model.specs.Literal.{variable, complement, contains, is_literal, is_positive, rank_of}
-use Rattle.lk_model.specs.Formula.{Cnf, clause_at, variable_occurs, variables_to}
-use Rattle.lk_model.specs.Documents.{pair_of}
-use Rattle.lk_model.specs.Form.{is_pair}
-use Rattle.lk_model.specs.Check.{line_fails, is_kept_with}
-use Rattle.lk_model.specs.PureChecks.{bad_pair}
+use Rattle.lk_model.specs.Formulas.Literal.{variable, complement, contains, is_literal, is_positive, rank_of}
+use Rattle.lk_model.specs.Formulas.Formula.{Cnf, clause_at, variable_occurs, variables_to}
+use Rattle.lk_model.specs.Formulas.Crossed.{no_variable}
+use Rattle.lk_model.specs.Documents.Documents.{pair_of}
+use Rattle.lk_model.specs.Documents.Form.{is_pair}
+use Rattle.lk_model.specs.Checks.Check.{line_fails, is_kept_with}
+use Rattle.lk_model.specs.Checks.PureChecks.{bad_pair}
 use Rattle.lk_model.specs.declared.document.Pair.{Pair}
 use Rattle.lk_model.specs.declared.document.DoneDocument.{DoneDocument}
 use Rattle.lk_model.proofs.Booleans.{and_true}
@@ -180,7 +181,7 @@ bad_told F kept pairs named occurring shown (suc k) (Some q) t all low high is =
 
 -- and by them the first bad pair is found
 pub bad_found : (F : Cnf) (d : DoneDocument) (pairs : List Pair) (named : List ℕ) (occurring shown : List Bool) → AreTables F d.kept pairs named occurring shown → list_all (is_pair (length F.clauses)) pairs ≡ true
-    → find (is_bad_at named occurring shown) (variables_to F.vars) ≡ (bad_pair F d pairs).place
+    → find (is_bad_at named occurring shown) (variables_to F.vars) ≡ (bad_pair no_variable F d pairs).place
 unfolding bad_pair
 bad_found F d pairs named occurring shown t all =
     find_to F.vars (is_bad_at named occurring shown) (is_bad_pair F d.kept pairs) (λ v low high. bad_told F d.kept pairs named occurring shown v (pair_of pairs v) t all low high refl)

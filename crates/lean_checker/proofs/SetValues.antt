@@ -6,8 +6,9 @@ use Rattle.std.proofs.lemmas.Bool.{cases_Bool, cases_eq, le-leb}
 use Rattle.std.proofs.lemmas.Bool.Decides.{Decides-int_eq}
 use Rattle.std.proofs.lemmas.List.{take_more, get_or-map, length-map}
 use Rattle.lk_model.specs.Lists.{rises_within}
-use Rattle.lk_model.specs.Literal.{variable, contains, is_literal, is_positive}
-use Rattle.lk_model.specs.Assignment.{assignment_by, assignment_of}
+use Rattle.lk_model.specs.Formulas.Literal.{variable, contains, is_literal, is_positive}
+use Rattle.lk_model.specs.Held.PartialValues.{assignment_by}
+use Rattle.lk_model.specs.Formulas.Assignment.{assignment_of}
 use Rattle.lk_model.proofs.Booleans.{or_true}
 use Rattle.lk_model.proofs.Rising.{rises, rising_bounds}
 use Rattle.lk_model.proofs.Flags.{contains-push, or_no, or_yes, same_false}

@@ -1,7 +1,7 @@
 -- Which positions are kept, by a flag for each.
-use Rattle.std.specs.Prelude.{◌≡◌, ℕ, ◌-◌, Bool, false, cond, not, List, length, ℤ, IsTrue, slice_index_or}
+use Rattle.std.specs.Prelude.{◌≡◌, ℕ, ◌-◌, Bool, false, if◌then◌else◌, not, List, length, ℤ, IsTrue, slice_index_or}
 use Rattle.lk_model.specs.Lists.{among, is_between}
-use Rattle.lk_model.specs.Assignment.{Assignment, touches}
+use Rattle.lk_model.specs.Formulas.Assignment.{Assignment, touches}
 
 -- the flag of a position, which counts from 1
 abbrev pub is_flagged : List Bool → ℕ → Bool
@@ -14,4 +14,4 @@ pub record AreKeptFlags (m : ℕ) (kept : List ℕ) (flags : List Bool) : Type 0
 
 -- a kept clause is touched, or one that is not kept is not
 abbrev pub is_misplaced : Assignment → Bool → List ℤ → Bool
-is_misplaced φ kept clause = cond kept (touches φ clause) (not (touches φ clause))
+is_misplaced φ kept clause = if kept then touches φ clause else not (touches φ clause)

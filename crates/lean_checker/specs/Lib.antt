@@ -1,5 +1,6 @@
 pub mod Verdicts
 pub mod Accepted
+pub mod Checked
 pub mod Lines
 pub mod LiteralSets
 pub mod Flags

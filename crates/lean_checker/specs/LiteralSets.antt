@@ -1,6 +1,6 @@
 -- Sets of literals, by a flag at the rank of each.
 use Rattle.std.specs.Prelude.{◌≡◌, ◌≤◌, ℕ, ◌+◌, ◌*◌, Bool, false, true, List, length, ℤ, IsTrue, slice_index_or, slice_set}
-use Rattle.lk_model.specs.Literal.{contains, is_literal, rank_of}
+use Rattle.lk_model.specs.Formulas.Literal.{contains, is_literal, rank_of}
 
 abbrev pub has_literal : List Bool → ℤ → Bool
 has_literal flags l = slice_index_or flags (rank_of l) false

@@ -1,12 +1,12 @@
 -- The places of literals in an order, and the first place at which a clause breaks it.
-use Rattle.std.specs.Prelude.{◌≡◌, ◌≤◌, ◌<◌, ℕ, ◌+◌, ◌*◌, Bool, true, false, cond, not, ◌||◌, List, [], ◌∷◌, length, map, min, take, nat_le, ℤ, pos, IsTrue, slice_index, slice_index_or}
+use Rattle.std.specs.Prelude.{◌≡◌, ◌≤◌, ◌<◌, ℕ, ◌+◌, ◌*◌, Bool, true, false, if◌then◌else◌, not, ◌||◌, List, [], ◌∷◌, length, map, min, take, nat_le, ℤ, pos, IsTrue, slice_index, slice_index_or}
 use Rattle.std.specs.Ordering.{int_eq}
-use Rattle.lk_model.specs.Literal.{complement, contains, is_literal, rank_of}
+use Rattle.lk_model.specs.Formulas.Literal.{complement, contains, is_literal, rank_of}
 
 -- the first place of the literal, counted from 1; the place after the last where it stands nowhere
 abbrev pub place_in : List ℤ → ℤ → ℕ
 place_in [] l = 1
-place_in (k ∷ order) l = cond (int_eq l k) 1 (place_in order l + 1)
+place_in (k ∷ order) l = (if int_eq l k then 1 else place_in order l + 1)
 
 -- the least of the places of these literals; the place after the last where they have none
 abbrev pub least_place : List ℤ → List ℤ → ℕ
@@ -17,7 +17,7 @@ least_place order (l ∷ c) = min (place_in order l) (least_place order c)
 -- place after the last.
 abbrev pub broken_place : List ℤ → List ℤ → ℕ
 broken_place order c =
-    cond (nat_le (least_place order (map complement c)) (least_place order c)) (least_place order (map complement c)) (length order + 1)
+    (if nat_le (least_place order (map complement c)) (least_place order c) then least_place order (map complement c) else length order + 1)
 
 -- the least of them over some clauses
 abbrev pub first_broken : List ℤ → List (List ℤ) → ℕ

@@ -1,17 +1,17 @@
 -- Which variables the kept clauses hold, and which pairs they bear out.
-use Rattle.std.specs.Prelude.{◌≡◌, ◌≤◌, ℕ, ◌+◌, ◌*◌, Bool, cond, not, ◌&&◌, ◌||◌, ◌==◌, List, length, ℤ, pos, IsTrue, slice_index}
+use Rattle.std.specs.Prelude.{◌≡◌, ◌≤◌, ℕ, ◌+◌, ◌*◌, Bool, if◌then◌else◌, not, ◌&&◌, ◌||◌, ◌==◌, List, length, ℤ, pos, IsTrue, slice_index}
 use Rattle.std.specs.List.{list_any}
 use Rattle.std.specs.Option.{option_map_or}
-use Rattle.lk_model.specs.Literal.{variable, complement, contains, mentions, is_literal, is_positive, rank_of}
-use Rattle.lk_model.specs.Formula.{Cnf, clause_at, variable_occurs}
-use Rattle.lk_model.specs.Crossed.{is_in}
-use Rattle.lk_model.specs.Documents.{pair_of}
+use Rattle.lk_model.specs.Formulas.Literal.{variable, complement, contains, mentions, is_literal, is_positive, rank_of}
+use Rattle.lk_model.specs.Formulas.Formula.{Cnf, clause_at, variable_occurs}
+use Rattle.lk_model.specs.Held.VariableSets.{is_in}
+use Rattle.lk_model.specs.Documents.Documents.{pair_of}
 use Rattle.lk_model.specs.declared.document.Pair.{Pair}
 use Rattle.lean_checker.specs.LiteralSets.{has_literal}
 
 -- the position that the pair of a literal's variable names for the literal; 0 where there is no pair
 abbrev pub named_at : List Pair → ℤ → ℕ
-named_at pairs l = option_map_or (λ (q : Pair). cond (is_positive l) q.with q.against) (pair_of pairs (variable l)) 0
+named_at pairs l = option_map_or (λ (q : Pair). (if is_positive l then q.with else q.against)) (pair_of pairs (variable l)) 0
 
 -- at the rank of each literal over n variables stands that position
 pub record AreNamed (n : ℕ) (pairs : List Pair) (named : List ℕ) : Type 0 where
@@ -44,5 +44,6 @@ pub record NotesLiterals (n : ℕ) (clause : List ℤ) (position : ℕ) (named :
 
 -- The variable has no pair and occurs; or it has one and does not occur, or a literal of it is not shown.
 abbrev pub is_bad_at : List ℕ → List Bool → List Bool → ℕ → Bool
-is_bad_at named occurring shown v = cond (slice_index named (rank_of (pos v)) == 0) (is_in occurring v)
-    (not (is_in occurring v) || not (has_literal shown (pos v)) || not (has_literal shown (complement (pos v))))
+is_bad_at named occurring shown v = if slice_index named (rank_of (pos v)) == 0
+    then is_in occurring v
+    else not (is_in occurring v) || not (has_literal shown (pos v)) || not (has_literal shown (complement (pos v)))

@@ -1,9 +1,9 @@
 -- What the checker answers, and the line that tells it.
 use Rattle.std.specs.Prelude.{◌≡◌, ℕ, ◌-◌, List, [], ◌∷◌, ◌++◌, codes, decimal, length, replicate, Option, Some, None}
-use Rattle.lk_model.specs.Formula.{Cnf}
-use Rattle.lk_model.specs.Lines.{Word}
-use Rattle.lk_model.specs.Checks.{first_failure}
-use Rattle.lk_model.specs.KindWords.{refused_words}
+use Rattle.lk_model.specs.Formulas.Formula.{Cnf}
+use Rattle.lk_model.specs.Texts.Lines.{Word}
+use Rattle.lk_model.specs.Checks.Checks.{first_failure}
+use Rattle.lk_model.specs.Documents.KindWords.{refused_words}
 use Rattle.lk_model.specs.declared.document.Document.{Document}
 use Rattle.lk_model.specs.declared.document.Document.TheVariants.{Done, Unfinished}
 use Rattle.lk_model.specs.declared.verdict.Why.{Why}

@@ -1,14 +1,15 @@
 //! The whole check.
 ghost use Rattle.std.specs.Prelude.{◌≡◌, ◌<◌, None, IfOk, IsTrue};
-ghost use Rattle.lk_model.specs.Formula.{is_formula};
-ghost use Rattle.lk_model.specs.Built.{IsBuilt, IsBuiltBody};
-ghost use Rattle.lk_model.specs.Form.{is_done_in_form, is_in_form};
-ghost use Rattle.lk_model.specs.Checks.{first_failure, first_four, class_checks};
-ghost use Rattle.lk_model.specs.Check.{first_of};
+ghost use Rattle.lk_model.specs.Formulas.Formula.{is_formula};
+ghost use Rattle.lk_model.specs.Formulas.Crossed.{no_variable};
+ghost use Rattle.lk_model.specs.Documents.Form.{is_done_in_form, is_in_form};
+ghost use Rattle.lk_model.specs.Checks.Checks.{first_failure, first_five, class_checks};
+ghost use Rattle.lk_model.specs.Checks.Check.{first_of};
 ghost use Rattle.lk_model.specs.declared.document.Document.TheVariants.{Done};
 ghost use Rattle.lk_model.specs.declared.document.Body.TheVariants.{Pure};
 ghost use Rattle.lean_checker.specs.Verdicts.{verdict_of};
 ghost use Rattle.lean_checker.specs.Accepted.{HasSizes, IsReducedBy};
+ghost use Rattle.lean_checker.specs.Checked.{IsChecked, IsCheckedBody};
 
 use crate::common::{assignment_of, kept_clause, kept_flags, not_exactly_removed, other_formula};
 use crate::order::bad_order;
@@ -21,7 +22,7 @@ use std::thread::Threads;
 
 /// What the checks say of a document and a formula: the first failing check, or that none fails. The
 /// document may be anybody's, if it is in form, as every document is that was read from a text; so far
-/// it is a finished one of the class pure. The answer is the same for each number of workers.
+/// it is a finished one of the class pure without protected variables. The answer is the same for each number of workers.
 ///
 /// Where it is `Accepted`, the kept clauses are the kernel of the document's class, the set line is an
 /// autarky of the class that touches exactly the removed clauses, and every model of the kept clauses,
@@ -39,7 +40,7 @@ pub fn check<R: Threads + Sync, G: Gate>(
     workers: u32,
 ) -> Result<Verdict, OutOfMemory>
     requires form { IsTrue (is_in_form d.now) }
-    requires built { IsBuilt d.now }
+    requires checked { IsChecked d.now }
     requires workers { 0 < workers }
     ensures verdict { IfOk result (λ v. v ≡ verdict_of f.now d.now) }
     ensures reduction { result ≡ Ok Verdict.Accepted → IsReducedBy f.now d.now }
@@ -56,7 +57,7 @@ pub fn check<R: Threads + Sync, G: Gate>(
 /// The first failing check of a finished document.
 fn first_failure(alloc: Global, f: &Formula, d: &DoneDocument) -> Result<Option<Why>, OutOfMemory>
     requires form { IsTrue (is_done_in_form d.now) }
-    requires built { IsBuiltBody d.now.body }
+    requires checked { IsChecked (Done d.now) }
     ensures first { IfOk result (λ why. why ≡ first_failure f.now (Done d.now)) }
     ensures formula { IsTrue (is_formula f.now) }
 {
@@ -69,7 +70,7 @@ fn first_failure(alloc: Global, f: &Formula, d: &DoneDocument) -> Result<Option<
 /// The first failing check of those that every finished document has.
 fn common_failure(alloc: Global, f: &Formula, d: &DoneDocument) -> Result<Option<Why>, OutOfMemory>
     requires { IsTrue (is_done_in_form d.now) }
-    ensures first { IfOk result (λ why. why ≡ first_of (first_four f.now d.now)) }
+    ensures first { IfOk result (λ why. why ≡ first_of (first_five no_variable f.now d.now)) }
     ensures sizes { IfOk result (λ why. why ≡ None → HasSizes f.now d.now) }
     ensures formula { IsTrue (is_formula f.now) }
 {
@@ -103,9 +104,9 @@ fn failure(kind: Kind, place: u32) -> Option<Why>
 /// The first failing check of those of the document's class.
 fn class_failure(alloc: Global, f: &Formula, d: &DoneDocument) -> Result<Option<Why>, OutOfMemory>
     requires form { IsTrue (is_done_in_form d.now) }
-    requires built { IsBuiltBody d.now.body }
+    requires checked { IsCheckedBody d.now.body }
     requires sizes { HasSizes f.now d.now }
-    ensures { IfOk result (λ why. why ≡ first_of (class_checks f.now d.now d.now.body)) }
+    ensures { IfOk result (λ why. why ≡ first_of (class_checks no_variable f.now d.now d.now.body)) }
 {
     match &d.body {
         Body::Pure { order, pairs } => {
@@ -126,7 +127,7 @@ fn pure_failure(
     requires form { IsTrue (is_done_in_form d.now) }
     requires body { d.now.body ≡ Pure order.now pairs.now }
     requires sizes { HasSizes f.now d.now }
-    ensures { IfOk result (λ why. why ≡ first_of (class_checks f.now d.now (Pure order.now pairs.now))) }
+    ensures { IfOk result (λ why. why ≡ first_of (class_checks no_variable f.now d.now (Pure order.now pairs.now))) }
 {
     if let Some(place) = bad_order(alloc, f, d, order)? {
         return Ok(Some(Why {

@@ -1,11 +1,12 @@
 //! The checks of every finished document.
 ghost use Rattle.std.specs.Prelude.{◌≡◌, ◌≤◌, ◌<◌, length, map, IfOk, IsTrue};
 ghost use Rattle.lk_model.specs.Lists.{rises_within};
-ghost use Rattle.lk_model.specs.Literal.{variable, is_same_list};
-ghost use Rattle.lk_model.specs.Formula.{clause_at, is_formula};
-ghost use Rattle.lk_model.specs.Lean.{are_positions};
-ghost use Rattle.lk_model.specs.Assignment.{assignment_by, assignment_of};
-ghost use Rattle.lk_model.specs.CommonChecks.{other_formula, kept_clause, not_exactly_removed};
+ghost use Rattle.lk_model.specs.Formulas.Literal.{variable, is_same_list};
+ghost use Rattle.lk_model.specs.Formulas.Formula.{clause_at, is_formula};
+ghost use Rattle.lk_model.specs.Formulas.Lean.{are_positions};
+ghost use Rattle.lk_model.specs.Held.PartialValues.{assignment_by};
+ghost use Rattle.lk_model.specs.Formulas.Assignment.{assignment_of};
+ghost use Rattle.lk_model.specs.Checks.CommonChecks.{other_formula, kept_clause, not_exactly_removed};
 ghost use Rattle.lean_checker.specs.Flags.{AreKeptFlags, is_flagged, is_misplaced};
 
 use lk_model::{DoneDocument, Formula, Lit, OutOfMemory};

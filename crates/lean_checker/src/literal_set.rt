@@ -1,7 +1,7 @@
 //! Sets of literals.
 ghost use Rattle.std.specs.Prelude.{◌≡◌, ◌<◌, ◌≤◌, [], length, IfOk, IsTrue, All};
 ghost use Rattle.std.specs.List.{list_all};
-ghost use Rattle.lk_model.specs.Literal.{is_literal, rank_of};
+ghost use Rattle.lk_model.specs.Formulas.Literal.{is_literal, rank_of};
 ghost use Rattle.lean_checker.specs.LiteralSets.{has_literal, with_literal, IsSetOf};
 
 use lk_model::{Lit, OutOfMemory};

@@ -1,8 +1,8 @@
 //! The check of an order of pure literals.
 ghost use Rattle.std.specs.Prelude.{◌≡◌, ◌≤◌, ◌<◌, ◌+◌, ◌*◌, length, take, IfOk, IsTrue};
 ghost use Rattle.std.specs.List.{list_all};
-ghost use Rattle.lk_model.specs.Literal.{is_literal, contains};
-ghost use Rattle.lk_model.specs.PureChecks.{bad_order};
+ghost use Rattle.lk_model.specs.Formulas.Literal.{is_literal, contains};
+ghost use Rattle.lk_model.specs.Checks.PureChecks.{bad_order};
 ghost use Rattle.lean_checker.specs.LiteralSets.{IsSetOf};
 ghost use Rattle.lean_checker.specs.Order.{broken_place, first_broken, IsSoundCount, ArePlaces};
 

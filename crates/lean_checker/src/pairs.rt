@@ -2,10 +2,11 @@
 ghost use Rattle.std.specs.Prelude.{◌≡◌, ◌≤◌, ◌<◌, ◌+◌, ◌*◌, length, map, IfOk, IsTrue};
 ghost use Rattle.std.specs.List.{list_all};
 ghost use Rattle.lk_model.specs.Lists.{rises_within};
-ghost use Rattle.lk_model.specs.Literal.{is_literal};
-ghost use Rattle.lk_model.specs.Lean.{are_positions};
-ghost use Rattle.lk_model.specs.Form.{is_pair};
-ghost use Rattle.lk_model.specs.PureChecks.{bad_pair};
+ghost use Rattle.lk_model.specs.Formulas.Literal.{is_literal};
+ghost use Rattle.lk_model.specs.Formulas.Lean.{are_positions};
+ghost use Rattle.lk_model.specs.Formulas.Crossed.{no_variable};
+ghost use Rattle.lk_model.specs.Documents.Form.{is_pair};
+ghost use Rattle.lk_model.specs.Checks.PureChecks.{bad_pair};
 ghost use Rattle.lk_model.specs.declared.document.Pair.{Pair};
 ghost use Rattle.lean_checker.specs.Pairs.{AreNamed, AreOccurring, AreShown, NotesVariables, NotesLiterals, is_bad_at};
 
@@ -34,7 +35,7 @@ pub(crate) fn bad_pair(
     requires kept { IsTrue (are_positions f.now d.now.kept) }
     requires rising { IsTrue (rises_within 0 f.now.vars (map (λ (q : Pair). q.var) pairs.now)) }
     requires pairs { IsTrue (list_all (is_pair (length f.now.clauses)) pairs.now) }
-    ensures { IfOk result (λ place. place ≡ (bad_pair f.now d.now pairs.now).place) }
+    ensures { IfOk result (λ place. place ≡ (bad_pair no_variable f.now d.now pairs.now).place) }
 {
     let named = named_positions(alloc, f.vars(), pairs)?;
     let seen = seen_at(alloc, f, d.kept.as_slice(), named.as_slice())?;
@@ -101,9 +102,7 @@ fn is_bad(v: u32, named: &[u32], seen: &Seen) -> bool
     requires named { 2 * v + 1 < length named.now }
     ensures { result ≡ is_bad_at named.now seen.now.occurring seen.now.shown v }
 {
-    let Some(l) = Lit::new(v as i32) else {
-        unreachable!()
-    };
+    let l = Lit::from_var(v, true);
     if named[l.rank()] == 0 {
         seen.occurring.has(v)
     } else {

@@ -1,7 +1,7 @@
 //! What the checker answers.
 ghost use Rattle.std.specs.Prelude.{◌≡◌, ◌+◌, ◌-◌, ◌≤◌, ◌<◌, ◌++◌, length, codes, decimal, replicate};
-ghost use Rattle.lk_model.specs.PlainText.{line};
-ghost use Rattle.lk_model.specs.KindWords.{kind_word};
+ghost use Rattle.lk_model.specs.Texts.PlainText.{line};
+ghost use Rattle.lk_model.specs.Documents.KindWords.{kind_word};
 ghost use Rattle.lean_checker.specs.Verdicts.{verdict_words, HasLine};
 
 use itoa::Buffer;
@@ -104,6 +104,7 @@ fn kind_word(kind: Kind) -> &'static [u8]
     match kind {
         Kind::OtherFormula => b"other-formula",
         Kind::KeptClause => b"kept-clause",
+        Kind::ProtectedSet => b"protected-set",
         Kind::NotAutarky => b"not-autarky",
         Kind::NotExactlyRemoved => b"not-exactly-removed",
         Kind::BadOrder => b"bad-order",
@@ -120,5 +121,6 @@ fn kind_word(kind: Kind) -> &'static [u8]
         Kind::NotBlocked => b"not-blocked",
         Kind::NotLearned => b"not-learned",
         Kind::ModelFails => b"model-fails",
+        Kind::BadWithout => b"bad-without",
     }
 }

@@ -1,5 +1,5 @@
 -- Counting: numbers that are taken one to one into a list are no more than those of the list.
-use Rattle.std.proofs.Common.{◌≡◌, ◌≢◌, ℕ, zero, suc, ◌<◌, ◌≤◌, ◌+◌, Bool, true, false, cond, not, ◌&&◌, ◌||◌, ◌==◌, nat_lt, nat_le, List, [], ◌∷◌, length, refl, sym, ◌∙◌, ap, subst, arith, ◌⊎◌, inl, inr, filter}
+use Rattle.std.proofs.Common.{◌≡◌, ◌≢◌, ℕ, zero, suc, ◌<◌, ◌≤◌, ◌+◌, Bool, true, false, cond, not, ◌&&◌, ◌||◌, ◌==◌, nat_lt, nat_le, List, [], ◌∷◌, ◌++◌, length, refl, sym, ◌∙◌, ap, subst, arith, ◌⊎◌, inl, inr, filter}
 use Rattle.std.specs.List.{range_with_len}
 use Rattle.std.proofs.lemmas.Bool.{eqb-true, eq-eqb}
 use Rattle.std.proofs.lemmas.Map.Views.{any-filter_same}
@@ -155,3 +155,10 @@ Differ-range a zero = none
 Differ-range a (suc len) = more a (range_with_len (a + 1) len)
     (bool_false (among (range_with_len (a + 1) len) a) (λ e. let l = in_range (a + 1) len a e in omega (arith, l.0)))
     (Differ-range (a + 1) len)
+
+-- numbers in a row and one more
+pub range_more : (a len : ℕ) → range_with_len a (suc len) ≡ range_with_len a len ++ (a + len) ∷ []
+range_more a zero = let same : a ≡ a + zero = omega arith in ap (λ (n : ℕ). n ∷ []) same
+range_more a (suc len) =
+    let same : (a + 1) + len ≡ a + suc len = omega arith in
+    ap (λ (ns : List ℕ). a ∷ ns) (range_more (a + 1) len ∙ ap (λ (n : ℕ). range_with_len (a + 1) len ++ n ∷ []) same)

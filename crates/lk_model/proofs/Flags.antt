@@ -1,21 +1,23 @@
 -- The flags of a clause that grows.
-use Rattle.std.proofs.Common.{◌≡◌, ◌≢◌, ℕ, ◌+◌, ◌*◌, ◌<◌, ◌≤◌, Bool, true, false, ◌||◌, List, [], ◌∷◌, ◌++◌, length, get_or, refl, sym, ◌∙◌, ap, arith, ℤ, inl, inr, get_or-set_same, get_or-set_other}
-use Rattle.std.proofs.lemmas.List.{get_or-replicate, length-replicate, length-set}
+use Rattle.std.proofs.Common.{◌≡◌, ◌≢◌, ℕ, ◌+◌, ◌-◌, ◌*◌, ◌<◌, ◌≤◌, Bool, true, false, ◌||◌, List, [], ◌∷◌, ◌++◌, length, take, drop, get_or, refl, sym, ◌∙◌, ap, arith, ℤ, inl, inr, get_or-set_same, get_or-set_other}
+use Rattle.std.proofs.lemmas.List.{get_or-replicate, get_or_read, length-replicate, length-set, length-append, length-drop, take_all, take_more, take-append-le, take-append-drop}
 use Rattle.std.specs.Prelude.{replicate, slice_set}
 use Rattle.std.specs.Ordering.{int_eq}
 use Rattle.std.proofs.lemmas.Bool.Decides.{Decides-int_eq}
 use Rattle.std.proofs.lemmas.List.Folds.{list_any-append}
-use Rattle.lk_model.specs.Literal.{contains, is_literal}
-use Rattle.lk_model.specs.Literal.{rank_of}
-use Rattle.lk_model.specs.Growing.{AreFlagged}
+use Rattle.lk_model.specs.Formulas.Literal.{contains, is_literal}
+use Rattle.lk_model.specs.Formulas.Literal.{rank_of}
+use Rattle.lk_model.specs.Limits.{max_vars}
+use Rattle.lk_model.specs.Held.Growing.{AreFlagged, IsHeld}
+use Rattle.lk_model.proofs.Booleans.{and_true}
 use Rattle.lk_model.proofs.Ranks.{rank_apart, rank_small}
-use Rattle.lk_model.proofs.Literals.{true_or_false, clause-more, clause-less, clause-last, clause-apart}
+use Rattle.lk_model.proofs.Literals.{true_or_false, clause-more, clause-less, clause-last, clause-apart, literal_at, new_at}
 
 pub contains-push : (xs : List ℤ) (l k : ℤ) → contains (xs ++ l ∷ []) k ≡ (contains xs k || (int_eq k l || false))
 contains-push xs l k = list_any-append (int_eq k) xs (l ∷ [])
 
 -- no flag is up at first
-pub Flagged-none : (n : ℕ) → n ≤ 1000000 → AreFlagged n [] (replicate (2 * n + 2) false)
+pub Flagged-none : (n : ℕ) → n ≤ max_vars → AreFlagged n [] (replicate (2 * n + 2) false)
 Flagged-none n h = record {
   small = h;
   clause = refl;
@@ -71,3 +73,48 @@ Flagged-pop n xs flags l f = record {
         ∙ contains-push xs l k ∙ ap (λ b. contains xs k || (b || false)) e ∙ or_no (contains xs k)
   ];
 }
+
+-- HELD CLAUSES
+
+-- the flag of one literal more goes up
+pub Held-flag : (n : ℕ) (xs : List ℤ) (k : ℕ) (flags : List Bool) (d : ℤ) → IsHeld n xs k flags → k < length xs
+    → IsHeld n xs (k + 1) (slice_set flags (rank_of (get_or xs k d)) true)
+Held-flag n xs k flags d held lt = record {
+  clause = held.clause;
+  few = omega (arith, lt);
+  told = rw (take_more xs k d lt) (Flagged-push n (take k xs) flags (get_or xs k d) held.told (literal_at n xs k d (and_true _ _ held.clause).0 lt) (new_at xs k d (and_true _ _ held.clause).1 lt));
+}
+
+-- a literal more, whose flag stays down
+pub Held-more : (n : ℕ) (xs : List ℤ) (k : ℕ) (flags : List Bool) (l : ℤ) → IsHeld n xs k flags → is_literal n l ≡ true → contains xs l ≡ false
+    → IsHeld n (xs ++ l ∷ []) k flags
+Held-more n xs k flags l held literal out = record {
+  clause = clause-more n xs l held.clause literal out;
+  few = omega (arith, held.few, length-append xs (l ∷ []));
+  told = rw (take-append-le k xs (l ∷ []) held.few) held.told;
+}
+
+-- a literal stands among the first ones or among the others
+pub contains-parts : (k : ℕ) (xs : List ℤ) (l : ℤ) → (contains (take k xs) l || contains (drop k xs) l) ≡ contains xs l
+contains-parts k xs l = sym (list_any-append (int_eq l) (take k xs) (drop k xs)) ∙ ap (λ (ys : List ℤ). contains ys l) (take-append-drop k xs)
+
+-- a flag that was read tells of the first ones
+pub flag_tells : (n : ℕ) (xs : List ℤ) (k : ℕ) (flags : List Bool) (l : ℤ) (b : Bool) → IsHeld n xs k flags → is_literal n l ≡ true → b ≡ get_or flags (rank_of l) b
+    → b ≡ contains (take k xs) l
+flag_tells n xs k flags l b held literal read =
+    get_or_read flags (rank_of l) b (omega (arith, held.told.size, rank_small n l literal)) read false ∙ held.told.told l literal
+
+-- one that is up tells of all
+pub flag_up : (n : ℕ) (xs : List ℤ) (k : ℕ) (flags : List Bool) (l : ℤ) (b : Bool) → IsHeld n xs k flags → is_literal n l ≡ true → b ≡ get_or flags (rank_of l) b
+    → b ≡ true → b ≡ contains xs l
+flag_up n xs k flags l b held literal read up =
+    let first : contains (take k xs) l ≡ true = sym (flag_tells n xs k flags l b held literal read) ∙ up in
+    up ∙ sym (sym (contains-parts k xs l) ∙ ap (λ (a : Bool). a || contains (drop k xs) l) first)
+
+-- where it is down the others tell
+pub flag_down : (n : ℕ) (xs : List ℤ) (k : ℕ) (flags : List Bool) (l : ℤ) (b : Bool) → IsHeld n xs k flags → is_literal n l ≡ true → b ≡ get_or flags (rank_of l) b
+    → b ≡ false → contains (take (length xs - k) (drop k xs)) l ≡ contains xs l
+flag_down n xs k flags l b held literal read down =
+    let first : contains (take k xs) l ≡ false = sym (flag_tells n xs k flags l b held literal read) ∙ down in
+    ap (λ (ys : List ℤ). contains ys l) (take_all (length xs - k) (drop k xs) (omega (arith, length-drop k xs)))
+    ∙ sym (sym (contains-parts k xs l) ∙ ap (λ (a : Bool). a || contains (drop k xs) l) first)

@@ -9,9 +9,9 @@ use Rattle.std.proofs.lemmas.Bool.Decides.{Decides-int_eq}
 use Rattle.std.proofs.lemmas.List.{take_more}
 use Rattle.std.proofs.lemmas.List.Folds.{find-append}
 use Rattle.lk_model.specs.Lists.{among, up_to, rises_within}
-use Rattle.lk_model.specs.Literal.{contains, is_same_list}
-use Rattle.lk_model.specs.Formula.{Cnf, clause_at, positions_of}
-use Rattle.lk_model.specs.Lean.{all_of}
+use Rattle.lk_model.specs.Formulas.Literal.{contains, is_same_list}
+use Rattle.lk_model.specs.Formulas.Formula.{Cnf, clause_at, positions_of}
+use Rattle.lk_model.specs.Formulas.Lean.{all_of}
 use Rattle.lk_model.specs.declared.document.Pair.{Pair}
 use Rattle.lk_model.proofs.Booleans.{and_true, or_true, or_false, or_left, or_right}
 

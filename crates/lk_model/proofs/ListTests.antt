@@ -6,10 +6,10 @@ use Rattle.std.specs.Ordering.{int_eq}
 use Rattle.std.proofs.lemmas.Bool.{eqb-true}
 use Rattle.std.proofs.lemmas.Bool.Decides.{Decides-int_eq}
 use Rattle.lk_model.specs.Lists.{among}
-use Rattle.lk_model.specs.Literal.{contains, is_literal}
-use Rattle.lk_model.specs.Formula.{Cnf, clause_at, is_formula}
+use Rattle.lk_model.specs.Formulas.Literal.{contains, is_literal}
+use Rattle.lk_model.specs.Formulas.Formula.{Cnf, clause_at, is_formula}
 use Rattle.lk_model.proofs.Booleans.{and_true, or_true, or_left, or_right}
-use Rattle.lk_model.proofs.Extensions.{literals_of}
+use Rattle.lk_model.proofs.Clauses.{literals_of}
 
 -- one of the literals passes where one that stands there does
 pub passes_one : (t : ℤ → Bool) (c : List ℤ) (l : ℤ) → contains c l ≡ true → t l ≡ true → list_any t c ≡ true

@@ -1,12 +1,13 @@
 -- Tests of literals.
-use Rattle.std.proofs.Common.{◌≡◌, ℕ, zero, suc, ◌<◌, Bool, true, false, not, ◌&&◌, ◌||◌, List, [], ◌∷◌, ◌++◌, length, take, get_or, refl, sym, ◌∙◌, arith, ℤ, ◌⊎◌, inl, inr}
+use Rattle.std.proofs.Common.{◌≡◌, ℕ, zero, suc, ◌<◌, ◌≤◌, Bool, true, false, not, ◌&&◌, ◌||◌, List, [], ◌∷◌, ◌++◌, length, take, get_or, refl, sym, ◌∙◌, arith, ℤ, ◌⊎◌, inl, inr}
+use Rattle.std.specs.Prelude.{nat_le}
 use Rattle.std.specs.Ordering.{int_eq}
 use Rattle.std.proofs.lemmas.Grind.{common_steps}
 use Rattle.std.proofs.lemmas.Bool.Decides.{Decides-int_eq}
 use Rattle.std.proofs.lemmas.List.Folds.{list_any-append, list_all-append, list_any_at}
 use Rattle.std.specs.List.{list_any, list_all}
-use Rattle.std.proofs.lemmas.Bool.{both_ways, not-true, or_from, false_from_ne_true}
-use Rattle.lk_model.specs.Literal.{contains, is_literal, is_distinct, is_clause}
+use Rattle.std.proofs.lemmas.Bool.{both_ways, not-true, or_from, false_from_ne_true, leb-true}
+use Rattle.lk_model.specs.Formulas.Literal.{variable, contains, is_literal, is_distinct, is_clause}
 use Rattle.lk_model.proofs.Booleans.{and_true}
 
 pub true_or_false : (b : Bool) → (b ≡ true) ⊎ (b ≡ false)
@@ -94,3 +95,17 @@ new_at (x ∷ xs) (suc i) d h lt =
     let same = (Decides-int_eq (get_or xs i d) x).0 e in
     both_ways (contains xs x) (not-true _ parts.0) (list_any_at (int_eq x) xs i d inside ((Decides-int_eq x (get_or xs i d)).1 (sym same)))))
     (new_at xs i d parts.1 inside)
+
+-- a list with a literal of another variable is no clause
+pub beyond : (n : ℕ) (c : List ℤ) (i : ℕ) (d : ℤ) → i < length c → n < variable (get_or c i d) → false ≡ is_clause n c
+beyond n c i d lt past = elim (true_or_false (is_clause n c)) [
+  | inl e ↦ absurd (let lit = literal_at n c i d (and_true _ _ e).0 lt in let fits : variable (get_or c i d) ≤ n = leb-true _ _ (and_true (nat_le 1 (variable (get_or c i d))) _ lit).1 in omega (arith, fits, past))
+  | inr e ↦ sym e
+]
+
+-- nor is one with a literal twice
+pub twice : (n : ℕ) (c : List ℤ) (i : ℕ) (d : ℤ) → i < length c → contains (take i c) (get_or c i d) ≡ true → false ≡ is_clause n c
+twice n c i d lt again = elim (true_or_false (is_clause n c)) [
+  | inl e ↦ sym (new_at c i d (and_true _ _ e).1 lt) ∙ again ∙ sym e
+  | inr e ↦ sym e
+]

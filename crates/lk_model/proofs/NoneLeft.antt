@@ -2,10 +2,10 @@
 use Rattle.std.proofs.Common.{◌≡◌, ℕ, Bool, not, ◌&&◌, None, refl, arith}
 use Rattle.std.specs.Prelude.{◌↔◌, IsNone}
 use Rattle.std.proofs.lemmas.Bool.Decides.{nat_tests}
-use Rattle.lk_model.specs.Formula.{Cnf, clause_at, positions_of}
-use Rattle.lk_model.specs.Assignment.{Assignment, touches, satisfies, first_unsatisfied}
-use Rattle.lk_model.specs.Autarky.{IsAutarky}
-use Rattle.lk_model.specs.Lean.{all_of}
+use Rattle.lk_model.specs.Formulas.Formula.{Cnf, clause_at, positions_of}
+use Rattle.lk_model.specs.Formulas.Assignment.{Assignment, touches, satisfies, first_unsatisfied}
+use Rattle.lk_model.specs.Formulas.Autarky.{IsAutarky}
+use Rattle.lk_model.specs.Formulas.Lean.{all_of}
 use Rattle.lk_model.proofs.Founds.{none_found, none_at, is_position}
 
 -- the clause at a position is touched and not satisfied

@@ -1,7 +1,7 @@
 -- Ranks of literals.
 use Rattle.std.proofs.Common.{◌≡◌, ℕ, ◌+◌, ◌*◌, ◌<◌, ◌≤◌, true, ap, arith, ℤ, pos, negsuc}
 use Rattle.std.proofs.lemmas.Bool.{leb-true}
-use Rattle.lk_model.specs.Literal.{variable, rank_of, is_literal}
+use Rattle.lk_model.specs.Formulas.Literal.{variable, rank_of, is_literal}
 use Rattle.lk_model.proofs.Booleans.{and_true}
 
 -- the variable of a literal lies between 1 and n

@@ -5,10 +5,10 @@ use Rattle.std.specs.Ordering.{int_eq}
 use Rattle.std.proofs.lemmas.Bool.Decides.{Decides-int_eq}
 use Rattle.std.proofs.lemmas.Bool.{leb-true, eqb-true}
 use Rattle.lk_model.specs.Lists.{among}
-use Rattle.lk_model.specs.Literal.{variable, contains, mentions, is_literal}
-use Rattle.lk_model.specs.Formula.{Cnf, clause_at, is_formula, variable_occurs, variables_to}
+use Rattle.lk_model.specs.Formulas.Literal.{variable, contains, mentions, is_literal}
+use Rattle.lk_model.specs.Formulas.Formula.{Cnf, clause_at, is_formula, variable_occurs, variables_to}
 use Rattle.lk_model.proofs.Booleans.{and_true, or_true, or_left, or_right}
-use Rattle.lk_model.proofs.Extensions.{literals_of}
+use Rattle.lk_model.proofs.Clauses.{literals_of}
 use Rattle.lk_model.proofs.Counting.{among-range}
 
 -- a test that holds of a literal holds of one on a variable that is given by it

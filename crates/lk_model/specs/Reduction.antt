@@ -1,19 +1,21 @@
 -- What a reducer writes: a finished document of the largest lean set, or an unfinished one.
-use Rattle.std.specs.Prelude.{◌≡◌, ℕ, not, List, IsTrue, ⊤}
+use Rattle.std.specs.Prelude.{◌≡◌, ℕ, not, List, Option, option_map, IsTrue, ⊤}
 use Rattle.lk_model.specs.declared.class.Class.{Class}
 use Rattle.lk_model.specs.Lists.{among}
-use Rattle.lk_model.specs.Formula.{Cnf, clause_at}
-use Rattle.lk_model.specs.Assignment.{Assignment, assignment_of, touches, satisfies, extended}
-use Rattle.lk_model.specs.Autarky.{Positions, IsClassAutarky}
-use Rattle.lk_model.specs.Lean.{Kernel, all_of}
-use Rattle.lk_model.specs.PureRun.{IsPureRun, least_pairs}
-use Rattle.lk_model.specs.Parts.{IsPart}
-use Rattle.lk_model.specs.Dimacs.{Spells}
-use Rattle.lk_model.specs.Documents.{class_of}
-use Rattle.lk_model.specs.Text.{text_of}
-use Rattle.lk_model.specs.Rounds.{names_within}
-use Rattle.lk_model.specs.Checks.{Accepts, IsSound, HasProgress}
-use Rattle.lk_model.specs.LinearRun.{RunDone, linear_run}
+use Rattle.lk_model.specs.Formulas.Formula.{Cnf, clause_at}
+use Rattle.lk_model.specs.Formulas.Crossed.{Variables, protected_by, protected_of}
+use Rattle.lk_model.specs.Formulas.Assignment.{Assignment, assignment_of, touches, satisfies, extended}
+use Rattle.lk_model.specs.Formulas.Autarky.{Positions}
+use Rattle.lk_model.specs.Formulas.Lean.{all_of}
+use Rattle.lk_model.specs.Formulas.Protected.{IsClassAutarkyUnder, KernelUnder}
+use Rattle.lk_model.specs.Formulas.PureRun.{IsPureRunUnder, least_pairs_under}
+use Rattle.lk_model.specs.Formulas.Parts.{IsPartUnder}
+use Rattle.lk_model.specs.Texts.Dimacs.{Spells}
+use Rattle.lk_model.specs.Documents.Documents.{class_of}
+use Rattle.lk_model.specs.Documents.Text.{text_of}
+use Rattle.lk_model.specs.Chains.Rounds.{names_within}
+use Rattle.lk_model.specs.Checks.Checks.{Accepts, IsSound, HasProgress}
+use Rattle.lk_model.specs.Linear.LinearRun.{RunDone, linear_run_under}
 use Rattle.lk_model.specs.declared.document.Body.{Body}
 use Rattle.lk_model.specs.declared.document.Body.TheVariants as body
 use Rattle.lk_model.specs.declared.document.DoneDocument.{DoneDocument}
@@ -24,55 +26,68 @@ use Rattle.lk_model.specs.declared.document.Document.TheVariants.{Done, Unfinish
 abbrev pub IsModel : Cnf → Positions → Assignment → Type 0
 IsModel F S φ = (p : ℕ) → IsTrue (S p) → IsTrue (satisfies φ (clause_at F p))
 
--- The document keeps the largest set that is lean for its class. Its set line is an autarky of the class on the whole
--- formula and touches exactly the removed clauses. Every model of the kept clauses, overridden by the set line, is one of
--- all clauses.
-pub record IsReduction (F : Cnf) (d : DoneDocument) : Type 0 where
-  pub kernel : Kernel (class_of d.body) F d.kept
-  pub autarky : IsClassAutarky (class_of d.body) F (all_of F) (assignment_of d.set)
-  pub touched : (p : ℕ) → IsTrue (all_of F p) → touches (assignment_of d.set) (clause_at F p) ≡ not (among d.kept p)
-  pub models : (ψ : Assignment) → IsModel F (among d.kept) ψ → IsModel F (all_of F) (extended (assignment_of d.set) ψ F.vars)
+-- The kept positions are the largest set that is lean for the class under P. The assignment is an autarky of the class
+-- under P on the whole formula and touches exactly the removed clauses. Every model of the kept clauses, overridden by it,
+-- is one of all clauses.
+pub record ReducesBy (P : Variables) (class : Class) (F : Cnf) (kept : List ℕ) (φ : Assignment) : Type 0 where
+  pub kernel : KernelUnder P class F kept
+  pub autarky : IsClassAutarkyUnder P class F (all_of F) φ
+  pub touched : (p : ℕ) → IsTrue (all_of F p) → touches φ (clause_at F p) ≡ not (among kept p)
+  pub models : (ψ : Assignment) → IsModel F (among kept) ψ → IsModel F (all_of F) (extended φ ψ F.vars)
+
+-- the document keeps the kernel of its class, and its set line removes the other clauses
+abbrev pub IsReductionUnder : Variables → Cnf → DoneDocument → Type 0
+IsReductionUnder P F d = ReducesBy P (class_of d.body) F d.kept (assignment_of d.set)
+
+abbrev pub IsReduction : Cnf → DoneDocument → Type 0
+IsReduction F d = IsReductionUnder (protected_by d.protect) F d
 
 -- For pure and linear, which certificate is written: the literals of the pure run with the least pairs, and the numbers
 -- of the linear run. For matching and general it is open.
-abbrev pub IsStatedBody : Cnf → ℕ → List ℕ → Body → Type 0
-IsStatedBody F pivots kept (body.Pure order pairs) = IsPureRun F order × (pairs ≡ least_pairs F kept)
-IsStatedBody F pivots kept (body.Matching own rows) = ⊤
-IsStatedBody F pivots kept (body.Linear stages dual units) = (made : ℕ) × (linear_run F pivots ≡ RunDone kept stages dual units made)
-IsStatedBody F pivots kept (body.General rounds) = ⊤
+abbrev pub IsStatedBody : Variables → Cnf → ℕ → List ℕ → Body → Type 0
+IsStatedBody P F pivots kept (body.Pure order pairs) = IsPureRunUnder P F order × (pairs ≡ least_pairs_under P F kept)
+IsStatedBody P F pivots kept (body.Matching own rows) = ⊤
+IsStatedBody P F pivots kept (body.Linear stages dual units) = (made : ℕ) × (linear_run_under P F pivots ≡ RunDone kept stages dual units made)
+IsStatedBody P F pivots kept (body.General rounds) = ⊤
 
 -- The document is one of the class, a reduction of the formula that the checks accept, and has the stated certificate.
 pub record Reduces (F : Cnf) (class : Class) (pivots : ℕ) (d : DoneDocument) : Type 0 where
   pub class_is : class_of d.body ≡ class
   pub accepted : Accepts F d
   pub reduction : IsReduction F d
-  pub stated : IsStatedBody F pivots d.kept d.body
+  pub stated : IsStatedBody (protected_by d.protect) F pivots d.kept d.body
 
--- what is written is the text of such a document
-pub record WritesReduction (F : Cnf) (class : Class) (pivots : ℕ) (written : List ℕ) : Type 0 where
+-- the protected variables of a document are those of the formula that are listed, if there is a list
+abbrev pub protect_line_of : Cnf → Option (List ℕ) → Option (List ℕ)
+protect_line_of F listed = option_map (protected_of F) listed
+
+-- what is written is the text of such a document with these protected variables
+pub record WritesReduction (F : Cnf) (class : Class) (listed : Option (List ℕ)) (pivots : ℕ) (written : List ℕ) : Type 0 where
   pub document : DoneDocument
   pub reduces : Reduces F class pivots document
+  pub protects : document.protect ≡ protect_line_of F listed
   pub written_is : written ≡ text_of (Done document)
 
 -- the text spells a formula, and what is written reduces it
-pub record ReducesTo (text : List ℕ) (class : Class) (pivots : ℕ) (written : List ℕ) : Type 0 where
+pub record ReducesTo (text : List ℕ) (class : Class) (listed : Option (List ℕ)) (pivots : ℕ) (written : List ℕ) : Type 0 where
   pub formula : Cnf
   pub spells : Spells text formula
-  pub writes : WritesReduction formula class pivots written
+  pub writes : WritesReduction formula class listed pivots written
 
 -- What is written is the text of a sound unfinished document of the formula, with progress and so many learned clauses.
-pub record IsUnfinishedText (F : Cnf) (learned : ℕ) (written : List ℕ) : Type 0 where
+pub record IsUnfinishedText (F : Cnf) (listed : Option (List ℕ)) (learned : ℕ) (written : List ℕ) : Type 0 where
   pub document : OpenDocument
   pub written_is : written ≡ text_of (Unfinished document)
   pub sound : IsSound F document
   pub progress : HasProgress F document
+  pub protects : document.protect ≡ protect_line_of F listed
   pub count : document.learned ≡ learned
 
 -- The text spells a formula, and what is written is such a text, whose chains name positions of one part alone.
-pub record StopsUnfinished (text : List ℕ) (conflicts : ℕ) (written : List ℕ) : Type 0 where
+pub record StopsUnfinished (text : List ℕ) (listed : Option (List ℕ)) (conflicts : ℕ) (written : List ℕ) : Type 0 where
   pub formula : Cnf
   pub spells : Spells text formula
-  pub unfinished : IsUnfinishedText formula conflicts written
+  pub unfinished : IsUnfinishedText formula listed conflicts written
   pub part : List ℕ
-  pub is_part : IsPart formula part
+  pub is_part : IsPartUnder (protected_by unfinished.document.protect) formula part
   pub names : IsTrue (names_within formula part unfinished.document.rounds)

@@ -1,7 +1,9 @@
 //! Sets of variables, and clauses without the literals of such a set.
-ghost use Rattle.std.specs.Prelude.{◌≡◌, ◌<◌, ◌≤◌, IfOk, replicate, false, length};
-ghost use Rattle.lk_model.specs.Formula.{clause_at};
-ghost use Rattle.lk_model.specs.Crossed.{crossed_out, is_in, with_variable, IsCrossed};
+ghost use Rattle.std.specs.Prelude.{◌≡◌, ◌<◌, ◌≤◌, IfOk, OnOk, IsTrue, replicate, false, length, []};
+ghost use Rattle.lk_model.specs.Formulas.Literal.{is_clause};
+ghost use Rattle.lk_model.specs.Formulas.Formula.{clause_at};
+ghost use Rattle.lk_model.specs.Formulas.Crossed.{crossed_out, formula_without};
+ghost use Rattle.lk_model.specs.Held.VariableSets.{is_in, with_variable, IsCrossed};
 
 use crate::formula::Formula;
 use crate::list::{List, OutOfMemory};
@@ -70,12 +72,40 @@ impl Crossed<'_> {
         requires last { position ≤ length self.now.formula.now.clauses }
         ensures { IfOk result (λ c. c ≡ crossed_out (is_in self.now.blocked.now) (clause_at self.now.formula.now position)) }
     {
-        let mut lits = List::new(alloc);
-        for l in self.formula.clause(position) {
-            if !self.blocked.has(l.var()) {
-                lits.push(*l)?;
-            }
-        }
-        Ok(lits)
+        let mut lits = Vec::new(alloc);
+        cross_out(self.formula.clause(position), self.blocked, &mut lits)?;
+        Ok(List::from_vec(lits))
     }
+}
+
+impl Formula {
+    /// The formula of as many variables and clauses in which the literals on the variables of a set are
+    /// left out.
+    pub fn without(&self, alloc: Global, blocked: &VarSet) -> Result<Formula, OutOfMemory>
+        requires { length blocked.now ≡ self.now.vars }
+        ensures { IfOk result (λ f. f ≡ formula_without self.now (is_in blocked.now)) }
+    {
+        let mut rest = self.empty(alloc);
+        let mut lits = Vec::new(alloc);
+        for k in 0..self.len() {
+            lits.clear();
+            cross_out(self.clause(k + 1), blocked, &mut lits)?;
+            rest.push_within(lits.as_slice())?;
+        }
+        Ok(rest)
+    }
+}
+
+/// Appends the literals of a clause that are not on a variable of the set, in their order.
+fn cross_out(clause: &[Lit], blocked: &VarSet, lits: &mut Vec<Lit>) -> Result<(), OutOfMemory>
+    requires clause { IsTrue (is_clause (length blocked.now) clause.now) }
+    requires empty { lits.old.items ≡ [] }
+    ensures { OnOk result (lits.new.items ≡ crossed_out (is_in blocked.now) clause.now) }
+{
+    for l in clause {
+        if !blocked.has(l.var()) {
+            lits.push(*l)?;
+        }
+    }
+    Ok(())
 }

@@ -58,7 +58,8 @@ pub struct Share {
     pub z: i128,
 }
 
-/// Shares, ascending by position, whose balance is d in one variable and 0 in the others.
+/// Shares, ascending by position, whose balance is d in one variable and 0 in the other variables of the
+/// kept clauses that are not protected.
 #[derive(Drop)]
 pub struct Unit {
     pub var: u32,
@@ -111,28 +112,38 @@ pub enum Body {
     },
 }
 
-/// What a reduction writes: the numbers of variables and clauses of the formula, the kept positions,
-/// ascending, the literals that are made true, ascending by variable, the certificate, and the kept
-/// clauses.
+/// What a reduction writes: the numbers of variables and clauses of the formula, the line of protected
+/// variables, ascending, where there is one (version 2), the kept positions, ascending, the literals that
+/// are made true, ascending by variable, the certificate, and the kept clauses.
 #[derive(Drop)]
 pub struct DoneDocument {
     pub vars: u32,
     pub clauses: u32,
+    pub protect: Option<List<u32>>,
     pub kept: List<u32>,
     pub set: List<Lit>,
     pub body: Body,
     pub texts: Formula,
 }
 
-/// What a reduction writes that used up its budget: how many clauses it learned, its rounds, of
-/// which the last is not whole, and all clauses of the formula.
+/// What a reduction writes that used up its budget: the line of protected variables, ascending, where
+/// there is one (version 2), how many clauses it learned, its rounds, of which the last is not whole, and
+/// all clauses of the formula.
 #[derive(Drop)]
 pub struct OpenDocument {
     pub vars: u32,
     pub clauses: u32,
+    pub protect: Option<List<u32>>,
     pub learned: u64,
     pub rounds: List<Round>,
     pub texts: Formula,
+}
+
+/// Literals that satisfy each clause of a minimally unsatisfiable core but the one at a position.
+#[derive(Drop)]
+pub struct Without {
+    pub pos: u32,
+    pub lits: List<Lit>,
 }
 
 /// A document.

@@ -1,10 +1,14 @@
 //! Formulas.
 ghost use Rattle.std.specs.Prelude.{◌≡◌, ◌++◌, ◌∷◌, [], ◌+◌, ◌<◌, ◌≤◌, ◌↔◌, ◌⊎◌, length, OnOk, OnErr, IfOk, IsErrOf, IsTrue};
 ghost use Rattle.std.specs.Prelude.{slice_index, slice_index_or};
-ghost use Rattle.lk_model.specs.Flat.{cut, AreEnds, begin_of};
-ghost use Rattle.lk_model.specs.Literal.{is_clause};
-ghost use Rattle.lk_model.specs.Formula.{clause_at, is_formula, IsWithinLimits, literal_count, with_clause};
+ghost use Rattle.lk_model.specs.Held.Flat.{cut, AreEnds, begin_of};
+ghost use Rattle.lk_model.specs.Limits.{max_vars, max_clauses, max_literals};
+ghost use Rattle.lk_model.specs.Formulas.Literal.{is_clause};
+ghost use Rattle.lk_model.specs.Formulas.Formula.{clause_at, is_formula, IsWithinLimits, literal_count, positions_of, with_clause};
+ghost use Rattle.lk_model.specs.Formulas.Lean.{are_positions};
+ghost use Rattle.lk_model.specs.Lists.{rises_within};
 
+use crate::list::{List, OutOfMemory};
 use crate::lit::Lit;
 use std::alloc::{AllocError, AllocFailed, Global};
 use std::marker::Model;
@@ -36,11 +40,11 @@ pub struct Formula {
 }
 
 impl Model for Formula {
-    ghost use Rattle.lk_model.specs.Formula.{Cnf};
+    ghost use Rattle.lk_model.specs.Formulas.Formula.{Cnf};
 
     ghost Value = { Cnf };
 
-    ghost use Rattle.lk_model.specs.Flat.{formula_of, IsFlat};
+    ghost use Rattle.lk_model.specs.Held.Flat.{formula_of, IsFlat};
 
     ghost view = { λ f. formula_of f.vars f.literals.items f.ends.items };
 
@@ -51,7 +55,7 @@ impl Formula {
     /// The formula of n variables without a clause; the error is `Limit` where n is too great.
     pub fn new(alloc: Global, n: u32) -> Result<Formula, FormulaError>
         ensures ok { IfOk result (λ f. (f.vars ≡ n) × (f.clauses ≡ [])) }
-        ensures limit { IsErrOf result FormulaError.Limit ↔ (1000000 < n) }
+        ensures limit { IsErrOf result FormulaError.Limit ↔ (max_vars < n) }
     {
         if n > MAX_VARS {
             return Err(FormulaError::Limit);
@@ -61,6 +65,18 @@ impl Formula {
             literals: Vec::new(alloc),
             ends: Vec::new(alloc),
         })
+    }
+
+    /// The formula of as many variables without a clause.
+    pub fn empty(&self, alloc: Global) -> Formula
+        ensures value { result ≡ record { vars = self.now.vars; clauses = [] } }
+        ensures limits { IsWithinLimits self.now }
+    {
+        Formula {
+            vars: self.vars,
+            literals: Vec::new(alloc),
+            ends: Vec::new(alloc),
+        }
     }
 
     /// How many variables it has.
@@ -75,7 +91,7 @@ impl Formula {
     /// How many clauses it has.
     pub fn len(&self) -> u32
         ensures value { result ≡ length self.now.clauses }
-        ensures few { result ≤ 4000000 }
+        ensures few { result ≤ max_clauses }
         ensures formula { IsTrue (is_formula self.now) }
         ensures limits { IsWithinLimits self.now }
     {
@@ -99,17 +115,74 @@ impl Formula {
         ensures ok { OnOk result (self.new ≡ with_clause self.old lits.now) }
         ensures err { OnErr result (self.new ≡ self.old) }
         ensures limit { IsErrOf result FormulaError.Limit
-            ↔ ((4000000 ≤ length self.old.clauses) ⊎ (20000000 < literal_count self.old + length lits.now)) }
+            ↔ ((max_clauses ≤ length self.old.clauses) ⊎ (max_literals < literal_count self.old + length lits.now)) }
     {
         if self.ends.len() >= MAX_CLAUSES as usize
             || lits.len() > MAX_LITERALS as usize - self.literals.len()
         {
             return Err(FormulaError::Limit);
         }
+        self.push_within(lits)?;
+        Ok(())
+    }
+
+    /// Appends a clause, as `push_clause` does, for which the limits leave room. Without memory for it
+    /// the formula stays as it is.
+    pub fn push_within(&mut self, lits: &[Lit]) -> Result<(), OutOfMemory>
+        requires clause { IsTrue (is_clause self.old.vars lits.now) }
+        requires clauses { length self.old.clauses < max_clauses }
+        requires literals { literal_count self.old + length lits.now ≤ max_literals }
+        ensures ok { OnOk result (self.new ≡ with_clause self.old lits.now) }
+        ensures err { OnErr result (self.new ≡ self.old) }
+    {
         self.ends.reserve(1)?;
         self.literals.extend_from_slice(lits)?;
         self.ends.push(self.literals.len() as u32)?;
         Ok(())
+    }
+
+    /// Whether these are positions of the formula, ascending.
+    pub fn has_part(&self, part: &[u32]) -> bool
+        ensures { result ≡ are_positions self.now part.now }
+    {
+        rise_within(self.len(), part)
+    }
+
+    /// All positions, from 1 to the number of clauses.
+    pub fn positions(&self, alloc: Global) -> Result<List<u32>, OutOfMemory>
+        ensures value { IfOk result (λ ps. ps ≡ positions_of self.now) }
+        ensures part { IfOk result (λ ps. IsTrue (are_positions self.now ps)) }
+    {
+        let mut positions = List::new(alloc);
+        for k in 0..self.len() {
+            positions.push(k + 1)?;
+        }
+        Ok(positions)
+    }
+}
+
+// Whether the numbers rise, from 1 at least to the last at most.
+fn rise_within(last: u32, numbers: &[u32]) -> bool
+    ensures { result ≡ rises_within 0 last numbers.now }
+{
+    let mut low = 0;
+    for n in numbers {
+        if *n <= low || *n > last {
+            return false;
+        }
+        low = *n;
+    }
+    true
+}
+
+impl From<OutOfMemory> for FormulaError {
+    ghost use Rattle.std.specs.Prelude.{◌≡◌};
+    ghost use Rattle.lk_model.specs.declared.formula.FormulaError.TheVariants.{OutOfMemory as MemoryOut};
+
+    ghost from_gives = { λ _ e. e ≡ MemoryOut };
+
+    fn from(_e: OutOfMemory) -> FormulaError {
+        FormulaError::OutOfMemory
     }
 }
 

@@ -10,8 +10,6 @@ mod list;
 mod lit;
 mod open_clause;
 mod result;
-#[cfg(test)]
-mod tests;
 mod text_fault;
 mod verdict;
 mod wide;
@@ -20,14 +18,12 @@ pub use class::Class;
 pub use crossed::{Crossed, VarSet};
 pub use document::{
     Body, Document, DoneDocument, Dual, MatchRow, OpenDocument, Own, Pair, Round, Share, Stage,
-    Step, Turn, Unit, Weight,
+    Step, Turn, Unit, Weight, Without,
 };
 pub use formula::{Formula, FormulaError, MAX_CLAUSES, MAX_LITERALS, MAX_VARS};
-pub use laws::{
-    fault_law, gcd_law, matching_law, matching_result_law, one_kernel, reached_law, reading_law,
-};
+pub use laws::{fault_law, gcd_law, reached_law, reading_law};
 pub use list::{List, OutOfMemory};
-pub use lit::Lit;
+pub use lit::{Lit, makes_clause};
 pub use open_clause::OpenClause;
 pub use result::{GeneralResult, LinearResult, MatchingResult, PureResult};
 pub use text_fault::{Fault, FaultKind};

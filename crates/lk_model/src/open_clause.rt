@@ -1,41 +1,50 @@
 //! A clause that grows.
 ghost use Rattle.std.specs.Prelude.{◌≡◌, ◌++◌, ◌∷◌, [], ◌+◌, ◌*◌, ◌≤◌, ◌<◌, length, OnOk, OnErr, IfOk, IsTrue, false};
-ghost use Rattle.lk_model.specs.Literal.{contains, is_clause, is_literal, variable};
-ghost use Rattle.lk_model.specs.Growing.{AreFlagged};
+ghost use Rattle.lk_model.specs.Formulas.Literal.{contains, is_clause, is_literal, variable};
+ghost use Rattle.lk_model.specs.Limits.{max_vars};
+ghost use Rattle.lk_model.specs.Held.Growing.{AreFlagged, IsHeld};
 
 use crate::list::OutOfMemory;
-use crate::lit::Lit;
+use crate::lit::{Lit, stands_in};
 use std::alloc::Global;
 use std::marker::Model;
 
-/// A clause that grows by one literal after the other, over the variables from 1 to n. A flag for
-/// each literal tells whether the clause holds it, so that no repeat has to be searched for.
+// Up to so many literals a clause is searched: a flag lies at a random place in memory, and most
+// clauses are short.
+const SEARCHED: usize = 16;
+
+/// A clause that grows by one literal after the other, over the variables from 1 to n. While it is
+/// short, a repeat is found by going through it; past that, a flag for each literal tells whether the
+/// clause holds it.
 #[derive(Drop)]
 pub struct OpenClause {
     vars: u32,
     literals: Vec<Lit>,
+    // so many of the literals have their flags up, from the first on, and no other literal has
+    flagged: usize,
     flags: Vec<bool>,
 }
 
 impl Model for OpenClause {
-    ghost use Rattle.lk_model.specs.Growing.{Growing, AreFlagged};
+    ghost use Rattle.lk_model.specs.Held.Growing.{Growing, IsHeld};
 
     ghost Value = { Growing };
 
     ghost view = { λ c. record { vars = c.vars; literals = c.literals.items } };
 
-    ghost invariant = { λ c. AreFlagged c.vars c.literals.items c.flags.items };
+    ghost invariant = { λ c. IsHeld c.vars c.literals.items c.flagged c.flags.items };
 }
 
 impl OpenClause {
     /// The clause without a literal.
     pub fn new(alloc: Global, vars: u32) -> Result<OpenClause, OutOfMemory>
-        requires { vars ≤ 1000000 }
+        requires { vars ≤ max_vars }
         ensures { IfOk result (λ c. c ≡ record { vars = vars; literals = [] }) }
     {
         Ok(OpenClause {
             vars,
             literals: Vec::new(alloc),
+            flagged: 0,
             flags: vec![in alloc; false; 2 * vars as usize + 2]?,
         })
     }
@@ -43,7 +52,7 @@ impl OpenClause {
     /// The number of variables.
     pub fn vars(&self) -> u32
         ensures value { result ≡ self.now.vars }
-        ensures small { result ≤ 1000000 }
+        ensures small { result ≤ max_vars }
     {
         self.vars
     }
@@ -61,7 +70,10 @@ impl OpenClause {
         requires { IsTrue (is_literal self.now.vars l) }
         ensures { result ≡ contains self.now.literals l }
     {
-        self.flags[l.rank()]
+        if self.flagged == 0 {
+            return stands_in(&self.literals, l);
+        }
+        self.flags[l.rank()] || stands_in(&self.literals[self.flagged..], l)
     }
 
     /// Adds a literal that the clause does not hold. Without memory for it the clause stays as it is.
@@ -72,17 +84,34 @@ impl OpenClause {
         ensures err { OnErr result (self.new ≡ self.old) }
     {
         self.literals.push(l)?;
-        self.flags[l.rank()] = true;
+        if self.literals.len() > SEARCHED {
+            self.flagged = flag_all(self.vars, &self.literals, self.flagged, &mut self.flags);
+        }
         Ok(())
     }
 
     /// Takes all literals out.
     pub fn clear(&mut self)
         ensures empty { self.new ≡ record { vars = self.old.vars; literals = [] } }
-        ensures small { self.new.vars ≤ 1000000 }
+        ensures small { self.new.vars ≤ max_vars }
     {
+        self.literals.truncate(self.flagged);
         take_all(self.vars, &mut self.literals, &mut self.flags);
+        self.flagged = 0;
     }
+}
+
+/// Puts up the flags of the literals from one on, where those before it have theirs up. How many there
+/// are then.
+fn flag_all(vars: u32, literals: &[Lit], flagged: usize, flags: &mut Vec<bool>) -> usize
+    requires { IsHeld vars literals.now flagged flags.old.items }
+    ensures all { result ≡ length literals.now }
+    ensures held { IsHeld vars literals.now result flags.new.items }
+{
+    for i in flagged..literals.len() {
+        flags[literals[i].rank()] = true;
+    }
+    literals.len()
 }
 
 /// Takes the literals out, from the last to the first, and their flags down.

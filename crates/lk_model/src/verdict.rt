@@ -9,6 +9,7 @@ use crate::list::OutOfMemory;
 pub enum Kind {
     OtherFormula,
     KeptClause,
+    ProtectedSet,
     NotAutarky,
     NotExactlyRemoved,
     BadOrder,
@@ -25,6 +26,7 @@ pub enum Kind {
     NotBlocked,
     NotLearned,
     ModelFails,
+    BadWithout,
 }
 
 /// The first failing check, and the first place at which it fails: a position, a variable, the number

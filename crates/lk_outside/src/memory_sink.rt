@@ -100,24 +100,3 @@ impl Sink for MemorySink {
         Ok(count)
     }
 }
-
-#[cfg(test)]
-mod tests {
-    use super::*;
-    use std::test::Fail;
-
-    #[test]
-    fn takes_and_fails_as_told(rt: HostRuntime) -> Result<(), Fail> {
-        let alloc = rt.alloc();
-        let mut fail = List::new(alloc);
-        fail.push(2)?;
-        let mut sink = MemorySink::new(alloc, 3, 2, fail)?;
-        assert_eq!(rt; sink.write(b"abc"), Ok(2));
-        assert_eq!(rt; sink.write(b"c"), Err(Failed));
-        assert_eq!(rt; sink.bytes(), b"ab".as_slice());
-        assert_eq!(rt; sink.write(b"cd"), Ok(1));
-        assert_eq!(rt; sink.write(b"d"), Err(Failed));
-        assert_eq!(rt; sink.bytes(), b"abc".as_slice());
-        Ok(())
-    }
-}

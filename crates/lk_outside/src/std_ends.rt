@@ -129,26 +129,3 @@ impl<W: Write> Sink for StdSink<W> {
         }
     }
 }
-
-#[cfg(test)]
-mod tests {
-    use super::*;
-    use std::test::Fail;
-
-    #[test]
-    fn a_missing_file_does_not_start(rt: HostRuntime) -> Result<(), Fail> {
-        let mut shelf = FileShelf::new(&rt, rt.alloc());
-        let started = shelf.start("no such folder/no such file");
-        assert_eq!(rt; started, Err(StartStop::Failed));
-        Ok(())
-    }
-
-    #[test]
-    fn a_write_that_takes_nothing_fails(rt: HostRuntime) -> Result<(), Fail> {
-        let mut room = [0u8; 2];
-        let mut sink = StdSink::new(room.as_mut_slice());
-        assert_eq!(rt; sink.write(b"abc"), Ok(2));
-        assert_eq!(rt; sink.write(b"c"), Err(Failed));
-        Ok(())
-    }
-}

@@ -1,7 +1,7 @@
 -- Where the next line or word of a text lies.
 use Rattle.std.specs.Prelude.{◌≡◌, ◌≤◌, ◌<◌, ◌⊎◌, ℕ, ◌+◌, Bool, true, not, List, length, drop, slice_index, slice_range, IsTrue}
 use Rattle.std.specs.List.{list_all}
-use Rattle.lk_model.specs.Lines.{is_newline, is_blank}
+use Rattle.lk_model.specs.Texts.Lines.{is_newline, is_blank}
 use Rattle.lk_text.specs.declared.cuts.Cut.{Cut}
 
 -- no byte of these is a byte 10

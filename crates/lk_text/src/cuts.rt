@@ -1,7 +1,7 @@
 //! Lines and words.
 ghost use Rattle.std.specs.Prelude.{◌≡◌, ◌≤◌, ◌<◌, ◌↔◌, ℕ, length, slice_index, slice_range, true, false, IsNone, IfSome, IsTrue};
 ghost use Rattle.std.specs.List.{list_all};
-ghost use Rattle.lk_model.specs.Lines.{is_blank};
+ghost use Rattle.lk_model.specs.Texts.Lines.{is_blank};
 ghost use Rattle.lk_text.specs.Cutting.{is_one_line, are_blank, has_no_blank, IsNextLine, IsNextWord, HasNoWord};
 
 /// Where a line or a word lies in some bytes: from `begin` up to and without `end`. The search for the
@@ -105,34 +105,4 @@ fn word_end(bytes: &[u8], from: usize) -> usize
         }
     }
     bytes.len()
-}
-
-#[cfg(test)]
-mod tests {
-    use super::*;
-    use std::test::Fail;
-
-    #[test]
-    fn cuts_lines_and_words(rt: HostRuntime) -> Result<(), Fail> {
-        let text = b"c a\n\n 1\t-2 \r\n3";
-        let lines = [(0, 3, 4), (4, 4, 5), (5, 12, 13), (13, 14, 14)];
-        for (begin, end, next) in lines {
-            assert_eq!(rt; next_line(text, begin), Some(Cut { begin, end, next }));
-        }
-        assert_eq!(rt; next_line(text, text.len()), None);
-        let line = b" 1\t-2 \r";
-        let words = [(0, 1, 2), (2, 3, 5)];
-        for (from, begin, end) in words {
-            assert_eq!(rt;
-                next_word(line, from),
-                Some(Cut {
-                    begin,
-                    end,
-                    next: end
-                })
-            );
-        }
-        assert_eq!(rt; next_word(line, 5), None);
-        Ok(())
-    }
 }

@@ -1,7 +1,7 @@
 //! Numbers in decimal digits.
 ghost use Rattle.std.specs.Prelude.{◌≡◌, ◌++◌, ◌^◌, min, OnOk, OnErr, option_map};
 ghost use Rattle.std.specs.Fmt.{signed_decimal};
-ghost use Rattle.lk_model.specs.NumberWords.{natural, number, plain_number};
+ghost use Rattle.lk_model.specs.Texts.NumberWords.{natural, number, plain_number};
 ghost use Rattle.lk_text.specs.Kinds.{kind_of, if_in_range};
 
 use itoa::Buffer;
@@ -83,84 +83,5 @@ pub fn read_plain(word: &[u8]) -> Option<i128>
         Some(x)
     } else {
         None
-    }
-}
-
-#[cfg(test)]
-mod tests {
-    use super::*;
-    use std::test::Fail;
-
-    #[test]
-    fn spells_numbers_shortest(rt: HostRuntime) -> Result<(), Fail> {
-        let rows = [
-            (-i128::MAX, "-170141183460469231731687303715884105727"),
-            (i128::MAX, "170141183460469231731687303715884105727"),
-            (-10, "-10"),
-            (0, "0"),
-            (1_000_000, "1000000"),
-        ];
-        for (number, text) in rows {
-            let mut out = Vec::new(rt.alloc());
-            put_i128(&mut out, number)?;
-            assert_eq!(rt; out.as_slice(), text.as_bytes());
-        }
-        Ok(())
-    }
-
-    #[test]
-    fn tells_what_number_a_word_is(rt: HostRuntime) -> Result<(), Fail> {
-        let rows = [
-            (b"007".as_slice(), NumberWord::Is(7)),
-            (b"-0", NumberWord::Not),
-            (b"+1", NumberWord::Not),
-            (b"-", NumberWord::Not),
-            (b"", NumberWord::Not),
-            (b"-12", NumberWord::Is(-12)),
-            (b"1-", NumberWord::Not),
-            (
-                b"170141183460469231731687303715884105727",
-                NumberWord::Is(i128::MAX),
-            ),
-            (b"170141183460469231731687303715884105728", NumberWord::Past),
-            (
-                b"-170141183460469231731687303715884105728",
-                NumberWord::Past,
-            ),
-        ];
-        for (word, kind) in rows {
-            assert_eq!(rt; classify(word), kind);
-        }
-        Ok(())
-    }
-
-    #[test]
-    fn reads_digits_up_to_a_cap(rt: HostRuntime) -> Result<(), Fail> {
-        let rows = [
-            (b"007".as_slice(), Some(7)),
-            (b"", None),
-            (b"-1", None),
-            (b"1a", None),
-            (b"999999999999999999999999999999999999999", Some(PAST)),
-        ];
-        for (word, number) in rows {
-            assert_eq!(rt; read_natural(word), number);
-        }
-        Ok(())
-    }
-
-    #[test]
-    fn reads_shortest_spellings_alone(rt: HostRuntime) -> Result<(), Fail> {
-        let rows = [
-            (b"7".as_slice(), Some(7)),
-            (b"07", None),
-            (b"0", Some(0)),
-            (b"-0", None),
-            (b"-10", Some(-10)),
-        ];
-        for (word, number) in rows {
-            assert_eq!(rt; read_plain(word), number);
-        }
-        Ok(())
     }
 }

@@ -1,13 +1,9 @@
 //! Sizes of what is found of the matchings of a file's formula. For measuring alone.
 #![tactic(auto)]
 
-ghost use Rattle.std.specs.Prelude.{◌<◌, ◌≡◌, map, IfOk, IsTrue};
-ghost use Rattle.std.specs.List.{range_with_len};
-ghost use Rattle.lk_model.specs.Lean.{are_positions};
-
 use bipartite_match::{Matching, maximum};
 use dimacs_reader::Reader;
-use lk_model::{Formula, OutOfMemory};
+use lk_model::Formula;
 use matching_kernel::matching_kernel;
 use std::alloc::Global;
 use std::process::ExitCode;
@@ -71,7 +67,7 @@ fn formula_of(alloc: Global, text: &[u8]) -> Option<Formula> {
 
 /// The size that is asked for.
 fn size_of(alloc: Global, f: &Formula, work: Work) -> Option<usize> {
-    let part = positions(alloc, f).ok()?;
+    let part = f.positions(alloc).ok()?.into_vec();
     match work {
         Work::Reading => Some(part.len()),
         Work::Maximum => Some(pairs(&maximum(alloc, f, part.as_slice()).ok()?)),
@@ -87,19 +83,4 @@ fn pairs(matching: &Matching) -> usize {
         .iter()
         .filter(|v| **v != 0)
         .count()
-}
-
-/// All positions of a formula.
-fn positions(alloc: Global, f: &Formula) -> Result<Vec<u32>, OutOfMemory>
-    ensures { IfOk result (λ v. IsTrue (are_positions f.now v.items)) }
-{
-    numbers_to(alloc, f.len())
-}
-
-/// The numbers from 1 to a last one.
-fn numbers_to(alloc: Global, last: u32) -> Result<Vec<u32>, OutOfMemory>
-    requires { last < 5000000 }
-    ensures { IfOk result (λ v. v.items ≡ map (λ p. p) (range_with_len 1 last)) }
-{
-    Ok((1..last + 1).map(|p| p).collect(alloc)?)
 }

@@ -3,9 +3,9 @@ use Rattle.std.proofs.Common.{◌≡◌, ◌≢◌, ℕ, zero, suc, ◌+◌, ◌
 use Rattle.std.specs.List.{range_with_len}
 use Rattle.std.proofs.lemmas.Bool.{eqb-true, eq-eqb}
 use Rattle.lk_model.specs.Lists.{among}
-use Rattle.lk_model.specs.Literal.{mentions}
-use Rattle.lk_model.specs.Formula.{Cnf, is_formula, IsWithinLimits, clause_at, variable_occurs, variables_at}
-use Rattle.lk_model.specs.Lean.{are_positions}
+use Rattle.lk_model.specs.Formulas.Literal.{mentions}
+use Rattle.lk_model.specs.Formulas.Formula.{Cnf, is_formula, IsWithinLimits, clause_at, variable_occurs, variables_at}
+use Rattle.lk_model.specs.Formulas.Lean.{are_positions}
 use Rattle.lk_model.specs.declared.document.Own.{Own}
 use Rattle.lk_model.specs.declared.document.MatchRow.{MatchRow}
 use Rattle.lk_model.specs.declared.result.MatchingResult.{MatchingResult}
@@ -18,7 +18,7 @@ use Rattle.bipartite_match.specs.Matchings.{IsMaximum}
 use Rattle.bipartite_match.specs.Walks.{IsReached, unmatched}
 use Rattle.bipartite_match.proofs.Numbers.{clash, same_or_not, within, rising_at, rising_once, rising_length}
 use Rattle.bipartite_match.proofs.Begins.{among_index}
-use Rattle.lk_model.specs.MatchingResults.{IsMatchingResult, IsRow, removed_of}
+use Rattle.kernel_laws.specs.Matching.MatchingResults.{IsMatchingResult, IsRow, removed_of}
 use Rattle.matching_kernel.specs.Lines.{is_removed, owners_of, row_at, rows_of}
 
 -- LISTS

@@ -1,9 +1,9 @@
 //! The matching kernel.
 ghost use Rattle.std.specs.Prelude.{◌≡◌, ◌-◌, ◌≤◌, slice_index, IfOk, IsTrue};
-ghost use Rattle.lk_model.specs.Lean.{are_positions};
-ghost use Rattle.lk_model.specs.Lean.{KernelWithin};
-ghost use Rattle.lk_model.specs.Form.{is_done_in_form};
-ghost use Rattle.lk_model.specs.MatchingResults.{IsMatchingResult, PassesWithin, matching_document};
+ghost use Rattle.lk_model.specs.Formulas.Lean.{are_positions};
+ghost use Rattle.lk_model.specs.Formulas.Lean.{KernelWithin};
+ghost use Rattle.lk_model.specs.Documents.Form.{is_done_in_form};
+ghost use Rattle.kernel_laws.specs.Matching.MatchingResults.{IsMatchingResult, PassesWithin, matching_document};
 ghost use Rattle.lk_model.specs.declared.class.Class.TheVariants.{Matching};
 ghost use Rattle.matching_kernel.specs.Lines.{owners_of, rows_of, row_at, is_removed};
 

@@ -2,9 +2,5 @@
 #![tactic(auto)]
 
 mod kernel;
-#[cfg(test)]
-mod plain;
-#[cfg(test)]
-mod tests;
 
 pub use kernel::matching_kernel;

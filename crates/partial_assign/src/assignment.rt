@@ -1,10 +1,11 @@
 //! Partial assignments.
 ghost use Rattle.std.specs.Prelude.{◌≡◌, ◌≢◌, ◌<◌, ◌≤◌, ◌↔◌, ℕ, None, IfOk, IfSome, IsNone, IsTrue, length, replicate};
 ghost use Rattle.std.specs.List.{list_all};
-ghost use Rattle.lk_model.specs.Literal.{is_literal, is_positive, variable};
-ghost use Rattle.lk_model.specs.Assignment.{assignment_by, first_unsatisfied, makes_true, satisfies, touches, with_true};
-ghost use Rattle.lk_model.specs.Autarky.{IsAutarky};
-ghost use Rattle.lk_model.specs.Lean.{all_of};
+ghost use Rattle.lk_model.specs.Formulas.Literal.{is_literal, is_positive, variable};
+ghost use Rattle.lk_model.specs.Held.PartialValues.{assignment_by, with_true};
+ghost use Rattle.lk_model.specs.Formulas.Assignment.{first_unsatisfied, makes_true, satisfies, touches};
+ghost use Rattle.lk_model.specs.Formulas.Autarky.{IsAutarky};
+ghost use Rattle.lk_model.specs.Formulas.Lean.{all_of};
 
 use lk_model::{Formula, Lit, OutOfMemory};
 use std::alloc::Global;

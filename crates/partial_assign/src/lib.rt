@@ -2,7 +2,5 @@
 #![tactic(auto)]
 
 mod assignment;
-#[cfg(test)]
-mod tests;
 
 pub use assignment::Partial;

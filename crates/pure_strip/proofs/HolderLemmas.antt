@@ -7,8 +7,8 @@ use Rattle.std.proofs.lemmas.Bool.Decides.{Decides-int_eq}
 use Rattle.std.proofs.lemmas.List.{append-nil, length-set, length-replicate, get_or-replicate, get_or_read, take_more}
 use Rattle.lk_model.proofs.Booleans.{and_true}
 use Rattle.lk_model.specs.Lists.{up_to}
-use Rattle.lk_model.specs.Literal.{contains, is_literal, is_clause, rank_of}
-use Rattle.lk_model.specs.Formula.{Cnf, clause_at}
+use Rattle.lk_model.specs.Formulas.Literal.{contains, is_literal, is_clause, rank_of}
+use Rattle.lk_model.specs.Formulas.Formula.{Cnf, clause_at}
 use Rattle.lk_model.proofs.Ranks.{rank_apart, rank_small}
 use Rattle.lk_model.proofs.Flags.{contains-push, or_no}
 use Rattle.lk_model.proofs.Literals.{literal_at, new_at}

@@ -6,5 +6,3 @@ pub mod Steps
 pub mod Runs
 pub mod LoneLemmas
 pub mod Starts
-pub mod Autarkies
-pub mod LeanRests

@@ -10,8 +10,8 @@ use Rattle.std.proofs.lemmas.Bool.Decides.{nat_tests, Decides-eqb}
 use Rattle.std.proofs.lemmas.Grind.{get_or_default_zero}
 use Rattle.std.proofs.lemmas.Map.Keys.{le_from_not_gt}
 use Rattle.lk_model.specs.Lists.{is_between}
-use Rattle.lk_model.specs.Literal.{variable, complement, rank_of, is_literal}
-use Rattle.lk_model.specs.PureRun.{literals_to}
+use Rattle.lk_model.specs.Formulas.Literal.{variable, complement, rank_of, is_literal}
+use Rattle.lk_model.specs.Formulas.PureRun.{literals_to}
 use Rattle.lk_model.proofs.Booleans.{and_true, or_true, or_false}
 use Rattle.lk_model.proofs.Ranks.{literal_bounds, rank_apart, rank_small}
 use Rattle.pure_strip.specs.Counted.{count_of, is_lone, is_lone_variable, AreLone}

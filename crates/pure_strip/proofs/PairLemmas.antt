@@ -10,10 +10,10 @@ use Rattle.std.proofs.lemmas.List.{map-append, append-nil, get_or_read}
 use Rattle.std.proofs.lemmas.List.Elements.{All-filter, All-same}
 use Rattle.std.proofs.lemmas.Int.{to_z_pos}
 use Rattle.lk_model.specs.Lists.{up_to, is_between}
-use Rattle.lk_model.specs.Literal.{variable, complement, contains, mentions, is_literal, rank_of}
+use Rattle.lk_model.specs.Formulas.Literal.{variable, complement, contains, mentions, is_literal, rank_of}
 use Rattle.lk_model.proofs.Ranks.{rank_small}
-use Rattle.lk_model.specs.Formula.{Cnf, clause_at, positions_of, literal_occurs, variable_occurs, IsWithinLimits}
-use Rattle.lk_model.specs.PureRun.{is_pure_at, least_pure, least_with}
+use Rattle.lk_model.specs.Formulas.Formula.{Cnf, clause_at, positions_of, literal_occurs, variable_occurs, IsWithinLimits}
+use Rattle.lk_model.specs.Formulas.PureRun.{is_pure_at, least_pure, least_with}
 use Rattle.lk_model.specs.declared.document.Pair.{Pair}
 use Rattle.pure_strip.specs.Live.{is_live}
 use Rattle.pure_strip.specs.Tables.{AreHolders}

@@ -7,11 +7,11 @@ use Rattle.std.proofs.lemmas.Bool.{cases_Bool, cond-true, cond-false, leb-true, 
 use Rattle.std.proofs.lemmas.List.{append-nil}
 use Rattle.std.proofs.lemmas.List.Folds.{list_any-append}
 use Rattle.lk_model.specs.Lists.{among}
-use Rattle.lk_model.specs.Literal.{variable, complement, contains, mentions, is_literal}
-use Rattle.lk_model.specs.Formula.{Cnf, clause_at, positions_of, literal_occurs}
-use Rattle.lk_model.specs.Assignment.{assignment_of, touches}
-use Rattle.lk_model.specs.Lean.{all_of}
-use Rattle.lk_model.specs.PureRun.{untouched, is_pure_at, least_pure, literals_to, RunsOn}
+use Rattle.lk_model.specs.Formulas.Literal.{variable, complement, contains, mentions, is_literal}
+use Rattle.lk_model.specs.Formulas.Formula.{Cnf, clause_at, positions_of, literal_occurs}
+use Rattle.lk_model.specs.Formulas.Assignment.{assignment_of, touches}
+use Rattle.lk_model.specs.Formulas.Lean.{all_of}
+use Rattle.lk_model.specs.Formulas.PureRun.{untouched, is_pure_at, least_pure, literals_to, RunsOn}
 use Rattle.lk_model.proofs.Booleans.{and_true, or_true, or_left, or_right}
 use Rattle.lk_model.proofs.ListTests.{passes_among}
 use Rattle.pure_strip.specs.Counted.{Counted, count_of, is_lone, least_lone}

@@ -6,11 +6,11 @@ use Rattle.std.proofs.lemmas.Bool.{cases_Bool, le-leb, lt-ltb, leb-true}
 use Rattle.std.proofs.lemmas.List.{get_or-replicate, length-replicate, length-map, get_or-map, append-nil}
 use Rattle.std.proofs.lemmas.List.Sums.{length-filter}
 use Rattle.lk_model.specs.Lists.{rises_within, up_to}
-use Rattle.lk_model.specs.Literal.{contains, rank_of}
-use Rattle.lk_model.specs.Formula.{Cnf, clause_at, positions_of}
-use Rattle.lk_model.specs.Assignment.{assignment_of, touches}
-use Rattle.lk_model.specs.Lean.{are_positions}
-use Rattle.lk_model.specs.PureRun.{RunsOn, least_pure, untouched}
+use Rattle.lk_model.specs.Formulas.Literal.{contains, rank_of}
+use Rattle.lk_model.specs.Formulas.Formula.{Cnf, clause_at, positions_of}
+use Rattle.lk_model.specs.Formulas.Assignment.{assignment_of, touches}
+use Rattle.lk_model.specs.Formulas.Lean.{are_positions}
+use Rattle.lk_model.specs.Formulas.PureRun.{RunsOn, least_pure, untouched}
 use Rattle.lk_model.proofs.Booleans.{and_true}
 use Rattle.lk_model.proofs.Ranks.{rank_small}
 use Rattle.pure_strip.specs.Tables.{AreHolders}

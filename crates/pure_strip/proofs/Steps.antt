@@ -8,8 +8,8 @@ use Rattle.std.proofs.lemmas.Bool.Decides.{Decides-int_eq}
 use Rattle.std.proofs.lemmas.List.{length-set, take_more, set-get_or}
 use Rattle.std.proofs.lemmas.List.Folds.{list_any-append}
 use Rattle.lk_model.specs.Lists.{among}
-use Rattle.lk_model.specs.Literal.{contains, is_literal, is_clause, rank_of}
-use Rattle.lk_model.specs.Formula.{Cnf, clause_at}
+use Rattle.lk_model.specs.Formulas.Literal.{contains, is_literal, is_clause, rank_of}
+use Rattle.lk_model.specs.Formulas.Formula.{Cnf, clause_at}
 use Rattle.lk_model.proofs.Booleans.{and_true, or_true}
 use Rattle.lk_model.proofs.Ranks.{rank_apart, rank_small}
 use Rattle.pure_strip.specs.Counted.{Counted, count_of, lowered, LowersAll, AreHeld}

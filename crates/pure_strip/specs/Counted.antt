@@ -1,10 +1,10 @@
 -- How many clauses hold each literal, and the variables that occur in one sign only.
-use Rattle.std.specs.Prelude.{◌≡◌, ◌≤◌, ◌<◌, ℕ, cond, IsTrue, ◌+◌, ◌*◌, ◌-◌, Bool, ◌&&◌, ◌||◌, ◌==◌, nat_lt, List, length, ℤ, pos, neg_ℤ, slice_index, slice_set, Option, find}
+use Rattle.std.specs.Prelude.{◌≡◌, ◌≤◌, ◌<◌, ℕ, if◌then◌else◌, IsTrue, ◌+◌, ◌*◌, ◌-◌, Bool, ◌&&◌, ◌||◌, ◌==◌, nat_lt, List, length, ℤ, pos, neg_ℤ, slice_index, slice_set, Option, find}
 use Rattle.std.specs.Ordering.{nat_cmp}
 use Rattle.std.specs.BTreeSet.{BTreeSet, contains}
 use Rattle.lk_model.specs.Lists.{is_between}
-use Rattle.lk_model.specs.Literal.{complement, rank_of, is_literal, contains as holds}
-use Rattle.lk_model.specs.PureRun.{literals_to}
+use Rattle.lk_model.specs.Formulas.Literal.{complement, rank_of, is_literal, contains as holds}
+use Rattle.lk_model.specs.Formulas.PureRun.{literals_to}
 
 -- a number for each literal over the variables from 1 to n, at its rank
 pub record Counted : Type 0 where
@@ -44,4 +44,4 @@ AreHeld c clause = (l : ℤ) → IsTrue (holds clause l) → 0 < count_of c.coun
 pub record LowersAll (clause : List ℤ) (before after : Counted) : Type 0 where
   pub vars : after.vars ≡ before.vars
   pub width : length after.counts ≡ length before.counts
-  pub less : (l : ℤ) → IsTrue (is_literal before.vars l) → count_of after.counts l + cond (holds clause l) 1 0 ≡ count_of before.counts l
+  pub less : (l : ℤ) → IsTrue (is_literal before.vars l) → count_of after.counts l + (if holds clause l then 1 else 0) ≡ count_of before.counts l

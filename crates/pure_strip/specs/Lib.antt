@@ -1,4 +1,3 @@
 pub mod Tables
 pub mod Counted
 pub mod Live
-pub mod RunLaws

@@ -1,10 +1,10 @@
 -- Which clauses the order has not touched, by a flag for each position.
 use Rattle.std.specs.Prelude.{◌≡◌, ◌≤◌, ℕ, ◌+◌, ◌*◌, ◌-◌, Bool, false, not, ◌&&◌, List, length, count_by, ℤ, IsTrue, slice_index_or}
 use Rattle.lk_model.specs.Lists.{among}
-use Rattle.lk_model.specs.Literal.{is_literal, contains}
-use Rattle.lk_model.specs.Formula.{Cnf, clause_at, positions_of}
-use Rattle.lk_model.specs.Assignment.{assignment_of, touches}
-use Rattle.lk_model.specs.Lean.{all_of}
+use Rattle.lk_model.specs.Formulas.Literal.{is_literal, contains}
+use Rattle.lk_model.specs.Formulas.Formula.{Cnf, clause_at, positions_of}
+use Rattle.lk_model.specs.Formulas.Assignment.{assignment_of, touches}
+use Rattle.lk_model.specs.Formulas.Lean.{all_of}
 use Rattle.pure_strip.specs.Counted.{Counted, count_of}
 
 -- the flag of a position, which counts from 1

@@ -1,11 +1,11 @@
 -- Tables over the literals of n variables, read at the rank of a literal.
-use Rattle.std.specs.Prelude.{◌≡◌, ℕ, ◌+◌, ◌*◌, cond, List, [], ◌∷◌, ◌++◌, length, ℤ, IsTrue, filter, slice_index_or}
-use Rattle.lk_model.specs.Literal.{is_literal, contains, rank_of}
-use Rattle.lk_model.specs.Formula.{Cnf, clause_at}
+use Rattle.std.specs.Prelude.{◌≡◌, ℕ, ◌+◌, ◌*◌, if◌then◌else◌, List, [], ◌∷◌, ◌++◌, length, ℤ, IsTrue, filter, slice_index_or}
+use Rattle.lk_model.specs.Formulas.Literal.{is_literal, contains, rank_of}
+use Rattle.lk_model.specs.Formulas.Formula.{Cnf, clause_at}
 
 -- the position, if the clause holds the literal
 abbrev pub if_held : List ℤ → ℤ → ℕ → List ℕ
-if_held clause l p = cond (contains clause l) (p ∷ []) []
+if_held clause l p = if contains clause l then p ∷ [] else []
 
 -- at the rank of each literal of the clause there stands one position more
 pub record NotesClause (n : ℕ) (clause : List ℤ) (p : ℕ) (before after : List (List ℕ)) : Type 0 where

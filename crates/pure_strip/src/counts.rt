@@ -1,6 +1,6 @@
 //! How many clauses hold each literal.
 ghost use Rattle.std.specs.Prelude.{◌≡◌, ◌+◌, ◌*◌, ◌<◌, ◌≤◌, length, IfOk, OnOk, OnErr, IsTrue, pos};
-ghost use Rattle.lk_model.specs.Literal.{is_literal};
+ghost use Rattle.lk_model.specs.Formulas.Literal.{is_literal};
 ghost use Rattle.pure_strip.specs.Counted.{count_of, is_lone_variable, lowered, least_lone, AreLone};
 
 use lk_model::{Lit, OutOfMemory};

@@ -1,7 +1,7 @@
 //! Which clauses hold a literal.
 ghost use Rattle.std.specs.Prelude.{◌≡◌, ◌+◌, ◌*◌, [], length, replicate, IfOk, OnOk, IsTrue};
-ghost use Rattle.lk_model.specs.Literal.{is_clause};
-ghost use Rattle.lk_model.specs.Formula.{positions_of};
+ghost use Rattle.lk_model.specs.Formulas.Literal.{is_clause};
+ghost use Rattle.lk_model.specs.Formulas.Formula.{positions_of};
 ghost use Rattle.pure_strip.specs.Tables.{NotesClause, AreHolders};
 
 use lk_model::{Formula, List, Lit, OutOfMemory};

@@ -1,8 +1,11 @@
 //! The kernel.
 ghost use Rattle.std.specs.Prelude.{◌≡◌, IfOk, IsTrue};
-ghost use Rattle.lk_model.specs.Lean.{are_positions};
-ghost use Rattle.lk_model.specs.PureRun.{IsPureRun, untouched, least_pairs};
-ghost use Rattle.pure_strip.specs.RunLaws.{IsPureKernel};
+ghost use Rattle.lk_model.specs.Formulas.Lean.{are_positions};
+ghost use Rattle.lk_model.specs.Formulas.Assignment.{assignment_of};
+ghost use Rattle.lk_model.specs.Formulas.Crossed.{no_variable};
+ghost use Rattle.lk_model.specs.Formulas.PureRun.{IsPureRun, untouched, least_pairs};
+ghost use Rattle.lk_model.specs.Reduction.{ReducesBy};
+ghost use Rattle.lk_model.specs.declared.class.Class.TheVariants.{Pure};
 
 use crate::counts::Counts;
 use crate::holders::holders_of;
@@ -25,7 +28,7 @@ pub fn pure_kernel(alloc: Global, f: &Formula) -> Result<PureResult, OutOfMemory
     ensures kept { IfOk result (λ r. r.kept ≡ untouched f.now r.order) }
     ensures positions { IfOk result (λ r. IsTrue (are_positions f.now r.kept)) }
     ensures pairs { IfOk result (λ r. r.pairs ≡ least_pairs f.now r.kept) }
-    ensures kernel { IfOk result (λ r. IsPureKernel f.now r.order r.kept) }
+    ensures kernel { IfOk result (λ r. ReducesBy no_variable Pure f.now r.kept (assignment_of r.order)) }
 {
     let holders = holders_of(alloc, f)?;
     let mut live = vec![in alloc; true; f.len() as usize]?;

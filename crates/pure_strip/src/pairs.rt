@@ -1,8 +1,8 @@
 //! What the run leaves: the kept positions, and a pair for each of their variables.
 ghost use Rattle.std.specs.Prelude.{◌≡◌, ◌≤◌, ◌<◌, length, filter, find, map, None, IfOk, All};
 ghost use Rattle.lk_model.specs.Lists.{up_to};
-ghost use Rattle.lk_model.specs.Formula.{positions_of};
-ghost use Rattle.lk_model.specs.PureRun.{least_pure, least_pairs};
+ghost use Rattle.lk_model.specs.Formulas.Formula.{positions_of};
+ghost use Rattle.lk_model.specs.Formulas.PureRun.{least_pure, least_pairs};
 ghost use Rattle.pure_strip.specs.Tables.{AreHolders};
 ghost use Rattle.pure_strip.specs.Live.{is_live};
 

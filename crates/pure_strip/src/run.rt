@@ -1,8 +1,8 @@
 //! The pure run.
 ghost use Rattle.std.specs.Prelude.{◌≡◌, ◌<◌, ◌≤◌, [], length, slice_set, false, IfOk, OnOk, IsTrue, All, ◌-◌, ◌+◌, ◌*◌};
-ghost use Rattle.lk_model.specs.Literal.{is_clause};
-ghost use Rattle.lk_model.specs.Formula.{positions_of};
-ghost use Rattle.lk_model.specs.PureRun.{IsPureRun};
+ghost use Rattle.lk_model.specs.Formulas.Literal.{is_clause};
+ghost use Rattle.lk_model.specs.Formulas.Formula.{positions_of};
+ghost use Rattle.lk_model.specs.Formulas.PureRun.{IsPureRun};
 ghost use Rattle.pure_strip.specs.Tables.{AreHolders};
 ghost use Rattle.pure_strip.specs.Counted.{AreHeld, LowersAll};
 ghost use Rattle.pure_strip.specs.Live.{is_live, AreCounted, AreUntouched, GoDown};

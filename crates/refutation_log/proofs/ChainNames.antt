@@ -6,8 +6,9 @@ use Rattle.std.specs.Prelude.{option_and_then}
 use Rattle.std.proofs.lemmas.Bool.{leb-true, leb-false, eqb-true}
 use Rattle.std.proofs.lemmas.List.{length_push, append-nil, append_assoc}
 use Rattle.lk_model.specs.Lists.{among, with_earlier}
-use Rattle.lk_model.specs.Literal.{complement, is_same_set}
-use Rattle.lk_model.specs.Chain.{Premises, premises_of, clause_named, after_turns, chain_clause, names_of, states_its_clause, without}
+use Rattle.lk_model.specs.Formulas.Literal.{complement, is_same_set}
+use Rattle.lk_model.specs.Chains.Chain.{Premises, clause_named, after_turns, chain_clause, names_of, states_its_clause, without}
+use Rattle.lk_model.specs.Held.VariableSets.{premises_of}
 use Rattle.lk_model.specs.declared.crossed.Crossed.{Crossed}
 use Rattle.lk_model.specs.declared.document.Turn.{Turn}
 use Rattle.lk_model.specs.declared.document.Step.{Step}

@@ -5,8 +5,9 @@ use Rattle.std.specs.Prelude.{option_and_then}
 use Rattle.std.specs.Option.{option_map_or}
 use Rattle.std.proofs.lemmas.Bool.{leb-true, le-leb, leb-false}
 use Rattle.lk_model.specs.Lists.{among, rises_within}
-use Rattle.lk_model.specs.Literal.{contains, complement, is_same_set}
-use Rattle.lk_model.specs.Chain.{Premises, crossed_at, clause_named, without, resolvent, after_turns, chain_clause, names_of, premises_of, states_its_clause}
+use Rattle.lk_model.specs.Formulas.Literal.{contains, complement, is_same_set}
+use Rattle.lk_model.specs.Chains.Chain.{Premises, crossed_at, clause_named, without, resolvent, after_turns, chain_clause, names_of, states_its_clause}
+use Rattle.lk_model.specs.Held.VariableSets.{premises_of}
 use Rattle.lk_model.specs.declared.document.Turn.{Turn}
 use Rattle.lk_model.specs.declared.document.Step.{Step}
 use Rattle.refutation_log.specs.SameClause.{HaveSame, IsSameClause}

@@ -3,8 +3,8 @@ use Rattle.std.proofs.Common.{◌≡◌, Bool, true, false, cond, not, ◌&&◌,
 use Rattle.std.specs.Ordering.{int_eq}
 use Rattle.std.specs.List.{list_all}
 use Rattle.std.proofs.lemmas.List.Folds.{list_any-append}
-use Rattle.lk_model.specs.Literal.{contains, is_within, is_same_set}
-use Rattle.lk_model.specs.Chain.{without}
+use Rattle.lk_model.specs.Formulas.Literal.{contains, is_within, is_same_set}
+use Rattle.lk_model.specs.Chains.Chain.{without}
 use Rattle.refutation_log.specs.SameClause.{HaveSame}
 use Rattle.lk_model.proofs.Booleans.{and_true, or_true}
 use Rattle.refutation_log.proofs.Conditions.{and_false, same_int, int_self}

@@ -6,16 +6,17 @@ use Rattle.std.specs.Option.{option_map_or}
 use Rattle.std.proofs.lemmas.Bool.{leb-true, leb-false, le-leb, eq-eqb}
 use Rattle.std.proofs.lemmas.List.{length_push}
 use Rattle.lk_model.specs.Lists.{among, is_between, rises_within}
-use Rattle.lk_model.specs.Literal.{complement, contains, is_literal, is_same_set, is_within, rank_of, variable}
-use Rattle.lk_model.specs.Formula.{clause_at, is_formula}
-use Rattle.lk_model.specs.Crossed.{IsCrossed, is_in}
-use Rattle.lk_model.specs.Form.{is_turn, is_step}
-use Rattle.lk_model.specs.Chain.{Premises, premises_of, crossed_at, clause_named, after_turns, names_of, states_its_clause, without}
+use Rattle.lk_model.specs.Formulas.Literal.{complement, contains, is_literal, is_same_set, is_within, rank_of, variable}
+use Rattle.lk_model.specs.Formulas.Formula.{clause_at, is_formula}
+use Rattle.lk_model.specs.Held.VariableSets.{IsCrossed, is_in}
+use Rattle.lk_model.specs.Documents.Form.{is_turn, is_step}
+use Rattle.lk_model.specs.Chains.Chain.{Premises, crossed_at, clause_named, after_turns, names_of, states_its_clause, without}
+use Rattle.lk_model.specs.Held.VariableSets.{premises_of}
 use Rattle.lk_model.specs.declared.crossed.Crossed.{Crossed}
 use Rattle.lk_model.specs.declared.document.Turn.{Turn}
 use Rattle.lk_model.specs.declared.document.Step.{Step}
 use Rattle.lk_model.proofs.Booleans.{and_true}
-use Rattle.lk_model.proofs.Extensions.{literals_of}
+use Rattle.lk_model.proofs.Clauses.{literals_of}
 use Rattle.lk_model.proofs.ListTests.{passes_each}
 use Rattle.lk_model.proofs.Founds.{all_literals}
 use Rattle.refutation_log.specs.Derivation.{are_numbered, names_lower, is_ascending}

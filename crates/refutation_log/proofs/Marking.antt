@@ -5,8 +5,8 @@ use Rattle.std.proofs.lemmas.Bool.{leb-true, le-leb}
 use Rattle.std.proofs.lemmas.List.{take_more, map_push, drop_more, drop_all, get_or_default, length-drop}
 use Rattle.std.proofs.lemmas.List.Folds.{list_any-append}
 use Rattle.lk_model.specs.Lists.{among}
-use Rattle.lk_model.specs.Chain.{names_of}
-use Rattle.lk_model.specs.Rounds.{reached}
+use Rattle.lk_model.specs.Chains.Chain.{names_of}
+use Rattle.lk_model.specs.Chains.Rounds.{reached}
 use Rattle.lk_model.specs.declared.document.Turn.{Turn}
 use Rattle.lk_model.specs.declared.document.Step.{Step}
 use Rattle.refutation_log.specs.declared.reach.Marks.{Marks}

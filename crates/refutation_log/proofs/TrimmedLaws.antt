@@ -8,9 +8,10 @@ use Rattle.std.proofs.lemmas.List.{append-nil, map-append, length-map}
 use Rattle.std.proofs.lemmas.List.Sums.{length-filter, count_by-le-length}
 use Rattle.std.proofs.lemmas.List.Elements.{filter-append}
 use Rattle.lk_model.specs.Lists.{among}
-use Rattle.lk_model.specs.Literal.{is_same_set}
-use Rattle.lk_model.specs.Chain.{Premises, premises_of, clause_named, after_turns, names_of, states_its_clause, resolvent}
-use Rattle.lk_model.specs.Rounds.{reached, is_refutation}
+use Rattle.lk_model.specs.Formulas.Literal.{is_same_set}
+use Rattle.lk_model.specs.Chains.Chain.{Premises, clause_named, after_turns, names_of, states_its_clause, resolvent}
+use Rattle.lk_model.specs.Held.VariableSets.{premises_of}
+use Rattle.lk_model.specs.Chains.Rounds.{reached, is_refutation}
 use Rattle.lk_model.specs.Laws.{last_number}
 use Rattle.lk_model.specs.declared.crossed.Crossed.{Crossed}
 use Rattle.lk_model.specs.declared.document.Turn.{Turn}

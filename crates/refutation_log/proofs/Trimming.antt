@@ -4,8 +4,8 @@ use Rattle.std.specs.List.{list_all, range_with_len}
 use Rattle.std.proofs.lemmas.Bool.{leb-true, leb-false, le-leb, eq-eqb, eqb-true}
 use Rattle.std.proofs.lemmas.List.Sums.{length-filter}
 use Rattle.lk_model.specs.Lists.{among}
-use Rattle.lk_model.specs.Chain.{names_of}
-use Rattle.lk_model.specs.Rounds.{reached}
+use Rattle.lk_model.specs.Chains.Chain.{names_of}
+use Rattle.lk_model.specs.Chains.Rounds.{reached}
 use Rattle.lk_model.specs.Laws.{itself, named, are_in_order, last_number}
 use Rattle.lk_model.specs.declared.document.Turn.{Turn}
 use Rattle.lk_model.specs.declared.document.Step.{Step}

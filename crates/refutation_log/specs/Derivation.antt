@@ -2,9 +2,10 @@
 use Rattle.std.specs.Prelude.{◌≡◌, ℕ, ◌+◌, ◌^◌, ◌<◌, Bool, true, ◌&&◌, ◌==◌, nat_lt, IsTrue, List, [], ◌∷◌, ◌++◌, length, map, find, Option, Some, None, option_map, ℤ}
 use Rattle.std.specs.List.{list_all}
 use Rattle.lk_model.specs.Lists.{with_earlier}
-use Rattle.lk_model.specs.Literal.{rank_of}
-use Rattle.lk_model.specs.Form.{counts_from}
-use Rattle.lk_model.specs.Chain.{premises_of, names_of, states_its_clause}
+use Rattle.lk_model.specs.Formulas.Literal.{rank_of}
+use Rattle.lk_model.specs.Documents.Form.{counts_from}
+use Rattle.lk_model.specs.Held.VariableSets.{premises_of}
+use Rattle.lk_model.specs.Chains.Chain.{names_of, states_its_clause}
 use Rattle.lk_model.specs.declared.crossed.Crossed.{Crossed}
 use Rattle.lk_model.specs.declared.document.Step.{Step}
 use Rattle.lk_model.specs.declared.document.Turn.{Turn}

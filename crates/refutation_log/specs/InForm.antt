@@ -1,9 +1,9 @@
 -- Chains in the form of documents.
 use Rattle.std.specs.Prelude.{ℕ, ◌+◌, ◌^◌, ◌<◌, ◌≤◌, IsTrue, List, length}
 use Rattle.std.specs.List.{list_all}
-use Rattle.lk_model.specs.Formula.{is_formula}
-use Rattle.lk_model.specs.Crossed.{IsCrossed}
-use Rattle.lk_model.specs.Form.{is_step}
+use Rattle.lk_model.specs.Formulas.Formula.{is_formula}
+use Rattle.lk_model.specs.Held.VariableSets.{IsCrossed}
+use Rattle.lk_model.specs.Documents.Form.{is_step}
 use Rattle.lk_model.specs.declared.crossed.Crossed.{Crossed}
 use Rattle.lk_model.specs.declared.document.Step.{Step}
 use Rattle.refutation_log.specs.Derivation.{IsDerivation, are_chains}

@@ -1,10 +1,10 @@
 -- The new numbers of kept steps.
-use Rattle.std.specs.Prelude.{◌≡◌, ℕ, ◌+◌, ◌-◌, ◌<◌, Bool, cond, nat_lt, List, length, take, count_by, slice_index, slice_index_or, false}
+use Rattle.std.specs.Prelude.{◌≡◌, ℕ, ◌+◌, ◌-◌, ◌<◌, Bool, if◌then◌else◌, nat_lt, List, length, take, count_by, slice_index, slice_index_or, false}
 use Rattle.lk_model.specs.declared.document.Step.{Step}
 
 -- the new number of a number, by a table for the steps from `first` on
 abbrev pub number_in : ℕ → List ℕ → ℕ → ℕ
-number_in first numbers k = cond (nat_lt k first) k (slice_index numbers (k - first))
+number_in first numbers k = if nat_lt k first then k else slice_index numbers (k - first)
 
 -- the step has a mark among those of the steps from `first` on
 abbrev pub is_marked : ℕ → List Bool → Step → Bool

@@ -3,8 +3,8 @@ use Rattle.std.specs.Prelude.{◌≡◌, ℕ, ◌+◌, ◌==◌, ◌||◌, ◌�
 use Rattle.std.specs.List.{list_all}
 use Rattle.std.specs.Option.{option_map_or}
 use Rattle.lk_model.specs.Lists.{among}
-use Rattle.lk_model.specs.Chain.{names_of}
-use Rattle.lk_model.specs.Rounds.{reached, is_refutation, used_positions}
+use Rattle.lk_model.specs.Chains.Chain.{names_of}
+use Rattle.lk_model.specs.Chains.Rounds.{reached, is_refutation, used_positions}
 use Rattle.lk_model.specs.declared.crossed.Crossed.{Crossed}
 use Rattle.lk_model.specs.declared.document.Step.{Step}
 use Rattle.lk_model.specs.declared.document.Turn.{Turn}

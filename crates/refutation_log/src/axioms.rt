@@ -1,7 +1,7 @@
 //! The positions that a refutation uses.
 ghost use Rattle.std.specs.Prelude.{◌≡◌, ◌-◌, ◌<◌, ◌^◌, false, length, filter, slice_index_or, IfOk, IsTrue};
 ghost use Rattle.std.specs.List.{range_with_len};
-ghost use Rattle.lk_model.specs.Rounds.{is_refutation, used_positions};
+ghost use Rattle.lk_model.specs.Chains.Rounds.{is_refutation, used_positions};
 ghost use Rattle.refutation_log.specs.Derivation.{first_number, are_numbered, are_chains};
 
 use crate::reach::marks_of;

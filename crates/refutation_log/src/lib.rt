@@ -12,6 +12,3 @@ pub use axioms::axioms_of;
 pub use laws::{form_law, pushed_law, trimmed_law};
 pub use log::Log;
 pub use work::{Work, resolve_into};
-
-#[cfg(test)]
-mod tests;

@@ -1,8 +1,9 @@
 //! Logs of steps.
 ghost use Rattle.std.specs.Prelude.{◌≡◌, ◌-◌, ◌<◌, ◌≤◌, ◌^◌, ◌∷◌, [], Some, length, IfOk, OnOk, OnErr, IsTrue, IsSome};
-ghost use Rattle.lk_model.specs.Crossed.{IsCrossed};
-ghost use Rattle.lk_model.specs.Chain.{premises_of, clause_named, after_turns, chain_clause};
-ghost use Rattle.lk_model.specs.Rounds.{is_refutation};
+ghost use Rattle.lk_model.specs.Held.VariableSets.{IsCrossed};
+ghost use Rattle.lk_model.specs.Held.VariableSets.{premises_of};
+ghost use Rattle.lk_model.specs.Chains.Chain.{clause_named, after_turns, chain_clause};
+ghost use Rattle.lk_model.specs.Chains.Rounds.{is_refutation};
 ghost use Rattle.refutation_log.specs.Derivation.{next_number, clause_of_step, last_clause_of, is_ascending, Extends, IsLog};
 ghost use Rattle.refutation_log.specs.Trimmed.{trimmed, names_positions_below};
 ghost use Rattle.refutation_log.specs.SameClause.{IsSameClause};
@@ -42,6 +43,20 @@ impl Log {
             first: next,
             steps: Vec::new(alloc),
         }
+    }
+
+    /// The number of the first step.
+    pub fn first(&self) -> u64
+        ensures { result ≡ self.now.first }
+    {
+        self.first
+    }
+
+    /// The steps so far.
+    pub fn steps(&self) -> &[Step]
+        ensures { result.now ≡ self.now.steps }
+    {
+        self.steps.as_slice()
     }
 
     /// Appends the step with the clause of a chain, and answers its number. The chain must have a
@@ -174,22 +189,5 @@ impl Log {
     {
         let copy = Vec::from_slice(*self.steps.allocator(), items)?;
         Ok(List::from_vec(copy))
-    }
-}
-
-#[cfg(test)]
-impl Log {
-    /// The number of the first step.
-    pub(crate) fn first(&self) -> u64
-        ensures { result ≡ self.now.first }
-    {
-        self.first
-    }
-
-    /// All steps.
-    pub(crate) fn steps(&self) -> &[Step]
-        ensures { result.now ≡ self.now.steps }
-    {
-        self.steps.as_slice()
     }
 }

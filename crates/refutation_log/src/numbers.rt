@@ -1,7 +1,7 @@
 //! The numbers of trimmed steps.
 ghost use Rattle.std.specs.Prelude.{◌≡◌, ◌+◌, ◌<◌, ◌^◌, ◌∷◌, nat_lt, length, map, filter, IfOk, IsTrue};
 ghost use Rattle.std.specs.List.{list_all};
-ghost use Rattle.lk_model.specs.Chain.{names_of};
+ghost use Rattle.lk_model.specs.Chains.Chain.{names_of};
 ghost use Rattle.lk_model.specs.declared.document.Turn.{Turn as ATurn};
 ghost use Rattle.refutation_log.specs.Trimmed.{with_numbers};
 ghost use Rattle.refutation_log.specs.Numbers.{number_in, is_marked, AreNewNumbers};

@@ -1,8 +1,8 @@
 //! What is reached backwards from the last step.
 ghost use Rattle.std.specs.Prelude.{◌≡◌, ℕ, ◌+◌, ◌-◌, ◌<◌, ◌≤◌, [], ◌∷◌, ◌++◌, nat_lt, List, length, drop, IfOk, IsTrue};
 ghost use Rattle.std.specs.List.{list_all};
-ghost use Rattle.lk_model.specs.Chain.{names_of};
-ghost use Rattle.lk_model.specs.Rounds.{reached};
+ghost use Rattle.lk_model.specs.Chains.Chain.{names_of};
+ghost use Rattle.lk_model.specs.Chains.Rounds.{reached};
 ghost use Rattle.refutation_log.specs.Derivation.{are_numbered, names_lower};
 ghost use Rattle.refutation_log.specs.Marks.{AreMarks, HaveSameShape, HaveShape};
 

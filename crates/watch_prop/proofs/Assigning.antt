@@ -4,31 +4,29 @@ use Rattle.std.specs.declared.alloc.Global.{Global}
 use Rattle.std.specs.Option.{option_map_or}
 use Rattle.std.specs.List.{list_all}
 use Rattle.std.specs.Ordering.{int_eq}
-use Rattle.std.proofs.lemmas.Bool.{cases_Bool, eqb-true, eq-eqb, false_from_ne_true}
-use Rattle.std.proofs.lemmas.List.{append-nil, take-append-le, take_all}
+use Rattle.std.proofs.lemmas.Bool.{cases_Bool, cases_eq, eqb-true, eq-eqb, false_from_ne_true, not-true}
+use Rattle.std.proofs.lemmas.List.{append-nil, take-append-le, take_all, get_or_append_left, get_or_push}
 use Rattle.lk_model.specs.Lists.{is_empty}
-use Rattle.lk_model.specs.Literal.{variable, complement, contains, is_literal, is_clause, is_distinct, is_positive}
-use Rattle.lk_model.specs.Assignment.{Assignment, makes_true, satisfies}
+use Rattle.lk_model.specs.Formulas.Literal.{variable, complement, contains, is_literal, is_clause, is_distinct, is_positive}
+use Rattle.lk_model.specs.Formulas.Assignment.{Assignment, makes_true, satisfies}
 use Rattle.lk_model.proofs.Booleans.{and_true, or_true, or_left, or_right}
 use Rattle.lk_model.proofs.ListTests.{passes_each}
 use Rattle.lk_model.proofs.Ranks.{literal_bounds}
 use Rattle.watch_prop.specs.declared.entry.Entry.{Entry}
-use Rattle.watch_prop.specs.declared.entry.Held.{Held}
+use Rattle.watch_prop.specs.declared.entry.NumberedClause.{NumberedClause}
 use Rattle.watch_prop.specs.declared.entry.Propagated.{Propagated}
 use Rattle.watch_prop.specs.declared.entry.Propagated.TheVariants.{Quiet, Conflict}
-use Rattle.watch_prop.specs.declared.watching.Watching.{Watching as State}
-use Rattle.watch_prop.specs.Trail.{Path, literals_of, false_in, entry_of, assignment_along, present_level, up_to_level, clause_held, forces, has_reason, may_come, may_follow, is_path, is_trail}
-use Rattle.watch_prop.specs.Watch.{is_upheld}
+use Rattle.watch_prop.specs.declared.state.State.{State}
+use Rattle.watch_prop.specs.Trail.{Path, literals_of, false_in, entry_of, assignment_along, present_level, up_to_level, clause_numbered, forces, has_reason, may_come, may_follow, is_path, is_trail}
 use Rattle.watch_prop.specs.declared.watch.Watch.{Watch}
 use Rattle.watch_prop.specs.Watchers.{Watchers}
-use Rattle.watch_prop.specs.Linked.{IsLinked, watch_at}
+use Rattle.watch_prop.specs.Linked.{IsLinked}
 use Rattle.watch_prop.specs.Propagation.{Propagation, IsPropagation, GoesOn, assigned, is_false, is_unit, is_unset, is_quiet}
-use Rattle.watch_prop.specs.Watching.{IsState, IsWatching, IsUpheldBelow, Leads, Passes, propagation_of, mark_at}
+use Rattle.watch_prop.specs.States.{IsState, IsKnown, IsKnownBelow, AreUpheld, Leads, Passes, propagation_of, mark_at, unseen}
 use Rattle.watch_prop.proofs.Paths.{comes, last_level, back_there, same_path}
 use Rattle.watch_prop.proofs.Truths.{true_same, same_true, variable_complement, no_sign_twice}
-use Rattle.watch_prop.proofs.Trails.{trail_path, trail_more, propagation_more, not_true}
-use Rattle.watch_prop.proofs.Upheld.{upheld_more}
-use Rattle.watch_prop.proofs.States.{level_more}
+use Rattle.watch_prop.proofs.Trails.{trail_path, trail_more, propagation_more}
+use Rattle.watch_prop.proofs.States.{level_more, more_upheld, same_upheld}
 use Rattle.watch_prop.proofs.Passing.{makes_true_along}
 
 -- NOTHING IS FORCED WHERE ALL IS QUIET
@@ -49,7 +47,7 @@ one_passes p (m ∷ c) l d there pl h =
           let same = true_same l m y in
           let pm : p m ≡ true = subst (λ (k : ℤ). p k ≡ true) same pl in
           let rest : length (filter p c) ≡ 0 = none_pass p c (λ k in_c. h k (or_right (int_eq k m) (contains c k) in_c)
-          (λ e. (let f : true ≡ false = sym (subst (λ (x : ℤ). contains c x ≡ true) (e ∙ same) in_c) ∙ not_true (contains c m) both.0 in let z : ⊥ = cc in z))) in
+          (λ e. (let f : true ≡ false = sym (subst (λ (x : ℤ). contains c x ≡ true) (e ∙ same) in_c) ∙ not-true (contains c m) both.0 in let z : ⊥ = cc in z))) in
           rw pm (omega (arith, rest))
       | inr y ↦
           let in_c : contains c l ≡ true = elim (or_true (int_eq l m) (contains c l) there) [
@@ -111,25 +109,25 @@ forces_unit vars trail c l path is_clause f absent =
     rw (none_true φ c none, eq-eqb (length (filter (is_unset φ) c)) 1 one) refl
 
 -- what holds of each clause holds of the one of a number
-all_held : (q : List ℤ → Bool) (clauses : List Held) (k : ℕ) (c : List ℤ) → list_all (λ (h : Held). q h.lits) clauses ≡ true → clause_held clauses k ≡ Some c → q c ≡ true
-all_held q [] k c h found = absurd (let f : ⊥ = cc in f)
-all_held q (d ∷ clauses) k c h found =
-    let both = and_true (q d.lits) (list_all (λ (h : Held). q h.lits) clauses) h in
+each_numbered : (q : List ℤ → Bool) (clauses : List NumberedClause) (k : ℕ) (c : List ℤ) → list_all (λ (h : NumberedClause). q h.lits) clauses ≡ true → clause_numbered clauses k ≡ Some c → q c ≡ true
+each_numbered q [] k c h found = absurd (let f : ⊥ = cc in f)
+each_numbered q (d ∷ clauses) k c h found =
+    let both = and_true (q d.lits) (list_all (λ (h : NumberedClause). q h.lits) clauses) h in
     elim (cases_Bool (d.number == k)) [
       | inl y ↦
-          let same : Some d.lits ≡ Some c = sym (ap (λ (b : Bool). option_map (λ (c : Held). c.lits) (cond b (Some d) (find (λ (c : Held). c.number == k) clauses))) y) ∙ found in
+          let same : Some d.lits ≡ Some c = sym (ap (λ (b : Bool). option_map (λ (c : NumberedClause). c.lits) (cond b (Some d) (find (λ (c : NumberedClause). c.number == k) clauses))) y) ∙ found in
           let lits : d.lits ≡ c = cc same in subst (λ (x : List ℤ). q x ≡ true) lits both.0
-      | inr y ↦ all_held q clauses k c both.1
-          (sym (ap (λ (b : Bool). option_map (λ (c : Held). c.lits) (cond b (Some d) (find (λ (c : Held). c.number == k) clauses))) y) ∙ found)
+      | inr y ↦ each_numbered q clauses k c both.1
+          (sym (ap (λ (b : Bool). option_map (λ (c : NumberedClause). c.lits) (cond b (Some d) (find (λ (c : NumberedClause). c.number == k) clauses))) y) ∙ found)
     ]
 
-pub trail_prefix : (vars : ℕ) (clauses : List Held) (trail more : List Entry) → is_trail vars clauses (trail ++ more) ≡ true → is_trail vars clauses trail ≡ true
+pub trail_prefix : (vars : ℕ) (clauses : List NumberedClause) (trail more : List Entry) → is_trail vars clauses (trail ++ more) ≡ true → is_trail vars clauses trail ≡ true
 trail_prefix vars clauses trail [] h = subst (λ (t : List Entry). is_trail vars clauses t ≡ true) (append-nil trail) h
 trail_prefix vars clauses trail (e ∷ more) h =
     let longer = trail_prefix vars clauses (trail ++ e ∷ []) more (subst (λ (t : List Entry). is_trail vars clauses t ≡ true) (sym (append_assoc trail (e ∷ []) more)) h) in
     (and_true (is_trail vars clauses trail) (may_follow vars clauses trail e) (sym (trail_more vars clauses trail e) ∙ longer)).0
 
-first_follows : (vars : ℕ) (clauses : List Held) (trail : List Entry) (e : Entry) (more : List Entry) → is_trail vars clauses (trail ++ e ∷ more) ≡ true → may_follow vars clauses trail e ≡ true
+first_follows : (vars : ℕ) (clauses : List NumberedClause) (trail : List Entry) (e : Entry) (more : List Entry) → is_trail vars clauses (trail ++ e ∷ more) ≡ true → may_follow vars clauses trail e ≡ true
 first_follows vars clauses trail e more h =
     let longer = trail_prefix vars clauses (trail ++ e ∷ []) more (subst (λ (t : List Entry). is_trail vars clauses t ≡ true) (sym (append_assoc trail (e ∷ []) more)) h) in
     (and_true (is_trail vars clauses trail) (may_follow vars clauses trail e) (sym (trail_more vars clauses trail e) ∙ longer)).1
@@ -140,23 +138,23 @@ quiet_forces_none p e h quiet may forced = at e.reason forced reason
     parts : (may_come p.vars p.trail e ≡ true) × (has_reason p.clauses p.trail e ≡ true)
     parts = and_true (may_come p.vars p.trail e) (has_reason p.clauses p.trail e) may
 
-    reason : option_map_or (λ k. option_map_or (λ c. forces c p.trail e.lit) (clause_held p.clauses k) false) e.reason true ≡ true
+    reason : option_map_or (λ k. option_map_or (λ c. forces c p.trail e.lit) (clause_numbered p.clauses k) false) e.reason true ≡ true
     reason = parts.1
 
-    by_clause : (k : ℕ) (o : Option (List ℤ)) → clause_held p.clauses k ≡ o → option_map_or (λ c. forces c p.trail e.lit) o false ≡ true → ⊥
+    by_clause : (k : ℕ) (o : Option (List ℤ)) → clause_numbered p.clauses k ≡ o → option_map_or (λ c. forces c p.trail e.lit) o false ≡ true → ⊥
     by_clause k None found f = (let z : ⊥ = cc in z)
     by_clause k (Some c) found f =
         let q : List ℤ → Bool = λ c. not (is_false (assigned p) c) && not (is_unit (assigned p) c) in
-        let still = all_held q p.clauses k c quiet found in
-        let clause = all_held (λ c. not (is_empty c) && is_clause p.vars c) p.clauses k c h.clauses found in
+        let still = each_numbered q p.clauses k c quiet found in
+        let clause = each_numbered (λ c. not (is_empty c) && is_clause p.vars c) p.clauses k c h.clauses found in
         let unit = forces_unit p.vars p.trail c e.lit (trail_path p.vars p.clauses p.trail h.trail) (and_true (not (is_empty c)) (is_clause p.vars c) clause).1 f
         (comes p.vars p.trail e parts.0).absent in
-        let none = not_true (is_unit (assigned p) c) (and_true (not (is_false (assigned p) c)) (not (is_unit (assigned p) c)) still).1 in
+        let none = not-true (is_unit (assigned p) c) (and_true (not (is_false (assigned p) c)) (not (is_unit (assigned p) c)) still).1 in
         let z : true ≡ false = sym unit ∙ none in let y : ⊥ = cc in y
 
-    at : (r : Option ℕ) → is_some r ≡ true → option_map_or (λ k. option_map_or (λ c. forces c p.trail e.lit) (clause_held p.clauses k) false) r true ≡ true → ⊥
+    at : (r : Option ℕ) → is_some r ≡ true → option_map_or (λ k. option_map_or (λ c. forces c p.trail e.lit) (clause_numbered p.clauses k) false) r true ≡ true → ⊥
     at None s f = (let z : ⊥ = cc in z)
-    at (Some k) s f = by_clause k (clause_held p.clauses k) refl f
+    at (Some k) s f = by_clause k (clause_numbered p.clauses k) refl f
 
 -- so the trail stays
 pub quiet_stays : (p q : Propagation) → IsPropagation p → IsPropagation q → GoesOn p q → is_quiet (assigned p) p.clauses ≡ true → q.trail ≡ p.trail
@@ -167,104 +165,104 @@ quiet_stays p q h h' g quiet = at g.forced g.trail g.levels
     at (e ∷ more) t levels =
         let whole : is_trail p.vars p.clauses (p.trail ++ e ∷ more) ≡ true =
         subst (λ (t : List Entry). is_trail p.vars p.clauses t ≡ true) t (subst (λ (n : ℕ). is_trail n p.clauses q.trail ≡ true) g.vars
-        (subst (λ (cs : List Held). is_trail q.vars cs q.trail ≡ true) g.clauses h'.trail)) in
+        (subst (λ (cs : List NumberedClause). is_trail q.vars cs q.trail ≡ true) g.clauses h'.trail)) in
         let head = and_true (e.level == present_level p.trail && is_some e.reason) _ levels in
         absurd (quiet_forces_none p e h quiet (first_follows p.vars p.clauses p.trail e more whole) (and_true (e.level == present_level p.trail) (is_some e.reason) head.0).1)
 
 -- and it ends quiet
-pub quiet_done : (p : Propagation) (result : Propagated) (wanted : Type 0) (clauses : List Held) (path : Path) → is_quiet (assigned p) p.clauses ≡ true
+pub quiet_done : (p : Propagation) (result : Propagated) (wanted : Type 0) (clauses : List NumberedClause) (path : Path) → is_quiet (assigned p) p.clauses ≡ true
     → p ≡ propagation_of clauses path → Passes clauses path result wanted → wanted
 quiet_done p Quiet wanted clauses path quiet same h = h
-quiet_done p (Conflict k) wanted clauses path quiet same h = absurd (at (clause_held clauses k) refl h)
+quiet_done p (Conflict k) wanted clauses path quiet same h = absurd (at (clause_numbered clauses k) refl h)
   where
     quiet_there : is_quiet (assigned (propagation_of clauses path)) clauses ≡ true
     quiet_there = subst (λ (q : Propagation). is_quiet (assigned q) q.clauses ≡ true) same quiet
 
-    at : (o : Option (List ℤ)) → clause_held clauses k ≡ o → option_map_or (is_false (assigned (propagation_of clauses path))) o false ≡ true → ⊥
+    at : (o : Option (List ℤ)) → clause_numbered clauses k ≡ o → option_map_or (is_false (assigned (propagation_of clauses path))) o false ≡ true → ⊥
     at None found f = (let z : ⊥ = cc in z)
     at (Some c) found f =
         let φ = assigned (propagation_of clauses path) in
-        let still = all_held (λ c. not (is_false φ c) && not (is_unit φ c)) clauses k c quiet_there found in
-        let none = not_true (is_false φ c) (and_true (not (is_false φ c)) (not (is_unit φ c)) still).0 in
+        let still = each_numbered (λ c. not (is_false φ c) && not (is_unit φ c)) clauses k c quiet_there found in
+        let none = not-true (is_false φ c) (and_true (not (is_false φ c)) (not (is_unit φ c)) still).0 in
         let z : true ≡ false = sym f ∙ none in let y : ⊥ = cc in y
 
 -- A NEW LEVEL
 
 mark_more : (marks : List ℕ) (n level : ℕ) → level < length marks → mark_at (marks ++ n ∷ []) level ≡ mark_at marks level
-mark_more [] n level lt = absurd (omega arith)
-mark_more (m ∷ marks) n zero lt = refl
-mark_more (m ∷ marks) n (suc level) lt = mark_more marks n level (omega arith)
+mark_more marks n level lt = get_or_append_left marks (n ∷ []) 0 level lt
 
 mark_last : (marks : List ℕ) (n : ℕ) → mark_at (marks ++ n ∷ []) (length marks) ≡ n
-mark_last [] n = refl
-mark_last (m ∷ marks) n = mark_last marks n
+mark_last marks n = get_or_push marks n 0 (length marks) refl
 
 -- the state with a literal that opens a level, where all was passed on
-pub record Opens (clauses : List Held) (path : Path) (w w' : State) (e : Entry) : Type 0 where
-  pub state : IsState clauses path w
-  pub all_checked : w.checked ≡ length clauses
-  pub all_passed : w.head ≡ length path.entries
+pub record Opens (clauses : List NumberedClause) (path : Path) (s s' : State) (e : Entry) : Type 0 where
+  pub state : IsState clauses path s
+  pub all_seen : unseen s ≡ 0
+  pub all_passed : s.head ≡ length path.entries
   pub may : may_follow path.vars clauses path.entries e ≡ true
   pub level : e.level ≡ present_level path.entries + 1
-  pub watches : w'.watches ≡ w.watches
-  pub lists : w'.lists ≡ w.lists
-  pub checked : w'.checked ≡ w.checked
-  pub head : w'.head ≡ w.head
-  pub marks : w'.marks.items ≡ w.marks.items ++ length clauses ∷ []
-  pub capacity : vec_capacity w'.marks ≡ vec_capacity w.marks
+  pub watches : s'.watches ≡ s.watches
+  pub lists : s'.lists ≡ s.lists
+  pub waiting : s'.waiting ≡ s.waiting
+  pub satisfied : s'.satisfied ≡ s.satisfied
+  pub head : s'.head ≡ s.head
+  pub marks : s'.marks.items ≡ s.marks.items ++ length s.waiting.items ∷ []
+  pub capacity : vec_capacity s'.marks ≡ vec_capacity s.marks
 
-opened_below : (clauses : List Held) (path : Path) (w w' : State) (e : Entry) (level : ℕ) → Opens clauses path w w' e → level < e.level → IsUpheldBelow (path.entries ++ e ∷ []) w' level
-opened_below clauses path w w' e level o under = elim (cases_Bool (level == present_level path.entries)) [
-  | inl y ↦
-      let same = eqb-true level (present_level path.entries) y in
+opened_upheld : (clauses : List NumberedClause) (path : Path) (s s' : State) (e : Entry) (trail passed : List Entry) (count : ℕ) → Opens clauses path s s' e
+    → AreUpheld clauses s trail passed count → AreUpheld clauses s' trail passed count
+opened_upheld clauses path s s' e trail passed count o h =
+    same_upheld clauses s s' trail passed count (ap (λ (v : Vec Watch Global). v.items) o.watches) (ap (λ (v : Vec ℕ Global). v.items) o.waiting) h
+
+opened_below : (clauses : List NumberedClause) (path : Path) (s s' : State) (e : Entry) (level : ℕ) → Opens clauses path s s' e → level < e.level
+    → IsKnownBelow clauses (path.entries ++ e ∷ []) s' level
+opened_below clauses path s s' e level o under = elim (cases_eq level (present_level path.entries)) [
+  | inl same ↦
       let trail = path.entries in
       let up : up_to_level level (trail ++ e ∷ []) ≡ trail = level_more level trail e under ∙ back_there path.vars trail level p (omega (arith, same)) in
-      let mark : mark_at w'.marks.items level ≡ length clauses =
-      ap (λ (ms : List ℕ). mark_at ms level) o.marks ∙ ap (mark_at (w.marks.items ++ length clauses ∷ [])) (same ∙ sym old.marks) ∙ mark_last w.marks.items (length clauses) in
+      let mark : mark_at s'.marks.items level ≡ length s.waiting.items =
+      ap (λ (ms : List ℕ). mark_at ms level) o.marks ∙ ap (mark_at (s.marks.items ++ length s.waiting.items ∷ [])) (same ∙ sym old.marks) ∙ mark_last s.marks.items (length s.waiting.items) in
+      let all : mark_at s'.marks.items level ≡ s.satisfied = (let n = o.all_seen in let w = old.satisfied in omega (arith, mark, n, w)) in
+      let passed : take s.head trail ≡ trail = take_all s.head trail (let n = o.all_passed in omega (arith, n)) in
       record {
-        mark = omega (arith, mark, o.checked, o.all_checked);
-        passed = subst (λ (t : List Entry). length t ≤ w'.head) (sym up) (omega (arith, o.head, o.all_passed));
-        upheld = λ place lt.
-            let u : is_upheld trail (take w.head trail) (watch_at w.watches.items place) ≡ true = old.upheld place (omega (arith, lt, mark, o.all_checked)) in
-            let v : is_upheld trail trail (watch_at w.watches.items place) ≡ true = subst (λ (t : List Entry). is_upheld trail t (watch_at w.watches.items place) ≡ true) (take_all w.head trail (let e = o.all_passed in omega (arith, e))) u in
-            subst (λ (t : List Entry). is_upheld t t (watch_at w'.watches.items place) ≡ true) (sym up)
-            (subst (λ (ws : Vec Watch Global). is_upheld trail trail (watch_at ws.items place) ≡ true) (sym o.watches) v);
+        mark = omega (arith, all, o.satisfied);
+        passed = subst (λ (t : List Entry). length t ≤ s'.head) (sym up) (omega (arith, o.head, o.all_passed));
+        upheld = subst (λ (t : List Entry). AreUpheld clauses s' t t (mark_at s'.marks.items level)) (sym up)
+            (subst (λ (n : ℕ). AreUpheld clauses s' trail trail n) (sym all)
+            (opened_upheld clauses path s s' e trail trail s.satisfied o (subst (λ (t : List Entry). AreUpheld clauses s trail t s.satisfied) passed old.upheld)));
       }
-  | inr y ↦
-      let apart : level ≢ present_level path.entries = λ s. (let f : true ≡ false = sym (eq-eqb level (present_level path.entries) s) ∙ y in let z : ⊥ = cc in z) in
+  | inr apart ↦
       let lower : level < present_level path.entries = omega (arith, apart, under, o.level) in
       let b = old.below level lower in
       let up = sym (level_more level path.entries e under) in
-      let mark : mark_at w'.marks.items level ≡ mark_at w.marks.items level = ap (λ (ms : List ℕ). mark_at ms level) o.marks ∙ mark_more w.marks.items (length clauses) level (omega (arith, lower, old.marks)) in
+      let mark : mark_at s'.marks.items level ≡ mark_at s.marks.items level =
+      ap (λ (ms : List ℕ). mark_at ms level) o.marks ∙ mark_more s.marks.items (length s.waiting.items) level (omega (arith, lower, old.marks)) in
       record {
-        mark = omega (arith, mark, b.mark, o.checked);
-        passed = subst (λ (t : List Entry). length t ≤ w'.head) up (omega (arith, b.passed, o.head));
-        upheld = λ place lt.
-            subst (λ (t : List Entry). is_upheld t t (watch_at w'.watches.items place) ≡ true) up
-            (subst (λ (ws : Vec Watch Global). is_upheld (up_to_level level path.entries) (up_to_level level path.entries) (watch_at ws.items place) ≡ true) (sym o.watches)
-            (b.upheld place (omega (arith, lt, mark))));
+        mark = omega (arith, mark, b.mark, o.satisfied);
+        passed = subst (λ (t : List Entry). length t ≤ s'.head) up (omega (arith, b.passed, o.head));
+        upheld = subst (λ (t : List Entry). AreUpheld clauses s' t t (mark_at s'.marks.items level)) up
+            (subst (λ (n : ℕ). AreUpheld clauses s' (up_to_level level path.entries) (up_to_level level path.entries) n) (sym mark)
+            (opened_upheld clauses path s s' e (up_to_level level path.entries) (up_to_level level path.entries) (mark_at s.marks.items level) o b.upheld));
       }
 ]
   where
-    old : IsWatching path.vars clauses path.entries w
-    old = o.state.watching
+    old : IsKnown path.vars clauses path.entries s
+    old = o.state.known
 
     p : is_path path.vars path.entries ≡ true
-    p = trail_path path.vars clauses path.entries o.state.held.trail
+    p = trail_path path.vars clauses path.entries o.state.propagation.trail
 
 opened_rising : (marks : List ℕ) (n : ℕ) → ((j k : ℕ) → j < k → k < length marks → mark_at marks j ≤ mark_at marks k) → ((j : ℕ) → j < length marks → mark_at marks j ≤ n)
     → (j k : ℕ) → j < k → k < length (marks ++ n ∷ []) → mark_at (marks ++ n ∷ []) j ≤ mark_at (marks ++ n ∷ []) k
-opened_rising marks n rising most j k lt within = elim (cases_Bool (k == length marks)) [
-  | inl y ↦
-      let same = eqb-true k (length marks) y in
+opened_rising marks n rising most j k lt within = elim (cases_eq k (length marks)) [
+  | inl same ↦
       let last : mark_at (marks ++ n ∷ []) k ≡ n = ap (mark_at (marks ++ n ∷ [])) same ∙ mark_last marks n in
       let under : j < length marks = omega (arith, lt, same) in
       let here = mark_more marks n j under in
       let m = most j under in
       omega (arith, last, here, m)
-  | inr y ↦
+  | inr apart ↦
       let long = length-append marks (n ∷ []) in
-      let apart : k ≢ length marks = λ s. (let f : true ≡ false = sym (eq-eqb k (length marks) s) ∙ y in let z : ⊥ = cc in z) in
       let inside : k < length marks = omega (arith, within, long, apart) in
       let a = mark_more marks n j (omega (arith, lt, inside)) in
       let b = mark_more marks n k inside in
@@ -272,60 +270,63 @@ opened_rising marks n rising most j k lt within = elim (cases_Bool (k == length 
       omega (arith, a, b, r)
 ]
 
-pub opened_state : (clauses : List Held) (path path' : Path) (w w' : State) (e : Entry) → Opens clauses path w w' e → path' ≡ record path { entries = path.entries ++ e ∷ [] }
-    → IsState clauses path' w'
-opened_state clauses path path' w w' e o made =
-    let old = o.state.watching in
+pub opened_state : (clauses : List NumberedClause) (path path' : Path) (s s' : State) (e : Entry) → Opens clauses path s s' e → path' ≡ record path { entries = path.entries ++ e ∷ [] }
+    → IsState clauses path' s'
+opened_state clauses path path' s s' e o made =
+    let old = o.state.known in
     let trail = path.entries in
+    let n = length s.waiting.items in
     let last = last_level trail e in
     let long = length-append trail (e ∷ []) in
-    let more = length-append w.marks.items (length clauses ∷ []) in
-    let count : length w'.marks.items ≡ length (w.marks.items ++ length clauses ∷ []) = ap length o.marks in
-    subst (λ (p : Path). IsState clauses p w') (sym made) (record {
-      held = propagation_more (propagation_of clauses path) e o.state.held o.may;
-      watching = record {
-        linked = subst (λ (ws : Vec Watch Global). IsLinked path.vars clauses ws.items w'.lists) (sym o.watches) (subst (λ (ls : Watchers). IsLinked path.vars clauses w.watches.items ls) (sym o.lists) old.linked);
-        checked = omega (arith, o.checked, old.checked);
+    let more = length-append s.marks.items (n ∷ []) in
+    let count : length s'.marks.items ≡ length (s.marks.items ++ n ∷ []) = ap length o.marks in
+    let waiting : s'.waiting.items ≡ s.waiting.items = ap (λ (v : Vec ℕ Global). v.items) o.waiting in
+    subst (λ (p : Path). IsState clauses p s') (sym made) (record {
+      propagation = propagation_more (propagation_of clauses path) e o.state.propagation o.may;
+      known = record {
+        linked = subst (λ (ps : List ℕ). IsLinked path.vars clauses s'.watches.items s'.lists ps) (sym waiting)
+            (subst (λ (ws : Vec Watch Global). IsLinked path.vars clauses ws.items s'.lists s.waiting.items) (sym o.watches)
+            (subst (λ (ls : Watchers). IsLinked path.vars clauses s.watches.items ls s.waiting.items) (sym o.lists) old.linked));
+        satisfied = (let same = ap length waiting in omega (arith, o.satisfied, old.satisfied, same));
         head = omega (arith, o.head, old.head, long);
         marks = omega (arith, count, more, old.marks, last, o.level);
         marks_room = omega (arith, o.capacity, old.marks_room);
         rising = subst (λ (ms : List ℕ). (j k : ℕ) → j < k → k < length ms → mark_at ms j ≤ mark_at ms k) (sym o.marks)
-            (opened_rising w.marks.items (length clauses) old.rising (λ j lt. (let b = old.below j (omega (arith, lt, old.marks)) in omega (arith, b.mark, old.checked))));
-        upheld = λ place lt.
-            subst (λ (ws : Vec Watch Global). is_upheld (trail ++ e ∷ []) (take w'.head (trail ++ e ∷ [])) (watch_at ws.items place) ≡ true) (sym o.watches)
-            (subst (λ (n : ℕ). is_upheld (trail ++ e ∷ []) (take n (trail ++ e ∷ [])) (watch_at w.watches.items place) ≡ true) (sym o.head)
-            (subst (λ (t : List Entry). is_upheld (trail ++ e ∷ []) t (watch_at w.watches.items place) ≡ true) (sym (take-append-le w.head trail (e ∷ []) old.head))
-            (upheld_more trail (e ∷ []) (take w.head trail) (watch_at w.watches.items place) (old.upheld place (omega (arith, lt, o.checked))))));
-        below = λ level lt. opened_below clauses path w w' e level o (omega (arith, lt, last));
+            (opened_rising s.marks.items n old.rising (λ j lt. (let b = old.below j (omega (arith, lt, old.marks)) in omega (arith, b.mark, old.satisfied))));
+        upheld = subst (λ (h : ℕ). AreUpheld clauses s' (trail ++ e ∷ []) (take h (trail ++ e ∷ [])) s'.satisfied) (sym o.head)
+            (subst (λ (h : ℕ). AreUpheld clauses s' (trail ++ e ∷ []) (take s.head (trail ++ e ∷ [])) h) (sym o.satisfied)
+            (subst (λ (t : List Entry). AreUpheld clauses s' (trail ++ e ∷ []) t s.satisfied) (sym (take-append-le s.head trail (e ∷ []) old.head))
+            (more_upheld clauses s' trail (e ∷ []) (take s.head trail) s.satisfied (opened_upheld clauses path s s' e trail (take s.head trail) s.satisfied o old.upheld))));
+        below = λ level lt. opened_below clauses path s s' e level o (omega (arith, lt, last));
       };
     })
 
 -- an unset literal may open a level
-pub may_open : (vars : ℕ) (clauses : List Held) (trail : List Entry) (e : Entry) → is_literal vars e.lit ≡ true → entry_of trail (variable e.lit) ≡ None
+pub may_open : (vars : ℕ) (clauses : List NumberedClause) (trail : List Entry) (e : Entry) → is_literal vars e.lit ≡ true → entry_of trail (variable e.lit) ≡ None
     → e.level ≡ present_level trail + 1 → e.reason ≡ None → may_follow vars clauses trail e ≡ true
 may_open vars clauses trail e lit none n reason = rw (lit, none, reason, eq-eqb e.level (present_level trail + 1) n) refl
 
 -- what is known where a literal is assigned: nothing was forced, and all was passed on
-pub record IsReady (clauses : List Held) (path path' : Path) (w' : State) (e : Entry) : Type 0 where
+pub record IsReady (clauses : List NumberedClause) (path path' : Path) (s' : State) (e : Entry) : Type 0 where
   pub same : path' ≡ path
-  pub state : IsState clauses path' w'
-  pub checked : w'.checked ≡ length clauses
-  pub head : w'.head ≡ length path'.entries
+  pub state : IsState clauses path' s'
+  pub seen : unseen s' ≡ 0
+  pub head : s'.head ≡ length path'.entries
   pub may : may_follow path'.vars clauses path'.entries e ≡ true
 
-pub ready : (clauses : List Held) (path path' : Path) (w w' : State) (result : Propagated) (e : Entry) → IsState clauses path w → Leads clauses path path' w w'
-    → Passes clauses path' result ((w'.checked ≡ length clauses) × (w'.head ≡ length path'.entries)) → is_quiet (assigned (propagation_of clauses path)) clauses ≡ true
+pub ready : (clauses : List NumberedClause) (path path' : Path) (s s' : State) (result : Propagated) (e : Entry) → IsState clauses path s → Leads clauses path path' s s'
+    → Passes clauses path' result ((unseen s' ≡ 0) × (s'.head ≡ length path'.entries)) → is_quiet (assigned (propagation_of clauses path)) clauses ≡ true
     → is_literal path.vars e.lit ≡ true → entry_of path.entries (variable e.lit) ≡ None → e.level ≡ present_level path'.entries + 1 → e.reason ≡ None
-    → IsReady clauses path path' w' e
-ready clauses path path' w w' result e h leads done quiet lit none level reason =
+    → IsReady clauses path path' s' e
+ready clauses path path' s s' result e h leads done quiet lit none level reason =
     let p = propagation_of clauses path in
-    let still : path'.entries ≡ path.entries = quiet_stays p (propagation_of clauses path') h.held leads.state.held leads.goes_on quiet in
+    let still : path'.entries ≡ path.entries = quiet_stays p (propagation_of clauses path') h.propagation leads.state.propagation leads.goes_on quiet in
     let same : path' ≡ path = same_path path' path leads.goes_on.vars still in
-    let ends = quiet_done p result ((w'.checked ≡ length clauses) × (w'.head ≡ length path'.entries)) clauses path' quiet (ap (propagation_of clauses) (sym same)) done in
+    let ends = quiet_done p result ((unseen s' ≡ 0) × (s'.head ≡ length path'.entries)) clauses path' quiet (ap (propagation_of clauses) (sym same)) done in
     record {
       same = same;
       state = leads.state;
-      checked = ends.0;
+      seen = ends.0;
       head = ends.1;
       may = may_open path'.vars clauses path'.entries e (subst (λ (q : Path). is_literal q.vars e.lit ≡ true) (sym same) lit)
           (subst (λ (q : Path). entry_of q.entries (variable e.lit) ≡ None) (sym same) none) level reason;

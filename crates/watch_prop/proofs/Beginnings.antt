@@ -2,15 +2,14 @@
 use Rattle.std.proofs.Common.{◌≡◌, ℕ, zero, suc, ◌<◌, ◌≤◌, Bool, true, false, not, cond, ◌&&◌, ◌==◌, List, [], ◌∷◌, ◌++◌, ◌∙◌, sym, refl, arith, ℤ, pos, negsuc, length, get_or, map, filter, nat_le, nat_lt}
 use Rattle.std.specs.List.{list_all}
 use Rattle.std.specs.Ordering.{int_eq}
-use Rattle.std.proofs.lemmas.Bool.{le-leb, leb-true, eqb-true, eq-eqb, ltb-true, false_from_ne_true}
+use Rattle.std.proofs.lemmas.Bool.{le-leb, leb-true, eqb-true, eq-eqb, ltb-true, false_from_ne_true, not-true}
 use Rattle.lk_model.specs.Lists.{among, is_empty, rises_within}
-use Rattle.lk_model.specs.Literal.{variable, complement, contains, is_literal, is_clause, is_distinct}
-use Rattle.lk_model.specs.Formula.{Cnf, clause_at, is_formula}
-use Rattle.lk_model.specs.Crossed.{Variables, crossed_out}
+use Rattle.lk_model.specs.Formulas.Literal.{variable, complement, contains, is_literal, is_clause, is_distinct}
+use Rattle.lk_model.specs.Formulas.Formula.{Cnf, clause_at, is_formula}
+use Rattle.lk_model.specs.Formulas.Crossed.{Variables, crossed_out}
 use Rattle.lk_model.specs.Limits.{max_vars}
 use Rattle.lk_model.proofs.Booleans.{and_true, or_false, or_left, or_right}
-use Rattle.watch_prop.proofs.Trails.{not_true}
-use Rattle.watch_prop.specs.declared.entry.Held.{Held}
+use Rattle.watch_prop.specs.declared.entry.NumberedClause.{NumberedClause}
 use Rattle.watch_prop.specs.Propagation.{IsPropagation, numbers_of, are_distinct, may_be_held}
 use Rattle.watch_prop.specs.Trail.{is_trail}
 
@@ -34,7 +33,7 @@ absent_left p (k ∷ c) l h = (let a = or_false (int_eq l k) (contains c l) h in
 
 distinct_left : (p : ℤ → Bool) (c : List ℤ) → is_distinct c ≡ true → is_distinct (filter p c) ≡ true
 distinct_left p [] h = refl
-distinct_left p (l ∷ c) h = (let a = and_true (not (contains c l)) (is_distinct c) h in at (p l) (absent_left p c l (not_true (contains c l) a.0)) (distinct_left p c a.1))
+distinct_left p (l ∷ c) h = (let a = and_true (not (contains c l)) (is_distinct c) h in at (p l) (absent_left p c l (not-true (contains c l) a.0)) (distinct_left p c a.1))
   where
     at : (b : Bool) → contains (filter p c) l ≡ false → is_distinct (filter p c) ≡ true → is_distinct (cond b (l ∷ filter p c) (filter p c)) ≡ true
     at true e rest = rw (e, rest) refl
@@ -55,18 +54,18 @@ clause_of_formula F (suc k) h = at F.clauses k h
     at (c ∷ cs) (suc k) h = at cs k (and_true (is_clause F.vars c) (list_all (is_clause F.vars) cs) h).1
 
 -- the crossed clauses at these positions that are not empty
-abbrev pub crossed_at : Cnf → Variables → List ℕ → List Held
-crossed_at F blocked ps = filter (λ (c : Held). not (is_empty c.lits)) (map (λ p. record { number = p; lits = crossed_out blocked (clause_at F p) }) ps)
+abbrev pub crossed_at : Cnf → Variables → List ℕ → List NumberedClause
+crossed_at F blocked ps = filter (λ (c : NumberedClause). not (is_empty c.lits)) (map (λ p. record { number = p; lits = crossed_out blocked (clause_at F p) }) ps)
 
 pub crossed_are_clauses : (F : Cnf) (blocked : Variables) (ps : List ℕ) → is_formula F ≡ true
-    → list_all (λ (c : Held). not (is_empty c.lits) && is_clause F.vars c.lits) (crossed_at F blocked ps) ≡ true
+    → list_all (λ (c : NumberedClause). not (is_empty c.lits) && is_clause F.vars c.lits) (crossed_at F blocked ps) ≡ true
 crossed_are_clauses F blocked [] h = refl
 crossed_are_clauses F blocked (p ∷ ps) h =
     at (not (is_empty (crossed_out blocked (clause_at F p)))) refl (crossed_clause F.vars blocked (clause_at F p) (clause_of_formula F p h)) (crossed_are_clauses F blocked ps h)
   where
     at : (b : Bool) → not (is_empty (crossed_out blocked (clause_at F p))) ≡ b → is_clause F.vars (crossed_out blocked (clause_at F p)) ≡ true
-        → list_all (λ (c : Held). not (is_empty c.lits) && is_clause F.vars c.lits) (crossed_at F blocked ps) ≡ true
-        → list_all (λ (c : Held). not (is_empty c.lits) && is_clause F.vars c.lits)
+        → list_all (λ (c : NumberedClause). not (is_empty c.lits) && is_clause F.vars c.lits) (crossed_at F blocked ps) ≡ true
+        → list_all (λ (c : NumberedClause). not (is_empty c.lits) && is_clause F.vars c.lits)
         (cond b (record { number = p; lits = crossed_out blocked (clause_at F p) } ∷ crossed_at F blocked ps) (crossed_at F blocked ps)) ≡ true
     at true e is rest = rw (e, is, rest) refl
     at false e is rest = rest
@@ -122,16 +121,6 @@ propagation_at_start F blocked ps form few part = record {
   trail = refl;
 }
 
--- ONE MORE CLAUSE
-
-pub unit_may_be_held : (vars : ℕ) (l : ℤ) → 0 < variable l → variable l ≤ vars → may_be_held vars (l ∷ []) ≡ true
-unit_may_be_held vars l low high = rw (le-leb 1 (variable l) (omega arith), le-leb (variable l) vars high, apart l low) refl
-  where
-    apart : (l : ℤ) → 0 < variable l → int_eq (complement l) l ≡ false
-    apart (pos zero) low = absurd (omega arith)
-    apart (pos (suc k)) low = refl
-    apart (negsuc k) low = refl
-
 -- ONE CLAUSE AFTER ANOTHER
 
 pub all_middle : {X : Type 0} (p : X → Bool) (xs : List X) (x : X) (ys : List X) → list_all p (xs ++ x ∷ ys) ≡ true → p x ≡ true
@@ -139,15 +128,15 @@ all_middle p [] x ys h = (and_true (p x) (list_all p ys) h).0
 all_middle p (y ∷ xs) x ys h = all_middle p xs x ys (and_true (p y) (list_all p (xs ++ x ∷ ys)) h).1
 
 -- the number of a later clause is not among those before
-pub distinct_middle : (xs : List Held) (x : Held) (ys : List Held) → are_distinct (numbers_of (xs ++ x ∷ ys)) ≡ true → not (among (numbers_of xs) x.number) ≡ true
+pub distinct_middle : (xs : List NumberedClause) (x : NumberedClause) (ys : List NumberedClause) → are_distinct (numbers_of (xs ++ x ∷ ys)) ≡ true → not (among (numbers_of xs) x.number) ≡ true
 distinct_middle [] x ys h = refl
 distinct_middle (y ∷ xs) x ys h =
     let both = and_true (not (among (numbers_of (xs ++ x ∷ ys)) y.number)) (are_distinct (numbers_of (xs ++ x ∷ ys))) h in
     let apart : (y.number == x.number) ≡ false = false_from_ne_true (y.number == x.number) (λ e.
-    (let f : true ≡ false = sym (there xs x ys y.number (eqb-true y.number x.number e)) ∙ not_true (among (numbers_of (xs ++ x ∷ ys)) y.number) both.0 in let z : ⊥ = cc in z)) in
+    (let f : true ≡ false = sym (there xs x ys y.number (eqb-true y.number x.number e)) ∙ not-true (among (numbers_of (xs ++ x ∷ ys)) y.number) both.0 in let z : ⊥ = cc in z)) in
     rw apart (distinct_middle xs x ys both.1)
   where
-    there : (xs : List Held) (x : Held) (ys : List Held) (n : ℕ) → n ≡ x.number → among (numbers_of (xs ++ x ∷ ys)) n ≡ true
+    there : (xs : List NumberedClause) (x : NumberedClause) (ys : List NumberedClause) (n : ℕ) → n ≡ x.number → among (numbers_of (xs ++ x ∷ ys)) n ≡ true
     there [] x ys n e = or_left (x.number == n) (among (numbers_of ys) n) (eq-eqb x.number n (sym e))
     there (y ∷ xs) x ys n e = or_right (y.number == n) (among (numbers_of (xs ++ x ∷ ys)) n) (there xs x ys n e)
 

@@ -1,29 +1,29 @@
 -- What a clause asks for, and what comes of it.
-use Rattle.std.proofs.Common.{◌≡◌, ◌≢◌, ℕ, zero, suc, ◌<◌, Bool, true, false, not, ◌&&◌, ◌||◌, List, [], ◌∷◌, sym, ◌∙◌, subst, arith, ℤ, Some, length, get_or, inl, inr, refl}
+use Rattle.std.proofs.Common.{◌≡◌, ◌≢◌, ℕ, zero, suc, ◌+◌, ◌<◌, ◌≤◌, Bool, true, false, not, ◌&&◌, ◌||◌, List, [], ◌∷◌, ◌++◌, cond, sym, ◌∙◌, ap, subst, arith, ℤ, pos, Some, length, get_or, refl, inl, inr}
 use Rattle.std.specs.List.{list_all}
 use Rattle.std.specs.Ordering.{int_eq}
 use Rattle.lk_model.specs.Lists.{among, is_empty}
-use Rattle.lk_model.specs.Literal.{contains, is_literal, is_clause}
-use Rattle.lk_model.proofs.Booleans.{and_true, or_true}
+use Rattle.lk_model.specs.Formulas.Literal.{contains, is_literal, is_clause}
+use Rattle.std.proofs.lemmas.Bool.{cases_Bool, cases_eq, cases_lt, not-true}
+use Rattle.std.proofs.lemmas.List.{get_or_read}
+use Rattle.lk_model.proofs.Booleans.{and_true, or_left, or_right}
 use Rattle.lk_model.proofs.ListTests.{passes_each}
 use Rattle.lk_model.proofs.Ranks.{literal_bounds}
 use Rattle.watch_prop.specs.declared.entry.Entry.{Entry}
-use Rattle.watch_prop.specs.declared.entry.Held.{Held}
-use Rattle.watch_prop.specs.declared.watch.Watch.{Watch}
-use Rattle.watch_prop.specs.declared.watch.Demand.TheVariants.{Watching, Truth}
-use Rattle.watch_prop.specs.declared.watching.Watching.{Watching as State}
-use Rattle.watch_prop.specs.Trail.{Path, true_in, false_in, present_level, may_come, may_follow}
-use Rattle.watch_prop.specs.Watch.{beside_of, IsDemand}
-use Rattle.watch_prop.specs.Watchers.{watching}
-use Rattle.watch_prop.specs.Linked.{clause_at_place, watch_at, watches_it}
-use Rattle.watch_prop.specs.Watching.{IsState, IsAtHead}
-use Rattle.watch_prop.proofs.Truths.{false_apart, no_sign_twice}
+use Rattle.watch_prop.specs.declared.entry.NumberedClause.{NumberedClause}
+use Rattle.watch_prop.specs.declared.watch.Demand.TheVariants.{Move}
+use Rattle.watch_prop.specs.declared.state.State.{State}
+use Rattle.watch_prop.specs.Trail.{Path, true_in, false_in, forced_entry, with_forced, may_come, may_follow}
+use Rattle.watch_prop.specs.Watch.{other_of, IsDemand, false_at, all_false_but}
+use Rattle.watch_prop.specs.Watchers.{watchers}
+use Rattle.watch_prop.specs.Linked.{clause_at_place, watch_at}
+use Rattle.watch_prop.specs.States.{IsState, Leads, IsAtHead}
+use Rattle.watch_prop.proofs.Truths.{same_true, false_apart, no_sign_twice}
 use Rattle.watch_prop.proofs.Lists.{among_at}
-use Rattle.watch_prop.proofs.Trails.{not_true, may_force, trail_path}
-use Rattle.watch_prop.proofs.Upheld.{one_of, IsOneOf, first, second}
-use Rattle.watch_prop.proofs.States.{MayMove}
+use Rattle.watch_prop.proofs.Trails.{may_force, trail_path}
+use Rattle.watch_prop.proofs.States.{MayMove, stays_leads, forced_leads}
 use Rattle.watch_prop.proofs.Settling.{head_false}
-use Rattle.watch_prop.proofs.Linking.{Moves}
+use Rattle.watch_prop.proofs.Linking.{IsMove, InList, in_list}
 
 pub all_at : {X : Type 0} (p : X → Bool) (xs : List X) (i : ℕ) (d : X) → list_all p xs ≡ true → i < length xs → p (get_or xs i d) ≡ true
 all_at p [] i d h lt = absurd (omega arith)
@@ -34,121 +34,142 @@ pub all_from : {X : Type 0} (p : X → Bool) (xs : List X) (d : X) → ((i : ℕ
 all_from p [] d h = refl
 all_from p (x ∷ xs) d h = rw (h 0 (omega arith)) (all_from p xs d (λ i lt. h (suc i) (omega (arith, lt))))
 
--- A CLAUSE THAT STANDS IN THE LIST OF A LITERAL
+-- what is read of a clause is a literal of it
+pub read_there : (c : List ℤ) (i : ℕ) (l : ℤ) → i < length c → l ≡ get_or c i l → contains c l ≡ true
+read_there [] i l lt e = absurd (omega arith)
+read_there (k ∷ c) zero l lt e = or_left (int_eq l k) (contains c l) (same_true l k e)
+read_there (k ∷ c) (suc i) l lt e = or_right (int_eq l k) (contains c l) (read_there c i l (omega arith) e)
 
-pub record Stands (clauses : List Held) (path : Path) (w : State) (place : ℕ) (l : ℤ) : Type 0 where
-  pub clause : is_clause path.vars (clause_at_place clauses place).lits ≡ true
-  pub it : watches_it (watch_at w.watches.items place) l ≡ true
-  pub beside_there : contains (clause_at_place clauses place).lits (beside_of (watch_at w.watches.items place) l) ≡ true
-  pub beside_literal : is_literal path.vars (beside_of (watch_at w.watches.items place) l) ≡ true
+-- each literal but that at a place is false, where those before and after it are
+pub false_but : (trail : List Entry) (c : List ℤ) (i : ℕ) (l : ℤ) → i < length c → l ≡ get_or c i l → ((k : ℕ) → k < i → false_at trail c k ≡ true)
+    → ((k : ℕ) → i + 1 ≤ k → k < length c → (int_eq (get_or c k (pos 0)) l || false_at trail c k) ≡ true) → all_false_but trail c l ≡ true
+false_but trail c i l lt e before after = all_from (λ k. int_eq k l || false_in trail k) c (pos 0) (λ k within. elim (cases_lt k i) [
+  | inl y ↦ or_right (int_eq (get_or c k (pos 0)) l) (false_at trail c k) (before k y)
+  | inr y ↦ elim (cases_eq k i) [
+    | inl z ↦ or_left (int_eq (get_or c k (pos 0)) l) (false_at trail c k)
+        (same_true (get_or c k (pos 0)) l (ap (λ (n : ℕ). get_or c n (pos 0)) z ∙ sym (get_or_read c i l lt e (pos 0))))
+    | inr z ↦ after k (omega (arith, y, z)) within
+  ]
+])
 
-pub clause_of : (clauses : List Held) (path : Path) (w : State) (place : ℕ) → IsState clauses path w → place < length clauses → is_clause path.vars (clause_at_place clauses place).lits ≡ true
-clause_of clauses path w place h lt =
-    let whole = all_at (λ (c : Held). not (is_empty c.lits) && is_clause path.vars c.lits) clauses place (record { number = 0; lits = [] }) h.held.clauses lt in
+pub clause_of : (clauses : List NumberedClause) (path : Path) (s : State) (place : ℕ) → IsState clauses path s → place < length clauses → is_clause path.vars (clause_at_place clauses place).lits ≡ true
+clause_of clauses path s place h lt =
+    let whole = all_at (λ (c : NumberedClause). not (is_empty c.lits) && is_clause path.vars c.lits) clauses place (record { number = 0; lits = [] }) h.propagation.clauses lt in
     (and_true (not (is_empty (clause_at_place clauses place).lits)) (is_clause path.vars (clause_at_place clauses place).lits) whole).1
 
+pub literals_of_clause : (vars : ℕ) (c : List ℤ) → is_clause vars c ≡ true → list_all (is_literal vars) c ≡ true
+literals_of_clause vars c h = (and_true (list_all (is_literal vars) c) _ h).0
+
 pub literal_of_clause : (vars : ℕ) (c : List ℤ) (l : ℤ) → is_clause vars c ≡ true → contains c l ≡ true → is_literal vars l ≡ true
-literal_of_clause vars c l h there = passes_each (is_literal vars) c l (and_true (list_all (is_literal vars) c) _ h).0 there
+literal_of_clause vars c l h there = passes_each (is_literal vars) c l (literals_of_clause vars c h) there
 
-pub stands_watching : (clauses : List Held) (path : Path) (w : State) (place : ℕ) (l : ℤ) → IsState clauses path w → place < length clauses
-    → watches_it (watch_at w.watches.items place) l ≡ true → Stands clauses path w place l
-stands_watching clauses path w place l h lt it =
-    let x = watch_at w.watches.items place in
-    let c = clause_of clauses path w place h lt in
-    let watched = h.watching.linked.watched place lt in
-    let beside : contains (clause_at_place clauses place).lits (beside_of x l) ≡ true = by x (one_of x l it) watched.first watched.second in
-    record { clause = c; it = it; beside_there = beside; beside_literal = literal_of_clause path.vars (clause_at_place clauses place).lits (beside_of x l) c beside }
-  where
-    by : (x : Watch) → IsOneOf x l → contains (clause_at_place clauses place).lits x.first ≡ true → contains (clause_at_place clauses place).lits x.second ≡ true
-        → contains (clause_at_place clauses place).lits (beside_of x l) ≡ true
-    by x (first a b) f s = subst (λ (k : ℤ). contains (clause_at_place clauses place).lits k ≡ true) (sym b) s
-    by x (second a b) f s = subst (λ (k : ℤ). contains (clause_at_place clauses place).lits k ≡ true) (sym b) f
+-- A CLAUSE THAT STANDS IN THE LIST OF A FALSE LITERAL
 
-pub stands : (clauses : List Held) (path : Path) (w : State) (place : ℕ) (l : ℤ) (at : ℕ) → IsState clauses path w → place < length clauses → is_literal path.vars l ≡ true
-    → at < length (watching w.lists.lists l) → get_or (watching w.lists.lists l) at 0 ≡ place → Stands clauses path w place l
-stands clauses path w place l at h lt lit within there =
-    let member : among (watching w.lists.lists l) place ≡ true = subst (λ (p : ℕ). among (watching w.lists.lists l) p ≡ true) there (among_at (watching w.lists.lists l) at 0 within) in
-    stands_watching clauses path w place l h lt ((h.watching.linked.listed l lit).watched place member)
+-- it stands at a place of the list of the literal whose complement is to be passed on
+pub record Called (clauses : List NumberedClause) (path : Path) (s : State) (place : ℕ) (l : ℤ) (at : ℕ) : Type 0 where
+  pub state : IsState clauses path s
+  pub literal : is_literal path.vars l ≡ true
+  pub within : at < length (watchers s.lists.lists l)
+  pub stands : get_or (watchers s.lists.lists l) at 0 ≡ place
+  pub at_head : IsAtHead path.entries s.head l
+
+pub stands_there : (clauses : List NumberedClause) (path : Path) (s : State) (place : ℕ) (l : ℤ) (at : ℕ) → Called clauses path s place l at
+    → InList path.vars clauses s.watches.items s.lists s.waiting.items l place
+stands_there clauses path s place l at c =
+    in_list path.vars clauses s.watches.items s.lists s.waiting.items l place c.state.known.linked c.literal
+    (subst (λ (p : ℕ). among (watchers s.lists.lists l) p ≡ true) c.stands (among_at (watchers s.lists.lists l) at 0 c.within))
+
+pub other_literal : (clauses : List NumberedClause) (path : Path) (s : State) (place : ℕ) (l : ℤ) (at : ℕ) → Called clauses path s place l at
+    → is_literal path.vars (other_of (watch_at s.watches.items place) l) ≡ true
+other_literal clauses path s place l at c =
+    let i = stands_there clauses path s place l at c in
+    literal_of_clause path.vars (clause_at_place clauses place).lits (other_of (watch_at s.watches.items place) l) (clause_of clauses path s place c.state i.within) i.has_other
 
 -- ANOTHER LITERAL WATCHED
 
-pub record Asks (trail : List Entry) (c : List ℤ) (l b r : ℤ) : Type 0 where
-  pub there : contains c r ≡ true
-  pub apart : int_eq r b ≡ false
-  pub free : false_in trail r ≡ false
-  pub no_beside : true_in trail b ≡ false
-  pub why : (int_eq l b || false_in trail l) ≡ true
-
-pub asks : (trail : List Entry) (c : List ℤ) (l b r : ℤ) (n : ℕ) → IsDemand trail c l b (Watching r n) → Asks trail c l b r
-asks trail c l b r n h =
-    let p = and_true _ (int_eq l b || false_in trail l) h in
-    let q = and_true _ (not (true_in trail b)) p.0 in
-    let s = and_true _ (not (false_in trail r)) q.0 in
-    let t = and_true (contains c r) (not (int_eq r b)) s.0 in
-    record { there = t.0; apart = not_true _ t.1; free = not_true _ s.1; no_beside = not_true _ q.1; why = p.1 }
-
--- l is not the literal that comes to be watched
-not_asked : (trail : List Entry) (c : List ℤ) (l b r : ℤ) → Asks trail c l b r → r ≢ l
-not_asked trail c l b r a e = elim (or_true (int_eq l b) (false_in trail l) a.why) [
-  | inl y ↦ (let f : true ≡ false = sym (subst (λ (k : ℤ). int_eq k b ≡ true) (sym e) y) ∙ a.apart in let z : ⊥ = cc in z)
-  | inr y ↦ (let f : true ≡ false = sym (subst (λ (k : ℤ). false_in trail k ≡ true) (sym e) y) ∙ a.free in let z : ⊥ = cc in z)
-]
-
-pub moves : (clauses : List Held) (path : Path) (w : State) (place : ℕ) (l r : ℤ) (n at : ℕ) → IsState clauses path w → place < length clauses → is_literal path.vars l ≡ true
-    → at < length (watching w.lists.lists l) → get_or (watching w.lists.lists l) at 0 ≡ place
-    → IsDemand path.entries (clause_at_place clauses place).lits l (beside_of (watch_at w.watches.items place) l) (Watching r n)
-    → Moves path.vars clauses w.watches.items w.lists place l r at
-moves clauses path w place l r n at h lt lit within there d =
-    let s = stands clauses path w place l at h lt lit within there in
-    let c = (clause_at_place clauses place).lits in
-    let b = beside_of (watch_at w.watches.items place) l in
-    let a = asks path.entries c l b r n d in
+pub moves : (clauses : List NumberedClause) (path : Path) (s : State) (place : ℕ) (l r : ℤ) (n at : ℕ) → Called clauses path s place l at
+    → IsDemand path.entries (clause_at_place clauses place).lits (other_of (watch_at s.watches.items place) l) (Move r n)
+    → IsMove path.vars clauses s.watches.items s.lists s.waiting.items place l r at
+moves clauses path s place l r n at c d =
+    let i = stands_there clauses path s place l at c in
+    let b = other_of (watch_at s.watches.items place) l in
     record {
-      linked = h.watching.linked;
-      in_clauses = lt;
-      from = lit;
-      to = literal_of_clause path.vars c r s.clause a.there;
-      within = within;
-      stands = there;
-      holds = a.there;
-      not_it = not_asked path.entries c l b r a;
-      not_beside = false_apart r b a.apart;
+      linked = c.state.known.linked;
+      from = c.literal;
+      to = literal_of_clause path.vars (clause_at_place clauses place).lits r (clause_of clauses path s place c.state i.within) d.0;
+      within = c.within;
+      stands = c.stands;
+      has_it = d.0;
+      not_it = λ e. (let f : true ≡ false = sym (subst (λ (k : ℤ). false_in path.entries k ≡ true) (sym e) (head_false path.entries s.head l c.at_head)) ∙ not-true _ d.2 in let z : ⊥ = cc in z);
+      not_other = false_apart r b (not-true _ d.1);
     }
 
-pub may_move : (clauses : List Held) (path : Path) (w : State) (place : ℕ) (l r : ℤ) (n : ℕ) → IsState clauses path w → is_literal path.vars l ≡ true
-    → watches_it (watch_at w.watches.items place) l ≡ true → (place < w.checked → IsAtHead path.entries w.head l)
-    → IsDemand path.entries (clause_at_place clauses place).lits l (beside_of (watch_at w.watches.items place) l) (Watching r n)
-    → MayMove path.entries w place l r
-may_move clauses path w place l r n h lit it passing d =
-    let c = (clause_at_place clauses place).lits in
-    let b = beside_of (watch_at w.watches.items place) l in
-    let a = asks path.entries c l b r n d in
-    let bounds = literal_bounds path.vars l lit in
+pub may_move : (clauses : List NumberedClause) (path : Path) (s : State) (place : ℕ) (l r : ℤ) (n at : ℕ) → Called clauses path s place l at
+    → IsDemand path.entries (clause_at_place clauses place).lits (other_of (watch_at s.watches.items place) l) (Move r n) → MayMove path.entries s place l r
+may_move clauses path s place l r n at c d =
+    let i = stands_there clauses path s place l at c in
+    let bounds = literal_bounds path.vars l c.literal in
     record {
-      it = it;
-      not_true = λ under. no_sign_twice path.vars path.entries l (trail_path path.vars clauses path.entries h.held.trail) (omega (arith, bounds.0))
-          (head_false path.entries w.head l (passing under));
-      free = a.free;
-      apart = a.apart;
+      it = i.it;
+      no_truth = no_sign_twice path.vars path.entries l (trail_path path.vars clauses path.entries c.state.propagation.trail) (omega (arith, bounds.0))
+          (head_false path.entries s.head l c.at_head);
+      free = not-true _ d.2;
     }
 
 -- A LITERAL FORCED
 
-pub may_come_of : (vars : ℕ) (clauses : List Held) (trail : List Entry) (e : Entry) → may_follow vars clauses trail e ≡ true → may_come vars trail e ≡ true
+pub may_come_of : (vars : ℕ) (clauses : List NumberedClause) (trail : List Entry) (e : Entry) → may_follow vars clauses trail e ≡ true → may_come vars trail e ≡ true
 may_come_of vars clauses trail e h = (and_true (may_come vars trail e) _ h).0
 
-pub forced : (clauses : List Held) (path : Path) (w : State) (place : ℕ) (l b : ℤ) (e : Entry) → IsState clauses path w → place < length clauses → Stands clauses path w place l
-    → b ≡ beside_of (watch_at w.watches.items place) l → IsDemand path.entries (clause_at_place clauses place).lits l b (Truth e.lit)
-    → e.level ≡ present_level path.entries → e.reason ≡ Some (clause_at_place clauses place).number → may_follow path.vars clauses path.entries e ≡ true
-forced clauses path w place l b e h lt s same d level reason =
-    let c = (clause_at_place clauses place).lits in
-    let p = and_true _ (list_all (λ k. int_eq k b || false_in path.entries k) c) d.1 in
-    let q = and_true (not (true_in path.entries b)) (not (false_in path.entries b)) p.0 in
-    let back : (P : ℤ → Type 0) → P b → P e.lit = λ P x. subst P (sym d.0) x in
-    may_force path.vars clauses path.entries place e h.held.numbers lt
-    (back (λ k. is_literal path.vars k ≡ true) (subst (λ (k : ℤ). is_literal path.vars k ≡ true) (sym same) s.beside_literal))
-    (back (λ k. true_in path.entries k ≡ false) (not_true _ q.0))
-    (back (λ k. false_in path.entries k ≡ false) (not_true _ q.1))
-    (back (λ k. contains c k ≡ true) (subst (λ (k : ℤ). contains c k ≡ true) (sym same) s.beside_there))
-    (back (λ k. list_all (λ i. int_eq i k || false_in path.entries i) c ≡ true) p.1)
-    level reason
+-- a clause that has a literal which is not false, where each other one is
+pub record Forces (clauses : List NumberedClause) (path : Path) (place : ℕ) (l : ℤ) : Type 0 where
+  pub in_clauses : place < length clauses
+  pub has_it : contains (clause_at_place clauses place).lits l ≡ true
+  pub free : false_in path.entries l ≡ false
+  pub others : all_false_but path.entries (clause_at_place clauses place).lits l ≡ true
+
+forced_literal : (clauses : List NumberedClause) (path : Path) (s : State) (place : ℕ) (l : ℤ) → IsState clauses path s → Forces clauses path place l → is_literal path.vars l ≡ true
+forced_literal clauses path s place l h f = literal_of_clause path.vars (clause_at_place clauses place).lits l (clause_of clauses path s place h f.in_clauses) f.has_it
+
+forced_follows : (clauses : List NumberedClause) (path : Path) (s : State) (place : ℕ) (l : ℤ) (number : ℕ) → IsState clauses path s → Forces clauses path place l
+    → number ≡ (clause_at_place clauses place).number → true_in path.entries l ≡ false → may_follow path.vars clauses path.entries (forced_entry path.entries l number) ≡ true
+forced_follows clauses path s place l number h f is t =
+    may_force path.vars clauses path.entries place (forced_entry path.entries l number) h.propagation.numbers f.in_clauses (forced_literal clauses path s place l h f) t f.free f.has_it f.others
+    refl (ap Some is)
+
+-- it is one over the variables, and may come if it is not true
+pub record MayForce (clauses : List NumberedClause) (path : Path) (l : ℤ) (number : ℕ) : Type 0 where
+  pub literal : is_literal path.vars l ≡ true
+  pub comes : (true_in path.entries l || may_come path.vars path.entries (forced_entry path.entries l number)) ≡ true
+
+pub may_be_forced : (clauses : List NumberedClause) (path : Path) (s : State) (place : ℕ) (l : ℤ) (number : ℕ) → IsState clauses path s → Forces clauses path place l
+    → number ≡ (clause_at_place clauses place).number → MayForce clauses path l number
+may_be_forced clauses path s place l number h f is = record {
+  literal = forced_literal clauses path s place l h f;
+  comes = elim (cases_Bool (true_in path.entries l)) [
+    | inl y ↦ or_left (true_in path.entries l) _ y
+    | inr y ↦ or_right (true_in path.entries l) _ (may_come_of path.vars clauses path.entries (forced_entry path.entries l number) (forced_follows clauses path s place l number h f is y))
+  ];
+}
+
+last_true : (trail : List Entry) (e : Entry) → true_in (trail ++ e ∷ []) e.lit ≡ true
+last_true [] e = or_left (int_eq e.lit e.lit) false (same_true e.lit e.lit refl)
+last_true (d ∷ trail) e = or_right (int_eq e.lit d.lit) (true_in (trail ++ e ∷ []) e.lit) (last_true trail e)
+
+-- what comes of it: the literal is true
+pub record IsForced (clauses : List NumberedClause) (path path' : Path) (s : State) (l : ℤ) : Type 0 where
+  pub leads : Leads clauses path path' s s
+  pub truth : true_in path'.entries l ≡ true
+
+pub forced : (clauses : List NumberedClause) (path path' : Path) (s : State) (place : ℕ) (l : ℤ) (number : ℕ) → IsState clauses path s → Forces clauses path place l
+    → number ≡ (clause_at_place clauses place).number → path' ≡ with_forced path l number → IsForced clauses path path' s l
+forced clauses path path' s place l number h f is made = elim (cases_Bool (true_in path.entries l)) [
+  | inl y ↦ subst (λ (p : Path). IsForced clauses path p s l) (sym (made ∙ ap (λ (b : Bool). cond b path longer) y)) (record { leads = stays_leads clauses path s h; truth = y })
+  | inr y ↦ subst (λ (p : Path). IsForced clauses path p s l) (sym (made ∙ ap (λ (b : Bool). cond b path longer) y)) (record {
+    leads = forced_leads clauses path longer s (forced_entry path.entries l number) number h (forced_follows clauses path s place l number h f is y) refl refl refl;
+    truth = last_true path.entries (forced_entry path.entries l number);
+  })
+]
+  where
+    longer : Path
+    longer = record path { entries = path.entries ++ forced_entry path.entries l number ∷ [] }

@@ -1,19 +1,20 @@
 mod Paths
 mod Truths
-mod Trails
+mod Lists
+pub mod Trails
 mod Upheld
 mod States
 mod Settling
-mod Lists
-mod Holders
+mod Counts
 mod Linking
+mod Listing
 mod Demands
 mod Answering
+mod Looking
 mod Roomy
 mod Passing
 mod Quiet
-mod Checking
-mod Beginnings
+pub mod Beginnings
 mod Assigning
 mod Retracting
 mod Holding

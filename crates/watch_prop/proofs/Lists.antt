@@ -1,15 +1,14 @@
 -- Lists of numbers: how often a number stands in one, and what becomes of them when a number comes or goes.
-use Rattle.std.proofs.Common.{◌≡◌, ◌≢◌, ℕ, zero, suc, ◌+◌, ◌-◌, ◌<◌, ◌≤◌, Bool, true, false, cond, not, ◌||◌, ◌==◌, List, [], ◌∷◌, ◌++◌, refl, sym, ◌∙◌, ap, arith, length, take, drop, filter, get_or, set, inl, inr}
+use Rattle.std.proofs.Common.{◌≡◌, ◌≢◌, ℕ, zero, suc, ◌+◌, ◌-◌, ◌<◌, ◌≤◌, Bool, true, false, cond, not, ◌||◌, ◌==◌, List, [], ◌∷◌, ◌++◌, refl, sym, ◌∙◌, ap, arith, subst, length, take, drop, filter, get_or, set, get_or-set_other, inl, inr, ◌⊎◌}
 use Rattle.std.specs.List.{swap_remove}
-use Rattle.std.proofs.lemmas.Bool.{cases_lt, eqb-true, eq-eqb, ne_eqb, false_from_ne_true}
-use Rattle.std.proofs.lemmas.List.{length-take-le, length-set}
+use Rattle.std.proofs.lemmas.Bool.{cases_lt, cases_eq, eqb-true, eq-eqb, ne_eqb, false_from_ne_true, not-true}
+use Rattle.std.proofs.lemmas.List.{length-take-le, length-set, get_or-take, get_or_default}
 use Rattle.lk_model.specs.Lists.{among}
-use Rattle.lk_model.proofs.Booleans.{and_true, or_left, or_right}
+use Rattle.lk_model.proofs.Booleans.{and_true, or_true, or_left, or_right}
 use Rattle.lk_model.proofs.Counting.{Differ, no_more}
-use Rattle.watch_prop.specs.declared.entry.Held.{Held}
+use Rattle.watch_prop.specs.declared.entry.NumberedClause.{NumberedClause}
 use Rattle.watch_prop.specs.Propagation.{are_distinct}
 use Rattle.watch_prop.specs.Linked.{clause_at_place}
-use Rattle.watch_prop.proofs.Trails.{not_true}
 
 -- HOW OFTEN A NUMBER STANDS IN A LIST
 
@@ -54,6 +53,10 @@ no_times xs p h = elim (cases_lt 0 (times xs p)) [
   | inr y ↦ omega arith
 ]
 
+pub one_most : (b : Bool) → one b ≤ 1
+one_most true = omega arith
+one_most false = omega arith
+
 pub one_same : (n : ℕ) → one (n == n) ≡ 1
 one_same n = ap one (eq-eqb n n refl)
 
@@ -67,7 +70,7 @@ unfolding times
 at_most_once [] p h = omega arith
 at_most_once (x ∷ xs) p h =
     let both = and_true (not (among xs x)) (are_distinct xs) h in
-    at (x == p) refl (at_most_once xs p both.1) (no_times xs x (not_true (among xs x) both.0))
+    at (x == p) refl (at_most_once xs p both.1) (no_times xs x (not-true (among xs x) both.0))
   where
     at : (b : Bool) → (x == p) ≡ b → times xs p ≤ 1 → times xs x ≡ 0 → one b + times xs p ≤ 1
     at true e le none = let same : times xs x ≡ times xs p = ap (λ (k : ℕ). times xs k) (eqb-true x p e) in omega arith
@@ -85,7 +88,7 @@ pub differ : (xs : List ℕ) → are_distinct xs ≡ true → Differ xs
 differ [] h = Differ.none
 differ (x ∷ xs) h =
     let both = and_true (not (among xs x)) (are_distinct xs) h in
-    Differ.more x xs (not_true (among xs x) both.0) (differ xs both.1)
+    Differ.more x xs (not-true (among xs x) both.0) (differ xs both.1)
 
 -- what stands at a place
 pub among_at : (xs : List ℕ) (at d : ℕ) → at < length xs → among xs (get_or xs at d) ≡ true
@@ -130,6 +133,65 @@ times-swap_remove xs at d p lt = cut_times (length xs - 1) xs at d p (omega arit
 pub times-rest : (xs : List ℕ) (at d p : ℕ) → at < length xs → times (drop at (swap_remove xs at d)) p + one (get_or xs at d == p) ≡ times (drop at xs) p
 times-rest xs at d p lt = cut_rest (length xs - 1) xs at d p (omega arith) (omega arith)
 
+-- what stands before the place stays there
+pub swap_remove_before : (xs : List ℕ) (at d k : ℕ) → at < length xs → k < at → get_or (swap_remove xs at d) k 0 ≡ get_or xs k 0
+swap_remove_before xs at d k lt before =
+    let last = get_or xs (length xs - 1) d in
+    get_or-take (length xs - 1) (set xs at last) k 0 (omega arith) ∙ get_or-set_other xs at k last 0 (omega arith)
+
+-- a list without a number twice, and what it is without the number at a place
+pub record AreLeft (xs ys : List ℕ) (p : ℕ) : Type 0 where
+  pub distinct : are_distinct ys ≡ true
+  pub gone : among ys p ≡ false
+  pub were : (q : ℕ) → among ys q ≡ true → among xs q ≡ true
+  pub stay : (q : ℕ) → q ≢ p → among ys q ≡ false → among xs q ≡ false
+
+pub are_left : (xs : List ℕ) (at p : ℕ) → are_distinct xs ≡ true → at < length xs → get_or xs at 0 ≡ p → AreLeft xs (swap_remove xs at p) p
+are_left xs at p d lt e =
+    let ys = swap_remove xs at p in
+    let here : get_or xs at p ≡ p = get_or_default xs at p 0 lt ∙ e in
+    let less : (q : ℕ) → times ys q + one (p == q) ≡ times xs q =
+    λ q. ap (λ (k : ℕ). times ys q + one (k == q)) (sym here) ∙ times-swap_remove xs at p q lt in
+    record {
+      distinct = distinct_from_times ys (λ q. let l = less q in let u = at_most_once xs q d in omega arith);
+      gone = false_from_ne_true (among ys p) (λ t. let l = less p in let u = at_most_once xs p d in let o = one_same p in let s = some_times ys p t in let z : ⊥ = absurd (omega arith) in z);
+      were = λ q t. let l = less q in let s = some_times ys q t in among_some xs q (omega arith);
+      stay = λ q n f. false_from_ne_true (among xs q) (λ t. let l = less q in let o = one_apart p q n in let s = some_times xs q t in
+          let g : true ≡ false = sym (among_some ys q (omega arith)) ∙ f in let z : ⊥ = cc in z);
+    }
+
+-- where a number stands
+pub record IsPlaceOf (xs : List ℕ) (p : ℕ) : Type 0 where
+  pub at : ℕ
+  pub within : at < length xs
+  pub there : get_or xs at 0 ≡ p
+
+pub place_of : (xs : List ℕ) (p : ℕ) → among xs p ≡ true → IsPlaceOf xs p
+place_of [] p h = absurd (let f : ⊥ = cc in f)
+place_of (x ∷ xs) p h = elim (or_true (x == p) (among xs p) h) [
+  | inl y ↦ record { at = 0; within = omega arith; there = eqb-true x p y }
+  | inr y ↦ (let r = place_of xs p y in record { at = suc r.at; within = (let w = r.within in omega arith); there = r.there })
+]
+
+-- one number more
+pub distinct_push : (xs : List ℕ) (n : ℕ) → are_distinct xs ≡ true → among xs n ≡ false → are_distinct (xs ++ n ∷ []) ≡ true
+distinct_push xs n d out = distinct_from_times (xs ++ n ∷ []) (λ p. let t = times-push xs n p in elim (cases_eq p n) [
+  | inl y ↦ (let none : times xs p ≡ 0 = subst (λ (k : ℕ). times xs k ≡ 0) (sym y) (no_times xs n out) in let o = one_most (n == p) in omega arith)
+  | inr y ↦ (let o = one_apart n p y in let m = at_most_once xs p d in omega arith)
+])
+
+pub in_push : (xs : List ℕ) (n p : ℕ) → among xs p ≡ true → among (xs ++ n ∷ []) p ≡ true
+in_push xs n p h = let t = times-push xs n p in let s = some_times xs p h in among_some (xs ++ n ∷ []) p (omega arith)
+
+pub pushed_there : (xs : List ℕ) (n : ℕ) → among (xs ++ n ∷ []) n ≡ true
+pushed_there xs n = let t = times-push xs n n in let s = one_same n in among_some (xs ++ n ∷ []) n (omega arith)
+
+pub from_push : (xs : List ℕ) (n p : ℕ) → among (xs ++ n ∷ []) p ≡ true → (among xs p ≡ true) ⊎ (p ≡ n)
+from_push xs n p h = elim (cases_eq p n) [
+  | inl y ↦ inr y
+  | inr y ↦ inl (let t = times-push xs n p in let s = some_times (xs ++ n ∷ []) p h in let o = one_apart n p y in among_some xs p (omega arith))
+]
+
 pub length-swap_remove : (xs : List ℕ) (at d : ℕ) → at < length xs → length (swap_remove xs at d) + 1 ≡ length xs
 length-swap_remove xs at d lt =
     let last = get_or xs (length xs - 1) d in
@@ -140,11 +202,11 @@ length-swap_remove xs at d lt =
 -- NO MORE PLACES THAN CLAUSES
 
 -- the places of the clauses that pass, from one on
-places : (Held → Bool) → ℕ → List Held → List ℕ
+places : (NumberedClause → Bool) → ℕ → List NumberedClause → List ℕ
 places t n [] = []
 places t n (c ∷ clauses) = cond (t c) (n ∷ places t (suc n) clauses) (places t (suc n) clauses)
 
-places_length : (t : Held → Bool) (n : ℕ) (clauses : List Held) → length (places t n clauses) ≡ length (filter t clauses)
+places_length : (t : NumberedClause → Bool) (n : ℕ) (clauses : List NumberedClause) → length (places t n clauses) ≡ length (filter t clauses)
 unfolding places
 places_length t n [] = refl
 places_length t n (c ∷ clauses) = at (t c) (places_length t (suc n) clauses)
@@ -154,7 +216,7 @@ places_length t n (c ∷ clauses) = at (t c) (places_length t (suc n) clauses)
     at true h = ap suc h
     at false h = h
 
-in_places : (t : Held → Bool) (n : ℕ) (clauses : List Held) (place q : ℕ) → place < length clauses → t (clause_at_place clauses place) ≡ true → n + place ≡ q
+in_places : (t : NumberedClause → Bool) (n : ℕ) (clauses : List NumberedClause) (place q : ℕ) → place < length clauses → t (clause_at_place clauses place) ≡ true → n + place ≡ q
     → among (places t n clauses) q ≡ true
 unfolding places
 in_places t n [] place q lt h e = absurd (omega arith)
@@ -167,13 +229,13 @@ in_places t n (c ∷ clauses) (suc place) q lt h e = at (t c) (in_places t (suc 
     at true h = or_right (n == q) (among (places t (suc n) clauses) q) h
     at false h = h
 
-pub record ArePlaces (t : Held → Bool) (clauses : List Held) (ps : List ℕ) : Type 0 where
+pub record ArePlaces (t : NumberedClause → Bool) (clauses : List NumberedClause) (ps : List ℕ) : Type 0 where
   pub distinct : are_distinct ps ≡ true
   pub within : (p : ℕ) → among ps p ≡ true → p < length clauses
   pub pass : (p : ℕ) → among ps p ≡ true → t (clause_at_place clauses p) ≡ true
 
 -- distinct places of clauses that pass are no more than the clauses that pass
-pub no_more_places : (t : Held → Bool) (clauses : List Held) (ps : List ℕ) → ArePlaces t clauses ps → length ps ≤ length (filter t clauses)
+pub no_more_places : (t : NumberedClause → Bool) (clauses : List NumberedClause) (ps : List ℕ) → ArePlaces t clauses ps → length ps ≤ length (filter t clauses)
 no_more_places t clauses ps h =
     let n = no_more (λ (p : ℕ). p) ps (places t 0 clauses) (differ ps h.distinct) (record {
       into = λ p e. in_places t 0 clauses p p (h.within p e) (h.pass p e) (omega arith);

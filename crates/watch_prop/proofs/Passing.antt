@@ -1,34 +1,36 @@
 -- The literal at the head of the trail, passed on to the clauses that watch its complement.
-use Rattle.std.proofs.Common.{◌≡◌, ◌≢◌, ◌∙◌, ℕ, zero, suc, ◌+◌, ◌<◌, ◌≤◌, ◌==◌, ◌++◌, ◌∷◌, [], true, false, not, List, ℤ, pos, negsuc, Some, None, Option, unwrap_or, option_map, length, length-append, drop, take, get_or, refl, sym, ap, subst, arith, inl, inr, ◌⊎◌}
+use Rattle.std.proofs.Common.{◌≡◌, ◌≢◌, ◌∙◌, ℕ, zero, suc, ◌+◌, ◌-◌, ◌<◌, ◌≤◌, ◌==◌, ◌++◌, ◌∷◌, [], true, false, not, List, ℤ, pos, negsuc, Some, None, Option, unwrap_or, option_map, length, length-append, drop, take, get_or, refl, sym, ap, subst, arith, inl, inr, ◌⊎◌, Vec}
+use Rattle.std.specs.declared.alloc.Global.{Global}
 use Rattle.std.specs.Option.{option_map_or}
 use Rattle.std.specs.List.{list_all}
 use Rattle.std.specs.Ordering.{int_eq}
-use Rattle.std.proofs.lemmas.Bool.{cases_Bool, eqb-true, eq-eqb, false_from_ne_true}
+use Rattle.std.proofs.lemmas.Bool.{cases_Bool, cases_eq, eqb-true, eq-eqb, false_from_ne_true}
 use Rattle.std.proofs.lemmas.List.{take-append-le}
 use Rattle.lk_model.specs.Lists.{among}
-use Rattle.lk_model.specs.Literal.{variable, complement, is_literal, is_positive}
-use Rattle.lk_model.specs.Assignment.{makes_true}
+use Rattle.lk_model.specs.Formulas.Literal.{variable, complement, is_literal, is_positive}
+use Rattle.lk_model.specs.Formulas.Assignment.{makes_true}
 use Rattle.lk_model.proofs.Booleans.{and_true, or_true, or_false}
 use Rattle.lk_model.proofs.Ranks.{literal_bounds}
 use Rattle.lk_model.proofs.Flags.{same_false}
 use Rattle.watch_prop.specs.declared.entry.Entry.{Entry}
-use Rattle.watch_prop.specs.declared.entry.Held.{Held}
+use Rattle.watch_prop.specs.declared.entry.NumberedClause.{NumberedClause}
 use Rattle.watch_prop.specs.declared.watch.Watch.{Watch}
-use Rattle.watch_prop.specs.declared.watching.Watching.{Watching as State}
-use Rattle.watch_prop.specs.declared.watching.Settled.{Settled}
-use Rattle.watch_prop.specs.declared.watching.Settled.TheVariants.{Stays, Leaves}
-use Rattle.watch_prop.specs.Trail.{Path, literals_of, true_in, false_in, entry_of, assignment_along, clause_held, may_come, is_path}
+use Rattle.watch_prop.specs.declared.state.State.{State}
+use Rattle.watch_prop.specs.declared.state.Settled.{Settled}
+use Rattle.watch_prop.specs.declared.state.Settled.TheVariants.{Stays, Moves}
+use Rattle.watch_prop.specs.Trail.{Path, literals_of, true_in, false_in, entry_of, assignment_along, clause_numbered, may_come, is_path}
 use Rattle.watch_prop.specs.Watch.{is_upheld}
-use Rattle.watch_prop.specs.Watchers.{watching}
+use Rattle.watch_prop.specs.Watchers.{watchers}
 use Rattle.watch_prop.specs.Linked.{clause_at_place, watch_at, watches_it}
 use Rattle.watch_prop.specs.Propagation.{assigned, is_false}
-use Rattle.watch_prop.specs.Watching.{IsState, IsWatching, IsAtHead, Settles, Leads, propagation_of}
+use Rattle.watch_prop.specs.States.{IsState, IsKnown, IsAtHead, Settles, Leads, propagation_of, unseen}
 use Rattle.watch_prop.proofs.Truths.{ComeAfter, true_by_entry, true_same, same_true, complement_twice, variable_complement}
 use Rattle.watch_prop.proofs.Trails.{trail_path, entry_there, found_by_number}
 use Rattle.watch_prop.proofs.Upheld.{free, upheld_first, upheld_second, upheld_free, upheld_more}
-use Rattle.watch_prop.proofs.States.{leads_then, stays_leads, same_state}
-use Rattle.watch_prop.proofs.Settling.{up_to_head, literal_there, passed_stays, passed_leaves}
-use Rattle.watch_prop.proofs.Demands.{clause_of}
+use Rattle.watch_prop.proofs.States.{leads_then, stays_leads}
+use Rattle.watch_prop.proofs.Linking.{InList, in_list}
+use Rattle.watch_prop.proofs.Settling.{up_to_head, literal_there, passed_stays, passed_moves}
+use Rattle.watch_prop.proofs.Demands.{clause_of, literals_of_clause}
 use Rattle.watch_prop.proofs.Lists.{among_at}
 
 -- A FALSE CLAUSE
@@ -67,14 +69,14 @@ false_along vars trail (l ∷ c) h lits all =
     rw (makes_true_along vars trail (complement l) h low, here.0) (false_along vars trail c h lit.1 here.1)
 
 -- the clause of the number is false
-pub conflict_named : (clauses : List Held) (path : Path) (w : State) (place number : ℕ) → IsState clauses path w → place < length clauses → number ≡ (clause_at_place clauses place).number
+pub conflict_named : (clauses : List NumberedClause) (path : Path) (s : State) (place number : ℕ) → IsState clauses path s → place < length clauses → number ≡ (clause_at_place clauses place).number
     → list_all (false_in path.entries) (clause_at_place clauses place).lits ≡ true
-    → option_map_or (is_false (assigned (propagation_of clauses path))) (clause_held clauses number) false ≡ true
-conflict_named clauses path w place number h lt same all =
-    let found : clause_held clauses number ≡ Some (clause_at_place clauses place).lits = ap (clause_held clauses) same ∙ found_by_number clauses place h.held.numbers lt in
+    → option_map_or (is_false (assigned (propagation_of clauses path))) (clause_numbered clauses number) false ≡ true
+conflict_named clauses path s place number h lt same all =
+    let found : clause_numbered clauses number ≡ Some (clause_at_place clauses place).lits = ap (clause_numbered clauses) same ∙ found_by_number clauses place h.propagation.numbers lt in
     let c = (clause_at_place clauses place).lits in
-    let is_clause : list_all (is_literal path.vars) c ≡ true = (and_true (list_all (is_literal path.vars) c) _ (clause_of clauses path w place h lt)).0 in
-    rw found (false_along path.vars path.entries c (trail_path path.vars clauses path.entries h.held.trail) is_clause all)
+    let is_clause : list_all (is_literal path.vars) c ≡ true = literals_of_clause path.vars c (clause_of clauses path s place h lt) in
+    rw found (false_along path.vars path.entries c (trail_path path.vars clauses path.entries h.propagation.trail) is_clause all)
 
 -- LITERALS OF A PATH
 
@@ -96,15 +98,15 @@ complement_literal vars k h = rw (variable_complement k) h
 
 -- PASSING ON
 
--- what holds while the clauses that watch l are settled, of which those from `at` on are left
-pub record IsPassing (clauses : List Held) (path path' : Path) (w w' : State) (l : ℤ) (at : ℕ) : Type 0 where
-  pub leads : Leads clauses path path' w w'
-  pub checked : w'.checked ≡ w.checked
-  pub head : w'.head ≡ w.head
-  pub at_head : IsAtHead path'.entries w'.head l
+-- what holds while the watchers of l are settled, of which those from `at` on are left
+pub record IsPassing (clauses : List NumberedClause) (path path' : Path) (s s' : State) (l : ℤ) (at : ℕ) : Type 0 where
+  pub leads : Leads clauses path path' s s'
+  pub count : unseen s' ≡ unseen s
+  pub head : s'.head ≡ s.head
+  pub at_head : IsAtHead path'.entries s'.head l
   pub literal : is_literal path'.vars l ≡ true
-  pub passed : (p : ℕ) → p < w'.checked → (is_upheld path'.entries (take (suc w'.head) path'.entries) (watch_at w'.watches.items p) ≡ true)
-      ⊎ (among (drop at (watching w'.lists.lists l)) p ≡ true)
+  pub passed : (p : ℕ) → p < length clauses → not (among s'.waiting.items p) ≡ true
+      → (is_upheld path'.entries (take (suc s'.head) path'.entries) (watch_at s'.watches.items p) ≡ true) ⊎ (among (drop at (watchers s'.lists.lists l)) p ≡ true)
 
 -- a watch without the literal is upheld also behind the head
 passed_by : (trail : List Entry) (head : ℕ) (x : Watch) (l : ℤ) → IsAtHead trail head l → is_upheld trail (take head trail) x ≡ true → watches_it x l ≡ false
@@ -116,7 +118,7 @@ passed_by trail head x l at_head h apart = elim (cases_Bool (true_in trail x.fir
     | inr b ↦
         let f = free trail (take head trail) x h a b in
         let ns = or_false (int_eq l x.first) (int_eq l x.second) apart in
-        upheld_free trail (take (suc head) trail) x f.two (still x.first f.first ns.0) (still x.second f.second ns.1)
+        upheld_free trail (take (suc head) trail) x (still x.first f.first ns.0) (still x.second f.second ns.1)
   ]
 ]
   where
@@ -128,31 +130,30 @@ passed_by trail head x l at_head h apart = elim (cases_Bool (true_in trail x.fir
           let z : true ≡ false = sym (same_true l b same) ∙ n in let q : ⊥ = cc in q
     ])
 
-pub passing_start : (clauses : List Held) (path : Path) (w : State) (l : ℤ) → IsState clauses path w → w.head < length path.entries
-    → l ≡ complement (get_or (literals_of path.entries) w.head (pos 0)) → IsPassing clauses path path w w l 0
-passing_start clauses path w l h more is =
-    let k = get_or (literals_of path.entries) w.head (pos 0) in
+pub passing_start : (clauses : List NumberedClause) (path : Path) (s : State) (l : ℤ) → IsState clauses path s → s.head < length path.entries
+    → l ≡ complement (get_or (literals_of path.entries) s.head (pos 0)) → IsPassing clauses path path s s l 0
+passing_start clauses path s l h more is =
+    let k = get_or (literals_of path.entries) s.head (pos 0) in
     let comp : k ≡ complement l = sym (complement_twice k) ∙ ap complement (sym is) in
-    let at_head : IsAtHead path.entries w.head l = (more, comp) in
-    let p = trail_path path.vars clauses path.entries h.held.trail in
+    let at_head : IsAtHead path.entries s.head l = (more, comp) in
+    let p = trail_path path.vars clauses path.entries h.propagation.trail in
     let lit : is_literal path.vars l ≡ true = subst (λ (x : ℤ). is_literal path.vars x ≡ true) (sym is)
-    (complement_literal path.vars k (literal_on_path path.vars path.entries k p (literal_there w.head path.entries k more refl))) in
+    (complement_literal path.vars k (literal_on_path path.vars path.entries k p (literal_there s.head path.entries k more refl))) in
     record {
-      leads = stays_leads clauses path w h;
-      checked = refl;
+      leads = stays_leads clauses path s h;
+      count = refl;
       head = refl;
       at_head = at_head;
       literal = lit;
-      passed = λ q lt.
-          let x = watch_at w.watches.items q in
-          let up = h.watching.upheld q lt in
-          let watched = h.watching.linked.watched q (omega (arith, lt, h.watching.checked)) in
+      passed = λ q lt ready.
+          let x = watch_at s.watches.items q in
+          let watched = h.known.linked.watched q lt ready in
           elim (cases_Bool (watches_it x l)) [
             | inl y ↦ inr (elim (or_true (int_eq l x.first) (int_eq l x.second) y) [
-              | inl a ↦ subst (λ (z : ℤ). among (watching w.lists.lists z) q ≡ true) (sym (true_same l x.first a)) watched.in_first
-              | inr a ↦ subst (λ (z : ℤ). among (watching w.lists.lists z) q ≡ true) (sym (true_same l x.second a)) watched.in_second
+              | inl a ↦ subst (λ (z : ℤ). among (watchers s.lists.lists z) q ≡ true) (sym (true_same l x.first a)) watched.in_first
+              | inr a ↦ subst (λ (z : ℤ). among (watchers s.lists.lists z) q ≡ true) (sym (true_same l x.second a)) watched.in_second
             ])
-            | inr y ↦ inl (passed_by path.entries w.head x l at_head up y)
+            | inr y ↦ inl (passed_by path.entries s.head x l at_head (h.known.upheld.ready q lt ready) y)
           ];
     }
 
@@ -166,12 +167,12 @@ drop_next (x ∷ xs) zero p place lt e n there = elim (or_true (x == p) (among x
 drop_next (x ∷ xs) (suc at) p place lt e n there = drop_next xs at p place (omega arith) e n there
 
 -- what one settled clause leads to
-pub record SettledOnce (clauses : List Held) (path path' path'' : Path) (w w' w'' : State) (place : ℕ) (l : ℤ) (at : ℕ) (result : Settled) : Type 0 where
-  pub passing : IsPassing clauses path path' w w' l at
-  pub within : at < length (watching w'.lists.lists l)
-  pub stands : get_or (watching w'.lists.lists l) at 0 ≡ place
-  pub leads : Leads clauses path' path'' w' w''
-  pub settles : Settles clauses path' path'' w' w'' place l at result
+pub record SettledOnce (clauses : List NumberedClause) (path path' path'' : Path) (s s' s'' : State) (place : ℕ) (l : ℤ) (at : ℕ) (result : Settled) : Type 0 where
+  pub passing : IsPassing clauses path path' s s' l at
+  pub within : at < length (watchers s'.lists.lists l)
+  pub stands : get_or (watchers s'.lists.lists l) at 0 ≡ place
+  pub leads : Leads clauses path' path'' s' s''
+  pub settles : Settles clauses path' path'' s' s'' place l at result
 
 take_grown : (head : ℕ) (trail more trail' : List Entry) → head < length trail → trail' ≡ trail ++ more → take (suc head) trail' ≡ take (suc head) trail
 take_grown head trail more trail' lt e = ap (take (suc head)) e ∙ take-append-le (suc head) trail more (omega (arith, lt))
@@ -186,108 +187,107 @@ head_grown head trail more trail' l e h = subst (λ (t : List Entry). IsAtHead t
     from (suc n) (d ∷ trail) lt = from n trail (omega arith)
 
 -- the other clauses
-others_passed : (clauses : List Held) (path path' path'' : Path) (w w' w'' : State) (place : ℕ) (l : ℤ) (at : ℕ) (result : Settled)
-    → SettledOnce clauses path path' path'' w w' w'' place l at result → (p : ℕ) → p ≢ place
-    → is_upheld path'.entries (take (suc w'.head) path'.entries) (watch_at w'.watches.items p) ≡ true
-    → is_upheld path''.entries (take (suc w''.head) path''.entries) (watch_at w''.watches.items p) ≡ true
-others_passed clauses path path' path'' w w' w'' place l at result s p n up =
-    let g = s.leads.goes_on in
+others_passed : (clauses : List NumberedClause) (path path' path'' : Path) (s s' s'' : State) (place : ℕ) (l : ℤ) (at : ℕ) (result : Settled)
+    → SettledOnce clauses path path' path'' s s' s'' place l at result → (p : ℕ) → p ≢ place
+    → is_upheld path'.entries (take (suc s'.head) path'.entries) (watch_at s'.watches.items p) ≡ true
+    → is_upheld path''.entries (take (suc s''.head) path''.entries) (watch_at s''.watches.items p) ≡ true
+others_passed clauses path path' path'' s s' s'' place l at result o p n up =
+    let g = o.leads.goes_on in
     let more = g.forced in
-    let lt = s.passing.at_head.0 in
-    subst (λ (x : Watch). is_upheld path''.entries (take (suc w''.head) path''.entries) x ≡ true) (sym (s.settles.others p n))
-    (subst (λ (h : ℕ). is_upheld path''.entries (take (suc h) path''.entries) (watch_at w'.watches.items p) ≡ true) (sym s.settles.head)
-    (subst (λ (t : List Entry). is_upheld path''.entries t (watch_at w'.watches.items p) ≡ true) (sym (take_grown w'.head path'.entries more path''.entries lt g.trail))
-    (subst (λ (t : List Entry). is_upheld t (take (suc w'.head) path'.entries) (watch_at w'.watches.items p) ≡ true) (sym g.trail)
-    (upheld_more path'.entries more (take (suc w'.head) path'.entries) (watch_at w'.watches.items p) up))))
+    let lt = o.passing.at_head.0 in
+    subst (λ (x : Watch). is_upheld path''.entries (take (suc s''.head) path''.entries) x ≡ true) (sym (o.settles.others p n))
+    (subst (λ (h : ℕ). is_upheld path''.entries (take (suc h) path''.entries) (watch_at s'.watches.items p) ≡ true) (sym o.settles.head)
+    (subst (λ (t : List Entry). is_upheld path''.entries t (watch_at s'.watches.items p) ≡ true) (sym (take_grown s'.head path'.entries more path''.entries lt g.trail))
+    (subst (λ (t : List Entry). is_upheld t (take (suc s'.head) path'.entries) (watch_at s'.watches.items p) ≡ true) (sym g.trail)
+    (upheld_more path'.entries more (take (suc s'.head) path'.entries) (watch_at s'.watches.items p) up))))
 
 -- the clause itself
-it_watches : (clauses : List Held) (path path' path'' : Path) (w w' w'' : State) (place : ℕ) (l : ℤ) (at : ℕ) (result : Settled)
-    → SettledOnce clauses path path' path'' w w' w'' place l at result → watches_it (watch_at w'.watches.items place) l ≡ true
-it_watches clauses path path' path'' w w' w'' place l at result s =
-    let member : among (watching w'.lists.lists l) place ≡ true = subst (λ (p : ℕ). among (watching w'.lists.lists l) p ≡ true) s.stands (among_at (watching w'.lists.lists l) at 0 s.within) in
-    (s.passing.leads.state.watching.linked.listed l s.passing.literal).watched place member
+it_stands : (clauses : List NumberedClause) (path path' path'' : Path) (s s' s'' : State) (place : ℕ) (l : ℤ) (at : ℕ) (result : Settled)
+    → SettledOnce clauses path path' path'' s s' s'' place l at result → InList path'.vars clauses s'.watches.items s'.lists s'.waiting.items l place
+it_stands clauses path path' path'' s s' s'' place l at result o =
+    in_list path'.vars clauses s'.watches.items s'.lists s'.waiting.items l place o.passing.leads.state.known.linked o.passing.literal
+    (subst (λ (p : ℕ). among (watchers s'.lists.lists l) p ≡ true) o.stands (among_at (watchers s'.lists.lists l) at 0 o.within))
 
-stays_passed : (clauses : List Held) (path path' path'' : Path) (w w' w'' : State) (place : ℕ) (l : ℤ) (at : ℕ) → SettledOnce clauses path path' path'' w w' w'' place l at Stays
-    → is_upheld path''.entries (take (suc w''.head) path''.entries) (watch_at w''.watches.items place) ≡ true
-stays_passed clauses path path' path'' w w' w'' place l at s =
-    subst (λ (h : ℕ). is_upheld path''.entries (take (suc h) path''.entries) (watch_at w''.watches.items place) ≡ true) (sym s.settles.head)
-    (passed_stays clauses path'.entries path''.entries w'.head place (watch_at w'.watches.items place) (watch_at w''.watches.items place) l s.passing.at_head
-    (it_watches clauses path path' path'' w w' w'' place l at Stays s) s.settles.settled)
+stays_passed : (clauses : List NumberedClause) (path path' path'' : Path) (s s' s'' : State) (place : ℕ) (l : ℤ) (at : ℕ)
+    → SettledOnce clauses path path' path'' s s' s'' place l at Stays
+    → is_upheld path''.entries (take (suc s''.head) path''.entries) (watch_at s''.watches.items place) ≡ true
+stays_passed clauses path path' path'' s s' s'' place l at o =
+    subst (λ (h : ℕ). is_upheld path''.entries (take (suc h) path''.entries) (watch_at s''.watches.items place) ≡ true) (sym o.settles.head)
+    (passed_stays clauses path'.entries path''.entries s'.head place (watch_at s'.watches.items place) (watch_at s''.watches.items place) l
+    (it_stands clauses path path' path'' s s' s'' place l at Stays o).it o.settles.settled)
 
-leaves_passed : (clauses : List Held) (path path' path'' : Path) (w w' w'' : State) (place : ℕ) (l : ℤ) (at : ℕ) → SettledOnce clauses path path' path'' w w' w'' place l at Leaves
-    → place < w'.checked → is_upheld path''.entries (take (suc w''.head) path''.entries) (watch_at w''.watches.items place) ≡ true
-leaves_passed clauses path path' path'' w w' w'' place l at s lt =
-    let state = s.passing.leads.state in
-    let bounds = literal_bounds path'.vars l s.passing.literal in
-    subst (λ (h : ℕ). is_upheld path''.entries (take (suc h) path''.entries) (watch_at w''.watches.items place) ≡ true) (sym s.settles.head)
-    (passed_leaves path'.vars clauses path'.entries path''.entries w'.head place (watch_at w'.watches.items place) (watch_at w''.watches.items place) l
-    (trail_path path'.vars clauses path'.entries state.held.trail) (omega (arith, bounds.0)) s.passing.at_head
-    (it_watches clauses path path' path'' w w' w'' place l at Leaves s) (state.watching.upheld place lt) s.settles.settled)
+moves_passed : (clauses : List NumberedClause) (path path' path'' : Path) (s s' s'' : State) (place : ℕ) (l : ℤ) (at : ℕ)
+    → SettledOnce clauses path path' path'' s s' s'' place l at Moves
+    → is_upheld path''.entries (take (suc s''.head) path''.entries) (watch_at s''.watches.items place) ≡ true
+moves_passed clauses path path' path'' s s' s'' place l at o =
+    let state = o.passing.leads.state in
+    let bounds = literal_bounds path'.vars l o.passing.literal in
+    let i = it_stands clauses path path' path'' s s' s'' place l at Moves o in
+    subst (λ (h : ℕ). is_upheld path''.entries (take (suc h) path''.entries) (watch_at s''.watches.items place) ≡ true) (sym o.settles.head)
+    (passed_moves path'.vars clauses path'.entries path''.entries s'.head place (watch_at s'.watches.items place) (watch_at s''.watches.items place) l
+    (trail_path path'.vars clauses path'.entries state.propagation.trail) (omega (arith, bounds.0)) o.passing.at_head i.it i.apart
+    (state.known.upheld.ready place i.within i.ready) o.settles.settled)
 
-record Carried (clauses : List Held) (path path' path'' : Path) (w w' w'' : State) (l : ℤ) : Type 0 where
-  leads : Leads clauses path path'' w w''
-  checked : w''.checked ≡ w.checked
-  head : w''.head ≡ w.head
-  at_head : IsAtHead path''.entries w''.head l
+record Carried (clauses : List NumberedClause) (path path' path'' : Path) (s s' s'' : State) (l : ℤ) : Type 0 where
+  leads : Leads clauses path path'' s s''
+  count : unseen s'' ≡ unseen s
+  head : s''.head ≡ s.head
+  at_head : IsAtHead path''.entries s''.head l
   literal : is_literal path''.vars l ≡ true
+  ready : (p : ℕ) → not (among s''.waiting.items p) ≡ true → not (among s'.waiting.items p) ≡ true
 
-carried : (clauses : List Held) (path path' path'' : Path) (w w' w'' : State) (place : ℕ) (l : ℤ) (at : ℕ) (result : Settled)
-    → SettledOnce clauses path path' path'' w w' w'' place l at result → Carried clauses path path' path'' w w' w'' l
-carried clauses path path' path'' w w' w'' place l at result s =
-    let g = s.leads.goes_on in
+carried : (clauses : List NumberedClause) (path path' path'' : Path) (s s' s'' : State) (place : ℕ) (l : ℤ) (at : ℕ) (result : Settled)
+    → SettledOnce clauses path path' path'' s s' s'' place l at result → Carried clauses path path' path'' s s' s'' l
+carried clauses path path' path'' s s' s'' place l at result o =
+    let g = o.leads.goes_on in
     record {
-      leads = leads_then clauses path path' path'' w w' w'' s.passing.leads s.leads;
-      checked = s.settles.checked ∙ s.passing.checked;
-      head = s.settles.head ∙ s.passing.head;
-      at_head = subst (λ (h : ℕ). IsAtHead path''.entries h l) (sym s.settles.head) (head_grown w'.head path'.entries g.forced path''.entries l g.trail s.passing.at_head);
-      literal = subst (λ (n : ℕ). is_literal n l ≡ true) (sym g.vars) s.passing.literal;
+      leads = leads_then clauses path path' path'' s s' s'' o.passing.leads o.leads;
+      count = ap (λ (v : Vec ℕ Global). length v.items - s''.satisfied) o.settles.waiting ∙ ap (λ (n : ℕ). length s'.waiting.items - n) o.settles.satisfied ∙ o.passing.count;
+      head = o.settles.head ∙ o.passing.head;
+      at_head = subst (λ (h : ℕ). IsAtHead path''.entries h l) (sym o.settles.head) (head_grown s'.head path'.entries g.forced path''.entries l g.trail o.passing.at_head);
+      literal = subst (λ (n : ℕ). is_literal n l ≡ true) (sym g.vars) o.passing.literal;
+      ready = λ p out. subst (λ (v : Vec ℕ Global). not (among v.items p) ≡ true) o.settles.waiting out;
     }
 
-pub passing_stays : (clauses : List Held) (path path' path'' : Path) (w w' w'' : State) (place : ℕ) (l : ℤ) (at : ℕ) → SettledOnce clauses path path' path'' w w' w'' place l at Stays
-    → IsPassing clauses path path'' w w'' l (at + 1)
-passing_stays clauses path path' path'' w w' w'' place l at s =
-    let c = carried clauses path path' path'' w w' w'' place l at Stays s in
+pub passing_stays : (clauses : List NumberedClause) (path path' path'' : Path) (s s' s'' : State) (place : ℕ) (l : ℤ) (at : ℕ)
+    → SettledOnce clauses path path' path'' s s' s'' place l at Stays → IsPassing clauses path path'' s s'' l (at + 1)
+passing_stays clauses path path' path'' s s' s'' place l at o =
+    let c = carried clauses path path' path'' s s' s'' place l at Stays o in
     record {
       leads = c.leads;
-      checked = c.checked;
+      count = c.count;
       head = c.head;
       at_head = c.at_head;
       literal = c.literal;
-      passed = λ p lt. elim (cases_Bool (p == place)) [
-        | inl y ↦ inl (subst (λ (q : ℕ). is_upheld path''.entries (take (suc w''.head) path''.entries) (watch_at w''.watches.items q) ≡ true) (sym (eqb-true p place y))
-            (stays_passed clauses path path' path'' w w' w'' place l at s))
-        | inr y ↦
-            let n : p ≢ place = λ e. (let f : true ≡ false = sym (eq-eqb p place e) ∙ y in let z : ⊥ = cc in z) in
-            elim (s.passing.passed p (omega (arith, lt, s.settles.checked))) [
-              | inl up ↦ inl (others_passed clauses path path' path'' w w' w'' place l at Stays s p n up)
-              | inr there ↦ inr (subst (λ (xs : List ℕ). among (drop (at + 1) xs) p ≡ true) (sym s.settles.list)
-                  (subst (λ (k : ℕ). among (drop k (watching w'.lists.lists l)) p ≡ true) (let k : suc at ≡ at + 1 = omega arith in k)
-                  (drop_next (watching w'.lists.lists l) at p place s.within s.stands n there)))
-            ]
+      passed = λ p lt out. elim (cases_eq p place) [
+        | inl y ↦ inl (subst (λ (q : ℕ). is_upheld path''.entries (take (suc s''.head) path''.entries) (watch_at s''.watches.items q) ≡ true) (sym y)
+            (stays_passed clauses path path' path'' s s' s'' place l at o))
+        | inr n ↦ elim (o.passing.passed p lt (c.ready p out)) [
+          | inl up ↦ inl (others_passed clauses path path' path'' s s' s'' place l at Stays o p n up)
+          | inr there ↦ inr (subst (λ (xs : List ℕ). among (drop (at + 1) xs) p ≡ true) (sym o.settles.list)
+              (subst (λ (k : ℕ). among (drop k (watchers s'.lists.lists l)) p ≡ true) (let k : suc at ≡ at + 1 = omega arith in k)
+              (drop_next (watchers s'.lists.lists l) at p place o.within o.stands n there)))
+        ]
       ];
     }
 
-pub passing_leaves : (clauses : List Held) (path path' path'' : Path) (w w' w'' : State) (place : ℕ) (l : ℤ) (at : ℕ) → SettledOnce clauses path path' path'' w w' w'' place l at Leaves
-    → IsPassing clauses path path'' w w'' l at
-passing_leaves clauses path path' path'' w w' w'' place l at s =
-    let c = carried clauses path path' path'' w w' w'' place l at Leaves s in
+pub passing_moves : (clauses : List NumberedClause) (path path' path'' : Path) (s s' s'' : State) (place : ℕ) (l : ℤ) (at : ℕ)
+    → SettledOnce clauses path path' path'' s s' s'' place l at Moves → IsPassing clauses path path'' s s'' l at
+passing_moves clauses path path' path'' s s' s'' place l at o =
+    let c = carried clauses path path' path'' s s' s'' place l at Moves o in
     record {
       leads = c.leads;
-      checked = c.checked;
+      count = c.count;
       head = c.head;
       at_head = c.at_head;
       literal = c.literal;
-      passed = λ p lt. elim (cases_Bool (p == place)) [
-        | inl y ↦
-            let same = eqb-true p place y in
-            inl (subst (λ (q : ℕ). is_upheld path''.entries (take (suc w''.head) path''.entries) (watch_at w''.watches.items q) ≡ true) (sym same)
-            (leaves_passed clauses path path' path'' w w' w'' place l at s (omega (arith, lt, same, s.settles.checked))))
-        | inr y ↦
-            let n : p ≢ place = λ e. (let f : true ≡ false = sym (eq-eqb p place e) ∙ y in let z : ⊥ = cc in z) in
-            elim (s.passing.passed p (omega (arith, lt, s.settles.checked))) [
-              | inl up ↦ inl (others_passed clauses path path' path'' w w' w'' place l at Leaves s p n up)
-              | inr there ↦ inr (s.settles.list.1 p n there)
-            ]
+      passed = λ p lt out. elim (cases_eq p place) [
+        | inl y ↦ inl (subst (λ (q : ℕ). is_upheld path''.entries (take (suc s''.head) path''.entries) (watch_at s''.watches.items q) ≡ true) (sym y)
+            (moves_passed clauses path path' path'' s s' s'' place l at o))
+        | inr n ↦ elim (o.passing.passed p lt (c.ready p out)) [
+          | inl up ↦ inl (others_passed clauses path path' path'' s s' s'' place l at Moves o p n up)
+          | inr there ↦ inr (o.settles.list.1 p n there)
+        ]
       ];
     }
 
@@ -299,53 +299,51 @@ drop_all zero (x ∷ xs) p le = absurd (omega arith)
 drop_all (suc at) [] p le = refl
 drop_all (suc at) (x ∷ xs) p le = drop_all at xs p (omega arith)
 
-pub passing_end : (clauses : List Held) (path path' : Path) (w w' w'' : State) (l : ℤ) (at : ℕ) → IsPassing clauses path path' w w' l at → length (watching w'.lists.lists l) ≤ at
-    → w''.watches ≡ w'.watches → w''.lists ≡ w'.lists → w''.checked ≡ w'.checked → w''.head ≡ w'.head + 1 → w''.marks ≡ w'.marks
-    → Leads clauses path path' w w''
-passing_end clauses path path' w w' w'' l at s all watches lists checked head marks = record {
+pub passing_end : (clauses : List NumberedClause) (path path' : Path) (s s' : State) (l : ℤ) (at : ℕ) → IsPassing clauses path path' s s' l at → length (watchers s'.lists.lists l) ≤ at
+    → Leads clauses path path' s (record s' { head = s'.head + 1 })
+passing_end clauses path path' s s' l at o all = record {
   state = record {
-    held = s.leads.state.held;
-    watching =
-        (let old = s.leads.state.watching in
-        let once : (w : State) → IsWatching path'.vars clauses path'.entries w → w.head < length path'.entries
-        → ((p : ℕ) → p < w.checked → is_upheld path'.entries (take (suc w.head) path'.entries) (watch_at w.watches.items p) ≡ true)
-        → IsWatching path'.vars clauses path'.entries (record w { head = w.head + 1 }) =
-        λ w h lt up. record {
+    propagation = o.leads.state.propagation;
+    known =
+        (let h = o.leads.state.known in
+        let lt = o.at_head.0 in
+        record {
           linked = h.linked;
-          checked = h.checked;
+          satisfied = h.satisfied;
           head = omega (arith, lt);
           marks = h.marks;
           marks_room = h.marks_room;
           rising = h.rising;
-          upheld = λ p under. subst (λ (k : ℕ). is_upheld path'.entries (take k path'.entries) (watch_at w.watches.items p) ≡ true) (let k : suc w.head ≡ w.head + 1 = omega arith in k) (up p under);
-          below = λ j under. (let b = h.below j under in record { mark = b.mark; passed = omega (arith, b.passed); upheld = b.upheld });
-        } in
-        let whole = once w' old s.at_head.0 (λ p under. elim (s.passed p under) [
-          | inl up ↦ up
-          | inr there ↦ absurd (let f : true ≡ false = sym there ∙ drop_all at (watching w'.lists.lists l) p all in let z : ⊥ = cc in z)
-        ]) in
-        subst (λ (v : State). IsWatching path'.vars clauses path'.entries v) (sym (same_state w'' (record w' { head = w'.head + 1 }) watches lists checked head marks)) whole);
+          upheld = record {
+            waiting = h.upheld.waiting;
+            ready = λ p within out. elim (o.passed p within out) [
+              | inl up ↦ subst (λ (k : ℕ). is_upheld path'.entries (take k path'.entries) (watch_at s'.watches.items p) ≡ true) (let k : suc s'.head ≡ s'.head + 1 = omega arith in k) up
+              | inr there ↦ absurd (let f : true ≡ false = sym there ∙ drop_all at (watchers s'.lists.lists l) p all in let z : ⊥ = cc in z)
+            ];
+          };
+          below = λ j under. (let b = h.below j under in record { mark = b.mark; passed = omega (arith, b.passed); upheld = record { waiting = b.upheld.waiting; ready = b.upheld.ready } });
+        });
   };
-  goes_on = s.leads.goes_on;
+  goes_on = o.leads.goes_on;
 }
 
 -- A CLAUSE OF THE LIST
 
-pub record Picked (clauses : List Held) (path path' : Path) (w w' : State) (l : ℤ) (at place : ℕ) : Type 0 where
+pub record Picked (clauses : List NumberedClause) (path path' : Path) (s s' : State) (l : ℤ) (at place : ℕ) : Type 0 where
   pub in_clauses : place < length clauses
-  pub within : at < length (watching w'.lists.lists l)
-  pub stands : get_or (watching w'.lists.lists l) at 0 ≡ place
+  pub within : at < length (watchers s'.lists.lists l)
+  pub stands : get_or (watchers s'.lists.lists l) at 0 ≡ place
 
-pub picked : (clauses : List Held) (path path' : Path) (w w' : State) (l : ℤ) (at : ℕ) (list list' : List ℕ) → IsPassing clauses path path' w w' l at
-    → list ≡ watching w'.lists.lists l → list' ≡ watching w'.lists.lists l → at < length list → Picked clauses path path' w w' l at (get_or list' at 0)
-picked clauses path path' w w' l at list list' s e e' lt =
-    let within : at < length (watching w'.lists.lists l) = subst (λ (xs : List ℕ). at < length xs) e lt in
-    let place = get_or (watching w'.lists.lists l) at 0 in
-    let in_clauses = (s.leads.state.watching.linked.listed l s.literal).within place (among_at (watching w'.lists.lists l) at 0 within) in
-    subst (λ (xs : List ℕ). Picked clauses path path' w w' l at (get_or xs at 0)) (sym e') (record { in_clauses = in_clauses; within = within; stands = refl })
+pub picked : (clauses : List NumberedClause) (path path' : Path) (s s' : State) (l : ℤ) (at : ℕ) (list list' : List ℕ) → IsPassing clauses path path' s s' l at
+    → list ≡ watchers s'.lists.lists l → list' ≡ watchers s'.lists.lists l → at < length list → Picked clauses path path' s s' l at (get_or list' at 0)
+picked clauses path path' s s' l at list list' o e e' lt =
+    let within : at < length (watchers s'.lists.lists l) = subst (λ (xs : List ℕ). at < length xs) e lt in
+    let place = get_or (watchers s'.lists.lists l) at 0 in
+    let in_clauses = (o.leads.state.known.linked.listed l o.literal).within place (among_at (watchers s'.lists.lists l) at 0 within) in
+    subst (λ (xs : List ℕ). Picked clauses path path' s s' l at (get_or xs at 0)) (sym e') (record { in_clauses = in_clauses; within = within; stands = refl })
 
-pub settled_once : (clauses : List Held) (path path' path'' : Path) (w w' w'' : State) (place : ℕ) (l : ℤ) (at : ℕ) (result : Settled)
-    → IsPassing clauses path path' w w' l at → Picked clauses path path' w w' l at place → Leads clauses path' path'' w' w'' → Settles clauses path' path'' w' w'' place l at result
-    → SettledOnce clauses path path' path'' w w' w'' place l at result
-settled_once clauses path path' path'' w w' w'' place l at result s p leads settles =
-    record { passing = s; within = p.within; stands = p.stands; leads = leads; settles = settles }
+pub settled_once : (clauses : List NumberedClause) (path path' path'' : Path) (s s' s'' : State) (place : ℕ) (l : ℤ) (at : ℕ) (result : Settled)
+    → IsPassing clauses path path' s s' l at → Picked clauses path path' s s' l at place → Leads clauses path' path'' s' s'' → Settles clauses path' path'' s' s'' place l at result
+    → SettledOnce clauses path path' path'' s s' s'' place l at result
+settled_once clauses path path' path'' s s' s'' place l at result o p leads settles =
+    record { passing = o; within = p.within; stands = p.stands; leads = leads; settles = settles }

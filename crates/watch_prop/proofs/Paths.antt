@@ -6,7 +6,7 @@ use Rattle.std.proofs.lemmas.Bool.{leb-true, le-leb, eqb-true, eq-eqb}
 use Rattle.std.proofs.lemmas.List.{append-nil}
 use Rattle.std.proofs.lemmas.List.Folds.{find-append, list_all-append, sum_by-replicate}
 use Rattle.lk_model.specs.Lists.{with_earlier}
-use Rattle.lk_model.specs.Literal.{variable, is_literal}
+use Rattle.lk_model.specs.Formulas.Literal.{variable, is_literal}
 use Rattle.lk_model.proofs.Booleans.{and_true}
 use Rattle.watch_prop.specs.declared.entry.Entry.{Entry}
 use Rattle.std.proofs.lemmas.List.Sums.{sum_by-set}

@@ -1,26 +1,30 @@
--- When all clauses are checked and the whole trail was passed on, nothing is false and nothing is forced.
-use Rattle.std.proofs.Common.{◌≡◌, ◌≢◌, ◌∙◌, ℕ, ◌<◌, ◌==◌, ◌∷◌, [], Bool, true, false, not, ◌&&◌, List, ℤ, Option, is_some, option_map, length, filter, refl, sym, ap, subst, arith, inl, inr}
+-- When no clause is left to be looked at and the whole trail was passed on, nothing is false and nothing is forced.
+use Rattle.std.proofs.Common.{◌≡◌, ◌≢◌, ◌∙◌, ℕ, ◌<◌, ◌==◌, ◌∷◌, [], Bool, true, false, not, ◌&&◌, ◌||◌, List, ℤ, Option, is_some, option_map, length, filter, refl, sym, ap, subst, arith, inl, inr}
+use Rattle.std.specs.List.{list_any}
 use Rattle.std.specs.Ordering.{int_eq}
-use Rattle.std.proofs.lemmas.Bool.{cases_Bool, eqb-true, false_from_ne_true}
-use Rattle.lk_model.specs.Literal.{variable, complement, contains, is_clause, is_positive}
-use Rattle.lk_model.specs.Assignment.{makes_true, satisfies}
+use Rattle.std.proofs.lemmas.Bool.{cases_Bool, eqb-true, false_from_ne_true, not-true}
+use Rattle.lk_model.specs.Formulas.Literal.{variable, complement, contains, is_clause, is_positive}
+use Rattle.lk_model.specs.Formulas.Assignment.{makes_true, satisfies}
+use Rattle.lk_model.specs.Lists.{among}
 use Rattle.lk_model.proofs.Booleans.{or_true}
+use Rattle.lk_model.proofs.Variables.{literal_passing}
 use Rattle.lk_model.proofs.ListTests.{passes_one, passes_each}
 use Rattle.lk_model.proofs.Ranks.{literal_bounds}
 use Rattle.watch_prop.specs.declared.entry.Entry.{Entry}
-use Rattle.watch_prop.specs.declared.entry.Held.{Held}
+use Rattle.watch_prop.specs.declared.entry.NumberedClause.{NumberedClause}
 use Rattle.watch_prop.specs.declared.watch.Watch.{Watch}
-use Rattle.watch_prop.specs.declared.watching.Watching.{Watching as State}
+use Rattle.watch_prop.specs.declared.state.State.{State}
 use Rattle.watch_prop.specs.Trail.{Path, true_in, false_in, assignment_along, is_path}
 use Rattle.watch_prop.specs.Watch.{is_upheld}
 use Rattle.watch_prop.specs.Linked.{clause_at_place, watch_at}
 use Rattle.watch_prop.specs.declared.entry.Propagated.{Propagated}
 use Rattle.watch_prop.specs.declared.entry.Propagated.TheVariants.{Quiet, Conflict}
 use Rattle.watch_prop.specs.Propagation.{is_false, is_unit, is_quiet, assigned, IsAnswered}
-use Rattle.watch_prop.specs.Watching.{IsState, Passes, propagation_of}
-use Rattle.watch_prop.proofs.Truths.{true_same, false_apart, variable_complement, no_sign_twice}
+use Rattle.watch_prop.specs.States.{IsState, Passes, propagation_of, unseen, has_true}
+use Rattle.watch_prop.proofs.Truths.{true_same, same_true, false_apart, variable_complement, no_sign_twice}
 use Rattle.std.proofs.lemmas.List.{take_all}
 use Rattle.watch_prop.proofs.Trails.{trail_path, unset_entry_of}
+use Rattle.watch_prop.proofs.Lists.{place_of}
 use Rattle.watch_prop.proofs.Upheld.{free}
 use Rattle.watch_prop.proofs.Demands.{all_from, clause_of, literal_of_clause}
 use Rattle.watch_prop.proofs.Passing.{makes_true_along}
@@ -92,27 +96,42 @@ free_quiet vars trail c a b path is_clause in_a in_b n ta fa tb fb =
     at false = refl
 
 upheld_quiet : (vars : ℕ) (trail : List Entry) (c : List ℤ) (x : Watch) → is_path vars trail ≡ true → is_clause vars c ≡ true → contains c x.first ≡ true → contains c x.second ≡ true
-    → is_upheld trail trail x ≡ true → (not (is_false (assignment_along trail) c) && not (is_unit (assignment_along trail) c)) ≡ true
-upheld_quiet vars trail c x path is_clause in_first in_second h = elim (cases_Bool (true_in trail x.first)) [
+    → not (int_eq x.second x.first) ≡ true → is_upheld trail trail x ≡ true → (not (is_false (assignment_along trail) c) && not (is_unit (assignment_along trail) c)) ≡ true
+upheld_quiet vars trail c x path is_clause in_first in_second two h = elim (cases_Bool (true_in trail x.first)) [
   | inl a ↦ satisfied_quiet vars trail c x.first path is_clause in_first a
   | inr a ↦ elim (cases_Bool (true_in trail x.second)) [
     | inl b ↦ satisfied_quiet vars trail c x.second path is_clause in_second b
-    | inr b ↦ (let f = free trail trail x h a b in free_quiet vars trail c x.first x.second path is_clause in_first in_second (false_apart x.first x.second f.two) a f.first b f.second)
+    | inr b ↦
+        let f = free trail trail x h a b in
+        free_quiet vars trail c x.second x.first path is_clause in_second in_first (false_apart x.second x.first (not-true _ two)) b f.second a f.first
   ]
 ]
 
-pub state_quiet : (clauses : List Held) (path : Path) (w : State) → IsState clauses path w → w.checked ≡ length clauses → w.head ≡ length path.entries
+pub state_quiet : (clauses : List NumberedClause) (path : Path) (s : State) → IsState clauses path s → unseen s ≡ 0 → s.head ≡ length path.entries
     → is_quiet (assigned (propagation_of clauses path)) clauses ≡ true
-state_quiet clauses path w h checked head = all_from _ clauses (record { number = 0; lits = [] }) (λ i lt.
+state_quiet clauses path s h none head = all_from _ clauses (record { number = 0; lits = [] }) (λ i lt.
     let c = (clause_at_place clauses i).lits in
-    let x = watch_at w.watches.items i in
-    let watched = h.watching.linked.watched i lt in
-    let up : is_upheld path.entries path.entries x ≡ true =
-    subst (λ (t : List Entry). is_upheld path.entries t x ≡ true) (take_all w.head path.entries (omega (arith, head))) (h.watching.upheld i (omega (arith, lt, checked))) in
-    upheld_quiet path.vars path.entries c x (trail_path path.vars clauses path.entries h.held.trail) (clause_of clauses path w i h lt) watched.first watched.second up)
+    let is_path = trail_path path.vars clauses path.entries h.propagation.trail in
+    let is_clause = clause_of clauses path s i h lt in
+    elim (cases_Bool (among s.waiting.items i)) [
+      | inl y ↦
+          let place = place_of s.waiting.items i y in
+          let within = place.within in
+          let sat : has_true path.entries c ≡ true =
+          subst (λ (p : ℕ). has_true path.entries (clause_at_place clauses p).lits ≡ true) place.there (h.known.upheld.waiting place.at (omega (arith, within, none, h.known.satisfied))) in
+          let l = literal_passing (true_in path.entries) c sat in
+          satisfied_quiet path.vars path.entries c l.0 is_path is_clause l.1 l.2
+      | inr y ↦
+          let x = watch_at s.watches.items i in
+          let out : not (among s.waiting.items i) ≡ true = rw y refl in
+          let watched = h.known.linked.watched i lt out in
+          let up : is_upheld path.entries path.entries x ≡ true =
+          subst (λ (t : List Entry). is_upheld path.entries t x ≡ true) (take_all s.head path.entries (omega (arith, head))) (h.known.upheld.ready i lt out) in
+          upheld_quiet path.vars path.entries c x is_path is_clause watched.first watched.second watched.apart up
+    ])
 
 -- what a propagation answers
-pub answer_of : (clauses : List Held) (path : Path) (w : State) (result : Propagated) → IsState clauses path w → w.checked ≡ length clauses
-    → Passes clauses path result (w.head ≡ length path.entries) → IsAnswered (propagation_of clauses path) result
-answer_of clauses path w Quiet h checked done = state_quiet clauses path w h checked done
-answer_of clauses path w (Conflict k) h checked done = done
+pub answer_of : (clauses : List NumberedClause) (path : Path) (s : State) (result : Propagated) → IsState clauses path s → unseen s ≡ 0
+    → Passes clauses path result (s.head ≡ length path.entries) → IsAnswered (propagation_of clauses path) result
+answer_of clauses path s Quiet h none done = state_quiet clauses path s h none done
+answer_of clauses path s (Conflict k) h none done = done

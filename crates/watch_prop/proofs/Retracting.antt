@@ -2,18 +2,18 @@
 use Rattle.std.proofs.Common.{◌≡◌, ◌∙◌, ℕ, zero, suc, ◌+◌, ◌-◌, ◌<◌, ◌≤◌, ◌++◌, ◌∷◌, [], Bool, true, false, cond, List, length, length-take-le, take, get_or, nat_le, pos, None, length-append, append_assoc, refl, sym, ap, subst, arith, inl, inr, Vec, vec_capacity}
 use Rattle.std.specs.declared.alloc.Global.{Global}
 use Rattle.std.proofs.lemmas.Bool.{cases_Bool, le-leb, leb-true, leb-false}
-use Rattle.std.proofs.lemmas.List.{append-nil, get_or_default, take_all}
+use Rattle.std.proofs.lemmas.List.{append-nil, get_or_default, get_or-take, take_all}
 use Rattle.watch_prop.specs.declared.entry.Entry.{Entry}
-use Rattle.watch_prop.specs.declared.entry.Held.{Held}
+use Rattle.watch_prop.specs.declared.entry.NumberedClause.{NumberedClause}
 use Rattle.watch_prop.specs.declared.watch.Watch.{Watch}
-use Rattle.watch_prop.specs.declared.watching.Watching.{Watching as State}
+use Rattle.watch_prop.specs.declared.state.State.{State}
 use Rattle.watch_prop.specs.Trail.{Path, present_level, up_to_level, may_follow, is_trail}
-use Rattle.watch_prop.specs.Watch.{is_upheld}
 use Rattle.watch_prop.specs.Watchers.{Watchers}
-use Rattle.watch_prop.specs.Linked.{IsLinked, watch_at}
-use Rattle.watch_prop.specs.Watching.{IsState, IsUpheldBelow, mark_at}
+use Rattle.watch_prop.specs.Linked.{IsLinked}
+use Rattle.watch_prop.specs.States.{IsState, IsKnownBelow, AreUpheld, mark_at}
 use Rattle.watch_prop.proofs.Paths.{back_step, back_there, some_above, split_last, last_level, comes, level_after}
 use Rattle.watch_prop.proofs.Trails.{trail_path, trail_more}
+use Rattle.watch_prop.proofs.States.{same_upheld}
 use Rattle.watch_prop.proofs.Demands.{may_come_of}
 use Rattle.watch_prop.proofs.Assigning.{trail_prefix}
 use Rattle.lk_model.proofs.Booleans.{and_true}
@@ -26,7 +26,7 @@ pub record IsPrefix (level : ℕ) (trail : List Entry) : Type 0 where
   pub whole : trail ≡ up_to_level level trail ++ rest
   pub reached : level ≤ present_level trail → present_level (up_to_level level trail) ≡ level
 
-prefix_step : (vars : ℕ) (clauses : List Held) (level : ℕ) (trail : List Entry) (d : Entry) → level < present_level trail → trail ≡ take (length trail - 1) trail ++ d ∷ []
+prefix_step : (vars : ℕ) (clauses : List NumberedClause) (level : ℕ) (trail : List Entry) (d : Entry) → level < present_level trail → trail ≡ take (length trail - 1) trail ++ d ∷ []
     → is_trail vars clauses trail ≡ true → IsPrefix level (take (length trail - 1) trail) → IsPrefix level trail
 prefix_step vars clauses level trail d above split h r =
     let short = take (length trail - 1) trail in
@@ -44,7 +44,7 @@ prefix_step vars clauses level trail d above split h r =
       reached = λ at_least. ap present_level (sym same) ∙ r.reached reached;
     }
 
-pub prefix_of : (vars : ℕ) (clauses : List Held) (level n : ℕ) (trail : List Entry) → length trail ≡ n → is_trail vars clauses trail ≡ true → IsPrefix level trail
+pub prefix_of : (vars : ℕ) (clauses : List NumberedClause) (level n : ℕ) (trail : List Entry) → length trail ≡ n → is_trail vars clauses trail ≡ true → IsPrefix level trail
 prefix_of vars clauses level zero [] long h = record { rest = []; whole = refl; reached = λ le. (let e : 0 ≡ level = omega (arith, le) in e) }
 prefix_of vars clauses level zero (d ∷ trail) long h = absurd (omega (arith, long))
 prefix_of vars clauses level (suc n) trail long h = elim (cases_Bool (nat_le (present_level trail) level)) [
@@ -91,77 +91,78 @@ fewer level (e ∷ trail) = at (nat_le e.level level) (fewer level trail)
     at false h = omega (arith, h)
 
 mark_take : (marks : List ℕ) (n level : ℕ) → level < n → mark_at (take n marks) level ≡ mark_at marks level
-mark_take [] n level lt = absurd_take n level lt
-  where
-    absurd_take : (n level : ℕ) → level < n → mark_at (take n []) level ≡ mark_at [] level
-    absurd_take zero level lt = absurd (omega arith)
-    absurd_take (suc n) level lt = refl
-mark_take (m ∷ marks) zero level lt = absurd (omega arith)
-mark_take (m ∷ marks) (suc n) zero lt = refl
-mark_take (m ∷ marks) (suc n) (suc level) lt = mark_take marks n level (omega arith)
+mark_take marks n level lt = get_or-take n marks level 0 lt
 
 -- THE STATE
 
 -- what differs where all above a level is taken back
-pub record Returns (path path' : Path) (w w' : State) (level : ℕ) : Type 0 where
-  pub below : level < length w.marks.items
+pub record Returns (path path' : Path) (s s' : State) (level : ℕ) : Type 0 where
+  pub below : level < length s.marks.items
   pub path_is : path' ≡ record path { entries = up_to_level level path.entries }
-  pub watches : w'.watches ≡ w.watches
-  pub lists : w'.lists ≡ w.lists
-  pub checked : w'.checked ≡ mark_at w.marks.items level
-  pub head : w'.head ≡ length (up_to_level level path.entries)
-  pub marks : w'.marks.items ≡ take level w.marks.items
-  pub capacity : vec_capacity w'.marks ≡ vec_capacity w.marks
+  pub watches : s'.watches ≡ s.watches
+  pub lists : s'.lists ≡ s.lists
+  pub waiting : s'.waiting ≡ s.waiting
+  pub satisfied : s'.satisfied ≡ mark_at s.marks.items level
+  pub head : s'.head ≡ length (up_to_level level path.entries)
+  pub marks : s'.marks.items ≡ take level s.marks.items
+  pub capacity : vec_capacity s'.marks ≡ vec_capacity s.marks
 
-returned_below : (clauses : List Held) (path path' : Path) (w w' : State) (level j : ℕ) → IsState clauses path w → Returns path path' w w' level → j < level
-    → IsUpheldBelow (up_to_level level path.entries) w' j
-returned_below clauses path path' w w' level j h r lt =
-    let old = h.watching in
+returned_upheld : (clauses : List NumberedClause) (path path' : Path) (s s' : State) (level : ℕ) (trail passed : List Entry) (count : ℕ) → Returns path path' s s' level
+    → AreUpheld clauses s trail passed count → AreUpheld clauses s' trail passed count
+returned_upheld clauses path path' s s' level trail passed count r h =
+    same_upheld clauses s s' trail passed count (ap (λ (v : Vec Watch Global). v.items) r.watches) (ap (λ (v : Vec ℕ Global). v.items) r.waiting) h
+
+returned_below : (clauses : List NumberedClause) (path path' : Path) (s s' : State) (level j : ℕ) → IsState clauses path s → Returns path path' s s' level → j < level
+    → IsKnownBelow clauses (up_to_level level path.entries) s' j
+returned_below clauses path path' s s' level j h r lt =
+    let old = h.known in
     let within : j < present_level path.entries = omega (arith, lt, r.below, old.marks) in
     let b = old.below j within in
     let same = sym (level_twice j level path.entries (omega (arith, lt))) in
-    let mark : mark_at w'.marks.items j ≡ mark_at w.marks.items j = ap (λ (ms : List ℕ). mark_at ms j) r.marks ∙ mark_take w.marks.items level j lt in
+    let mark : mark_at s'.marks.items j ≡ mark_at s.marks.items j = ap (λ (ms : List ℕ). mark_at ms j) r.marks ∙ mark_take s.marks.items level j lt in
     let rise = old.rising j level lt r.below in
     record {
-      mark = omega (arith, mark, rise, r.checked);
+      mark = omega (arith, mark, rise, r.satisfied);
       passed = (let f = fewer j (up_to_level level path.entries) in omega (arith, f, r.head));
-      upheld = λ place under.
-          subst (λ (t : List Entry). is_upheld t t (watch_at w'.watches.items place) ≡ true) same
-          (subst (λ (ws : Vec Watch Global). is_upheld (up_to_level j path.entries) (up_to_level j path.entries) (watch_at ws.items place) ≡ true) (sym r.watches)
-          (b.upheld place (omega (arith, under, mark))));
+      upheld = subst (λ (t : List Entry). AreUpheld clauses s' t t (mark_at s'.marks.items j)) same
+          (subst (λ (n : ℕ). AreUpheld clauses s' (up_to_level j path.entries) (up_to_level j path.entries) n) (sym mark)
+          (returned_upheld clauses path path' s s' level (up_to_level j path.entries) (up_to_level j path.entries) (mark_at s.marks.items j) r b.upheld));
     }
 
-pub returned_state : (clauses : List Held) (path path' : Path) (w w' : State) (level : ℕ) → IsState clauses path w → Returns path path' w w' level → IsState clauses path' w'
-returned_state clauses path path' w w' level h r =
-    let old = h.watching in
+pub returned_state : (clauses : List NumberedClause) (path path' : Path) (s s' : State) (level : ℕ) → IsState clauses path s → Returns path path' s s' level → IsState clauses path' s'
+returned_state clauses path path' s s' level h r =
+    let old = h.known in
     let trail = path.entries in
     let back = up_to_level level trail in
-    let pre = prefix_of path.vars clauses level (length trail) trail refl h.held.trail in
+    let pre = prefix_of path.vars clauses level (length trail) trail refl h.propagation.trail in
     let present : present_level back ≡ level = pre.reached (omega (arith, r.below, old.marks)) in
     let below = old.below level (omega (arith, r.below, old.marks)) in
-    let count : length w'.marks.items ≡ level = ap length r.marks ∙ length-take-le level w.marks.items (omega (arith, r.below)) in
-    subst (λ (p : Path). IsState clauses p w') (sym r.path_is) (record {
-      held = record {
-        vars = h.held.vars;
-        clauses = h.held.clauses;
-        numbers = h.held.numbers;
-        trail = trail_prefix path.vars clauses back pre.rest (subst (λ (t : List Entry). is_trail path.vars clauses t ≡ true) pre.whole h.held.trail);
+    let count : length s'.marks.items ≡ level = ap length r.marks ∙ length-take-le level s.marks.items (omega (arith, r.below)) in
+    let waiting : s'.waiting.items ≡ s.waiting.items = ap (λ (v : Vec ℕ Global). v.items) r.waiting in
+    subst (λ (p : Path). IsState clauses p s') (sym r.path_is) (record {
+      propagation = record {
+        vars = h.propagation.vars;
+        clauses = h.propagation.clauses;
+        numbers = h.propagation.numbers;
+        trail = trail_prefix path.vars clauses back pre.rest (subst (λ (t : List Entry). is_trail path.vars clauses t ≡ true) pre.whole h.propagation.trail);
       };
-      watching = record {
-        linked = subst (λ (ws : Vec Watch Global). IsLinked path.vars clauses ws.items w'.lists) (sym r.watches) (subst (λ (ls : Watchers). IsLinked path.vars clauses w.watches.items ls) (sym r.lists) old.linked);
-        checked = omega (arith, r.checked, below.mark, old.checked);
+      known = record {
+        linked = subst (λ (ps : List ℕ). IsLinked path.vars clauses s'.watches.items s'.lists ps) (sym waiting)
+            (subst (λ (ws : Vec Watch Global). IsLinked path.vars clauses ws.items s'.lists s.waiting.items) (sym r.watches)
+            (subst (λ (ls : Watchers). IsLinked path.vars clauses s.watches.items ls s.waiting.items) (sym r.lists) old.linked));
+        satisfied = (let same = ap length waiting in omega (arith, r.satisfied, below.mark, old.satisfied, same));
         head = omega (arith, r.head);
         marks = count ∙ sym present;
         marks_room = omega (arith, r.capacity, old.marks_room);
         rising = λ j k lt within.
             let k_under : k < level = omega (arith, within, count) in
-            let a : mark_at w'.marks.items j ≡ mark_at w.marks.items j = ap (λ (ms : List ℕ). mark_at ms j) r.marks ∙ mark_take w.marks.items level j (omega (arith, lt, k_under)) in
-            let b : mark_at w'.marks.items k ≡ mark_at w.marks.items k = ap (λ (ms : List ℕ). mark_at ms k) r.marks ∙ mark_take w.marks.items level k k_under in
+            let a : mark_at s'.marks.items j ≡ mark_at s.marks.items j = ap (λ (ms : List ℕ). mark_at ms j) r.marks ∙ mark_take s.marks.items level j (omega (arith, lt, k_under)) in
+            let b : mark_at s'.marks.items k ≡ mark_at s.marks.items k = ap (λ (ms : List ℕ). mark_at ms k) r.marks ∙ mark_take s.marks.items level k k_under in
             let rise = old.rising j k lt (omega (arith, k_under, r.below)) in
             omega (arith, a, b, rise);
-        upheld = λ place lt.
-            subst (λ (t : List Entry). is_upheld back t (watch_at w'.watches.items place) ≡ true) (sym (take_all w'.head back (let e = r.head in omega (arith, e))))
-            (subst (λ (ws : Vec Watch Global). is_upheld back back (watch_at ws.items place) ≡ true) (sym r.watches) (below.upheld place (omega (arith, lt, r.checked))));
-        below = λ j lt. returned_below clauses path path' w w' level j h r (omega (arith, lt, present));
+        upheld = subst (λ (t : List Entry). AreUpheld clauses s' back t s'.satisfied) (sym (take_all s'.head back (let e = r.head in omega (arith, e))))
+            (subst (λ (n : ℕ). AreUpheld clauses s' back back n) (sym r.satisfied)
+            (returned_upheld clauses path path' s s' level back back (mark_at s.marks.items level) r below.upheld));
+        below = λ j lt. returned_below clauses path path' s s' level j h r (omega (arith, lt, present));
       };
     })

@@ -4,8 +4,8 @@ use Rattle.std.specs.declared.alloc.Global.{Global}
 use Rattle.std.specs.List.{swap_remove}
 use Rattle.std.proofs.lemmas.Bool.{cases_eq}
 use Rattle.std.proofs.lemmas.List.{set-get_or, get_or_read, get_or-map, map-set}
-use Rattle.lk_model.specs.Literal.{rank_of}
-use Rattle.watch_prop.specs.Watchers.{watching, with_watcher}
+use Rattle.lk_model.specs.Formulas.Literal.{rank_of}
+use Rattle.watch_prop.specs.Watchers.{watchers, with_watcher}
 use Rattle.watch_prop.specs.Linked.{moved}
 use Rattle.watch_prop.specs.KeptWatchers.{items_of, HasRoom}
 
@@ -29,17 +29,17 @@ items_push lists l r n v v' lt e rank pushed =
     ∙ ap (λ (ps : List ℕ). set (items_of lists) r ps) (pushed ∙ ap (λ (ps : List ℕ). ps ++ n ∷ []) (sym (items_at lists r v lt e)))
     ∙ ap (λ (i : ℕ). set (items_of lists) i (get_or (items_of lists) i [] ++ n ∷ [])) rank
 
-pub record HaveRooms (lists : List (Vec ℕ Global)) (holding : List ℕ) : Type 0 where
-  pub each : (r : ℕ) (d : Vec ℕ Global) → r < length lists → HasRoom (get_or lists r d) (get_or holding r 0)
+pub record HaveRooms (lists : List (Vec ℕ Global)) (counts : List ℕ) : Type 0 where
+  pub each : (r : ℕ) (d : Vec ℕ Global) → r < length lists → HasRoom (get_or lists r d) (get_or counts r 0)
 
-pub rooms_set : (lists : List (Vec ℕ Global)) (holding : List ℕ) (i : ℕ) (v : Vec ℕ Global) → HaveRooms lists holding → HasRoom v (get_or holding i 0) → HaveRooms (set lists i v) holding
-rooms_set lists holding i v h room = record {
+pub rooms_set : (lists : List (Vec ℕ Global)) (counts : List ℕ) (i : ℕ) (v : Vec ℕ Global) → HaveRooms lists counts → HasRoom v (get_or counts i 0) → HaveRooms (set lists i v) counts
+rooms_set lists counts i v h room = record {
   each = λ r d lt.
       let long = length-set lists i v in
       elim (cases_eq r i) [
-        | inl y ↦ subst (λ (k : ℕ). HasRoom (get_or (set lists i v) k d) (get_or holding k 0)) (sym y)
-            (subst (λ (x : Vec ℕ Global). HasRoom x (get_or holding i 0)) (sym (get_or-set_same lists i v d (omega (arith, y, lt, long)))) room)
-        | inr y ↦ subst (λ (x : Vec ℕ Global). HasRoom x (get_or holding r 0)) (sym (get_or-set_other lists i r v d y)) (h.each r d (omega (arith, lt, long)))
+        | inl y ↦ subst (λ (k : ℕ). HasRoom (get_or (set lists i v) k d) (get_or counts k 0)) (sym y)
+            (subst (λ (x : Vec ℕ Global). HasRoom x (get_or counts i 0)) (sym (get_or-set_same lists i v d (omega (arith, y, lt, long)))) room)
+        | inr y ↦ subst (λ (x : Vec ℕ Global). HasRoom x (get_or counts r 0)) (sym (get_or-set_other lists i r v d y)) (h.each r d (omega (arith, lt, long)))
       ];
 }
 
@@ -62,15 +62,15 @@ pub shift_lists : (lists : List (Vec ℕ Global)) (l other : ℤ) (at : ℕ) (fr
     → place ≡ get_or from.items at place → from'.items ≡ swap_remove from.items at place → to'.items ≡ to.items ++ place ∷ []
     → items_of (set (set lists (rank_of l) from') (rank_of other) to') ≡ moved (items_of lists) l at other
 shift_lists lists l other at from to from' to' place lt_l lt_other read_from read_to within read_place made_from made_to =
-    let was : from.items ≡ watching (items_of lists) l = sym (items_at lists (rank_of l) from lt_l read_from) in
-    let place_is : place ≡ get_or (watching (items_of lists) l) at 0 = get_or_read from.items at place within read_place 0 ∙ ap (λ (ns : List ℕ). get_or ns at 0) was in
-    let less : from'.items ≡ swap_remove (watching (items_of lists) l) at (get_or (watching (items_of lists) l) at 0) =
-    made_from ∙ ap (λ (ns : List ℕ). swap_remove ns at place) was ∙ ap (λ (x : ℕ). swap_remove (watching (items_of lists) l) at x) place_is in
-    let once : items_of (set lists (rank_of l) from') ≡ set (items_of lists) (rank_of l) (swap_remove (watching (items_of lists) l) at (get_or (watching (items_of lists) l) at 0)) =
+    let was : from.items ≡ watchers (items_of lists) l = sym (items_at lists (rank_of l) from lt_l read_from) in
+    let place_is : place ≡ get_or (watchers (items_of lists) l) at 0 = get_or_read from.items at place within read_place 0 ∙ ap (λ (ns : List ℕ). get_or ns at 0) was in
+    let less : from'.items ≡ swap_remove (watchers (items_of lists) l) at (get_or (watchers (items_of lists) l) at 0) =
+    made_from ∙ ap (λ (ns : List ℕ). swap_remove ns at place) was ∙ ap (λ (x : ℕ). swap_remove (watchers (items_of lists) l) at x) place_is in
+    let once : items_of (set lists (rank_of l) from') ≡ set (items_of lists) (rank_of l) (swap_remove (watchers (items_of lists) l) at (get_or (watchers (items_of lists) l) at 0)) =
     items_set lists (rank_of l) from' ∙ ap (λ (ns : List ℕ). set (items_of lists) (rank_of l) ns) less in
     let lt_other' : rank_of other < length (set lists (rank_of l) from') = (let n = length-set lists (rank_of l) from' in omega (arith, lt_other, n)) in
     let had : to.items ≡ get_or (items_of (set lists (rank_of l) from')) (rank_of other) [] = sym (items_at (set lists (rank_of l) from') (rank_of other) to lt_other' read_to) in
     items_set (set lists (rank_of l) from') (rank_of other) to'
     ∙ ap (λ (ns : List ℕ). set (items_of (set lists (rank_of l) from')) (rank_of other) ns) (made_to ∙ ap (λ (ns : List ℕ). ns ++ place ∷ []) had)
     ∙ ap (λ (x : ℕ). set (items_of (set lists (rank_of l) from')) (rank_of other) (get_or (items_of (set lists (rank_of l) from')) (rank_of other) [] ++ x ∷ [])) place_is
-    ∙ ap (λ (ls : List (List ℕ)). set ls (rank_of other) (get_or ls (rank_of other) [] ++ get_or (watching (items_of lists) l) at 0 ∷ [])) once
+    ∙ ap (λ (ls : List (List ℕ)). set ls (rank_of other) (get_or ls (rank_of other) [] ++ get_or (watchers (items_of lists) l) at 0 ∷ [])) once

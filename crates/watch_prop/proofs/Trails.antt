@@ -3,27 +3,28 @@ use Rattle.std.proofs.Common.{◌≡◌, ℕ, zero, suc, ◌<◌, ◌≤◌, Boo
 use Rattle.std.specs.Option.{option_map_or}
 use Rattle.std.specs.List.{list_all}
 use Rattle.std.specs.Ordering.{int_eq}
-use Rattle.std.proofs.lemmas.Bool.{leb-true, eqb-true, eq-eqb, cases_Bool, false_from_ne_true}
+use Rattle.std.proofs.lemmas.Bool.{leb-true, eqb-true, eq-eqb, cases_Bool, false_from_ne_true, not-true}
 use Rattle.std.proofs.lemmas.List.{append-nil}
 use Rattle.std.proofs.lemmas.List.Folds.{list_all-append}
 use Rattle.lk_model.specs.Lists.{with_earlier, among, is_empty}
-use Rattle.lk_model.specs.Literal.{variable, contains, is_literal, is_clause}
+use Rattle.lk_model.specs.Formulas.Literal.{variable, contains, is_literal, is_clause}
 use Rattle.lk_model.proofs.Booleans.{and_true, or_false, or_left, or_right}
 use Rattle.watch_prop.specs.declared.entry.Entry.{Entry}
-use Rattle.watch_prop.specs.declared.entry.Held.{Held}
-use Rattle.watch_prop.specs.Trail.{literals_of, true_in, false_in, entry_of, level_of, present_level, clause_held, forces, has_reason, may_come, may_follow, is_path, is_trail}
+use Rattle.watch_prop.specs.declared.entry.NumberedClause.{NumberedClause}
+use Rattle.watch_prop.specs.Trail.{literals_of, true_in, false_in, entry_of, level_of, present_level, clause_numbered, forces, has_reason, may_come, may_follow, is_path, is_trail}
 use Rattle.watch_prop.specs.Propagation.{Propagation, IsPropagation, GoesOn, numbers_of, are_distinct}
 use Rattle.watch_prop.specs.Linked.{clause_at_place}
 use Rattle.watch_prop.proofs.Paths.{with_earlier_more, last_level, all_weaker, all_more, path_levels}
+use Rattle.watch_prop.proofs.Lists.{distinct_push}
 use Rattle.watch_prop.proofs.Truths.{one_variable, same_true}
 
-pub trail_path : (vars : ℕ) (clauses : List Held) (trail : List Entry) → is_trail vars clauses trail ≡ true → is_path vars trail ≡ true
+pub trail_path : (vars : ℕ) (clauses : List NumberedClause) (trail : List Entry) → is_trail vars clauses trail ≡ true → is_path vars trail ≡ true
 unfolding is_trail is_path
 trail_path vars clauses trail h =
     all_weaker (λ (earlier, e). may_follow vars clauses earlier e) (λ (earlier, e). may_come vars earlier e)
     (λ q t. (and_true (may_come vars q.0 q.1) (has_reason clauses q.0 q.1) t).0) (with_earlier [] trail) h
 
-pub trail_more : (vars : ℕ) (clauses : List Held) (trail : List Entry) (e : Entry)
+pub trail_more : (vars : ℕ) (clauses : List NumberedClause) (trail : List Entry) (e : Entry)
     → is_trail vars clauses (trail ++ e ∷ []) ≡ (is_trail vars clauses trail && may_follow vars clauses trail e)
 unfolding is_trail
 trail_more vars clauses trail e =
@@ -37,92 +38,70 @@ trail_more vars clauses trail e =
 
 -- ONE MORE CLAUSE
 
-held_more : (clauses : List Held) (d : Held) (k : ℕ) (c : List ℤ) → clause_held clauses k ≡ Some c → clause_held (clauses ++ d ∷ []) k ≡ Some c
-held_more [] d k c e = absurd (let f : ⊥ = cc in f)
-held_more (h ∷ clauses) d k c e = at (h.number == k) (held_more clauses d k c) e
+numbered_more : (clauses : List NumberedClause) (d : NumberedClause) (k : ℕ) (c : List ℤ) → clause_numbered clauses k ≡ Some c → clause_numbered (clauses ++ d ∷ []) k ≡ Some c
+numbered_more [] d k c e = absurd (let f : ⊥ = cc in f)
+numbered_more (h ∷ clauses) d k c e = at (h.number == k) (numbered_more clauses d k c) e
   where
-    at : (b : Bool) → (clause_held clauses k ≡ Some c → clause_held (clauses ++ d ∷ []) k ≡ Some c)
-        → option_map (λ (c : Held). c.lits) (cond b (Some h) (find (λ (c : Held). c.number == k) clauses)) ≡ Some c
-        → option_map (λ (c : Held). c.lits) (cond b (Some h) (find (λ (c : Held). c.number == k) (clauses ++ d ∷ []))) ≡ Some c
+    at : (b : Bool) → (clause_numbered clauses k ≡ Some c → clause_numbered (clauses ++ d ∷ []) k ≡ Some c)
+        → option_map (λ (c : NumberedClause). c.lits) (cond b (Some h) (find (λ (c : NumberedClause). c.number == k) clauses)) ≡ Some c
+        → option_map (λ (c : NumberedClause). c.lits) (cond b (Some h) (find (λ (c : NumberedClause). c.number == k) (clauses ++ d ∷ []))) ≡ Some c
     at true more e = e
     at false more e = more e
 
-reason_more : (clauses : List Held) (d : Held) (earlier : List Entry) (e : Entry) → has_reason clauses earlier e ≡ true → has_reason (clauses ++ d ∷ []) earlier e ≡ true
+reason_more : (clauses : List NumberedClause) (d : NumberedClause) (earlier : List Entry) (e : Entry) → has_reason clauses earlier e ≡ true → has_reason (clauses ++ d ∷ []) earlier e ≡ true
 reason_more clauses d earlier e h = at e.reason h
   where
-    at_clause : (k : ℕ) (o : Option (List ℤ)) → clause_held clauses k ≡ o → option_map_or (λ c. forces c earlier e.lit) o false ≡ true
-        → option_map_or (λ c. forces c earlier e.lit) (clause_held (clauses ++ d ∷ []) k) false ≡ true
+    at_clause : (k : ℕ) (o : Option (List ℤ)) → clause_numbered clauses k ≡ o → option_map_or (λ c. forces c earlier e.lit) o false ≡ true
+        → option_map_or (λ c. forces c earlier e.lit) (clause_numbered (clauses ++ d ∷ []) k) false ≡ true
     at_clause k None f h = absurd (let z : ⊥ = cc in z)
-    at_clause k (Some c) f h = rw (held_more clauses d k c f) h
+    at_clause k (Some c) f h = rw (numbered_more clauses d k c f) h
 
-    at : (r : Option ℕ) → option_map_or (λ k. option_map_or (λ c. forces c earlier e.lit) (clause_held clauses k) false) r true ≡ true
-        → option_map_or (λ k. option_map_or (λ c. forces c earlier e.lit) (clause_held (clauses ++ d ∷ []) k) false) r true ≡ true
+    at : (r : Option ℕ) → option_map_or (λ k. option_map_or (λ c. forces c earlier e.lit) (clause_numbered clauses k) false) r true ≡ true
+        → option_map_or (λ k. option_map_or (λ c. forces c earlier e.lit) (clause_numbered (clauses ++ d ∷ []) k) false) r true ≡ true
     at None h = refl
-    at (Some k) h = at_clause k (clause_held clauses k) refl h
+    at (Some k) h = at_clause k (clause_numbered clauses k) refl h
 
-follow_more : (vars : ℕ) (clauses : List Held) (d : Held) (earlier : List Entry) (e : Entry) → may_follow vars clauses earlier e ≡ true → may_follow vars (clauses ++ d ∷ []) earlier e ≡ true
+follow_more : (vars : ℕ) (clauses : List NumberedClause) (d : NumberedClause) (earlier : List Entry) (e : Entry) → may_follow vars clauses earlier e ≡ true → may_follow vars (clauses ++ d ∷ []) earlier e ≡ true
 follow_more vars clauses d earlier e h =
     let a = and_true (may_come vars earlier e) (has_reason clauses earlier e) h in
     rw (a.0) (reason_more clauses d earlier e a.1)
 
-pub trail_of_more : (vars : ℕ) (clauses : List Held) (d : Held) (trail : List Entry) → is_trail vars clauses trail ≡ true → is_trail vars (clauses ++ d ∷ []) trail ≡ true
+pub trail_of_more : (vars : ℕ) (clauses : List NumberedClause) (d : NumberedClause) (trail : List Entry) → is_trail vars clauses trail ≡ true → is_trail vars (clauses ++ d ∷ []) trail ≡ true
 unfolding is_trail
 trail_of_more vars clauses d trail h =
     all_weaker (λ (earlier, e). may_follow vars clauses earlier e) (λ (earlier, e). may_follow vars (clauses ++ d ∷ []) earlier e)
     (λ q. follow_more vars clauses d q.0 q.1) (with_earlier [] trail) h
 
-test_apart : (a b : ℕ) → (a == b) ≡ false → (b == a) ≡ false
-test_apart a b e = at (b == a) refl
-  where
-    at : (t : Bool) → (b == a) ≡ t → t ≡ false
-    at true f = let g : true ≡ false = sym (eq-eqb a b (sym (eqb-true b a f))) ∙ e in absurd (let z : ⊥ = cc in z)
-    at false f = refl
-
-pub not_true : (b : Bool) → not b ≡ true → b ≡ false
-not_true true e = absurd (let f : ⊥ = cc in f)
-not_true false e = refl
-
-absent_more : (ns : List ℕ) (n m : ℕ) → among ns m ≡ false → (n == m) ≡ false → among (ns ++ n ∷ []) m ≡ false
-absent_more [] n m e f = rw f refl
-absent_more (k ∷ ns) n m e f = let b = or_false (k == m) (among ns m) e in rw (b.0) (absent_more ns n m b.1 f)
-
-distinct_more : (ns : List ℕ) (n : ℕ) → are_distinct ns ≡ true → among ns n ≡ false → are_distinct (ns ++ n ∷ []) ≡ true
-distinct_more [] n h f = refl
-distinct_more (m ∷ ns) n h f =
-    let a = and_true (not (among ns m)) (are_distinct ns) h in
-    let b = or_false (m == n) (among ns n) f in
-    rw (absent_more ns n m (not_true (among ns m) a.0) (test_apart m n b.0), distinct_more ns n a.1 b.1) refl
-
-pub numbers_more : (clauses : List Held) (d : Held) → are_distinct (numbers_of clauses) ≡ true → not (among (numbers_of clauses) d.number) ≡ true
+pub numbers_more : (clauses : List NumberedClause) (d : NumberedClause) → are_distinct (numbers_of clauses) ≡ true → not (among (numbers_of clauses) d.number) ≡ true
     → are_distinct (numbers_of (clauses ++ d ∷ [])) ≡ true
-numbers_more clauses d h f = rw (numbers_append clauses) (distinct_more (numbers_of clauses) d.number h (not_true (among (numbers_of clauses) d.number) f))
+numbers_more clauses d h f = rw (numbers_append clauses) (distinct_push (numbers_of clauses) d.number h (not-true (among (numbers_of clauses) d.number) f))
   where
-    numbers_append : (clauses : List Held) → numbers_of (clauses ++ d ∷ []) ≡ numbers_of clauses ++ d.number ∷ []
+    numbers_append : (clauses : List NumberedClause) → numbers_of (clauses ++ d ∷ []) ≡ numbers_of clauses ++ d.number ∷ []
     numbers_append [] = refl
     numbers_append (c ∷ clauses) = ap (λ ns. c.number ∷ ns) (numbers_append clauses)
 
 -- a propagation that holds one more clause
-pub holds_more : (p : Propagation) (clauses : List Held) (d : Held) → IsPropagation p → (not (is_empty d.lits) && is_clause p.vars d.lits) ≡ true
+pub holds_more : (p : Propagation) (clauses : List NumberedClause) (d : NumberedClause) → IsPropagation p → (not (is_empty d.lits) && is_clause p.vars d.lits) ≡ true
     → not (among (numbers_of p.clauses) d.number) ≡ true → clauses ≡ p.clauses ++ d ∷ [] → IsPropagation (record p { clauses = clauses })
 holds_more p clauses d h may fresh e =
-    subst (λ (cs : List Held). IsPropagation (record p { clauses = cs })) (sym e) (record {
+    subst (λ (cs : List NumberedClause). IsPropagation (record p { clauses = cs })) (sym e) (record {
       vars = h.vars;
-      clauses = all_more (λ (c : Held). not (is_empty c.lits) && is_clause p.vars c.lits) p.clauses d h.clauses may;
+      clauses = all_more (λ (c : NumberedClause). not (is_empty c.lits) && is_clause p.vars c.lits) p.clauses d h.clauses may;
       numbers = numbers_more p.clauses d h.numbers fresh;
       trail = trail_of_more p.vars p.clauses d p.trail h.trail;
     })
 
 -- THE CLAUSE AT A PLACE
 
-number_among : (clauses : List Held) (place : ℕ) → place < length clauses → among (numbers_of clauses) (clause_at_place clauses place).number ≡ true
+number_among : (clauses : List NumberedClause) (place : ℕ) → place < length clauses → among (numbers_of clauses) (clause_at_place clauses place).number ≡ true
 number_among [] place lt = absurd (omega arith)
 number_among (c ∷ clauses) zero lt = or_left (c.number == c.number) (among (numbers_of clauses) c.number) (eq-eqb c.number c.number refl)
 number_among (c ∷ clauses) (suc place) lt =
     or_right (c.number == (clause_at_place clauses place).number) (among (numbers_of clauses) (clause_at_place clauses place).number) (number_among clauses place (omega (arith, lt)))
 
 -- it is found by its number
-pub found_by_number : (clauses : List Held) (place : ℕ) → are_distinct (numbers_of clauses) ≡ true → place < length clauses
-    → clause_held clauses (clause_at_place clauses place).number ≡ Some (clause_at_place clauses place).lits
+pub found_by_number : (clauses : List NumberedClause) (place : ℕ) → are_distinct (numbers_of clauses) ≡ true → place < length clauses
+    → clause_numbered clauses (clause_at_place clauses place).number ≡ Some (clause_at_place clauses place).lits
 found_by_number [] place d lt = absurd (omega arith)
 found_by_number (c ∷ clauses) zero d lt = rw (eq-eqb c.number c.number refl) refl
 found_by_number (c ∷ clauses) (suc place) d lt =
@@ -131,7 +110,7 @@ found_by_number (c ∷ clauses) (suc place) d lt =
     let n = (clause_at_place clauses place).number in
     let apart : (c.number == n) ≡ false = false_from_ne_true (c.number == n)
     (λ e. (let f : among (numbers_of clauses) c.number ≡ true = subst (λ (k : ℕ). among (numbers_of clauses) k ≡ true) (sym (eqb-true c.number n e)) there in
-    let g : true ≡ false = sym f ∙ not_true (among (numbers_of clauses) c.number) both.0 in let z : ⊥ = cc in z)) in
+    let g : true ≡ false = sym f ∙ not-true (among (numbers_of clauses) c.number) both.0 in let z : ⊥ = cc in z)) in
     rw apart (found_by_number clauses place both.1 (omega (arith, lt)))
 
 -- A FORCED LITERAL
@@ -168,7 +147,7 @@ unset_entry_of trail l t f = at (entry_of trail (variable l)) refl
         ]
 
 -- A literal may follow that the clause at a place holds, in which every other one is false.
-pub may_force : (vars : ℕ) (clauses : List Held) (trail : List Entry) (place : ℕ) (e : Entry) → are_distinct (numbers_of clauses) ≡ true → place < length clauses
+pub may_force : (vars : ℕ) (clauses : List NumberedClause) (trail : List Entry) (place : ℕ) (e : Entry) → are_distinct (numbers_of clauses) ≡ true → place < length clauses
     → is_literal vars e.lit ≡ true → true_in trail e.lit ≡ false → false_in trail e.lit ≡ false
     → contains (clause_at_place clauses place).lits e.lit ≡ true
     → list_all (λ k. int_eq k e.lit || false_in trail k) (clause_at_place clauses place).lits ≡ true

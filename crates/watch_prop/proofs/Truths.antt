@@ -6,7 +6,7 @@ use Rattle.std.specs.Ordering.{int_eq}
 use Rattle.std.proofs.lemmas.Bool.{eqb-true, eq-eqb, cases_Bool, false_from_ne_true}
 use Rattle.std.proofs.lemmas.Bool.Decides.{Decides-int_eq}
 use Rattle.lk_model.specs.Lists.{with_earlier}
-use Rattle.lk_model.specs.Literal.{variable, complement, contains}
+use Rattle.lk_model.specs.Formulas.Literal.{variable, complement, contains}
 use Rattle.lk_model.proofs.Booleans.{and_true, or_true}
 use Rattle.lk_model.proofs.Flags.{same_false}
 use Rattle.watch_prop.specs.declared.entry.Entry.{Entry}

@@ -1,16 +1,15 @@
 -- Watches that are upheld, and how they stay so.
-use Rattle.std.proofs.Common.{◌≡◌, ℕ, zero, suc, Bool, true, false, cond, not, ◌&&◌, ◌||◌, List, [], ◌∷◌, ◌++◌, refl, sym, ◌∙◌, ap, subst, ℤ, take, nat_le, inl, inr}
+use Rattle.std.proofs.Common.{◌≡◌, ◌≢◌, ℕ, zero, suc, Bool, true, false, cond, not, ◌&&◌, ◌||◌, List, [], ◌∷◌, ◌++◌, refl, sym, ◌∙◌, ap, subst, ℤ, take, nat_le, inl, inr}
 use Rattle.std.specs.Ordering.{int_eq}
-use Rattle.std.proofs.lemmas.Bool.{cases_Bool, false_from_ne_true}
-use Rattle.lk_model.specs.Literal.{complement}
+use Rattle.std.proofs.lemmas.Bool.{cases_Bool, false_from_ne_true, not-true}
+use Rattle.lk_model.specs.Formulas.Literal.{complement}
 use Rattle.lk_model.proofs.Booleans.{and_true, or_true, or_left, or_right}
 use Rattle.watch_prop.specs.declared.entry.Entry.{Entry}
 use Rattle.watch_prop.specs.declared.watch.Watch.{Watch}
 use Rattle.watch_prop.specs.Trail.{true_in, false_in, up_to_level}
-use Rattle.watch_prop.specs.Watch.{beside_of, is_upheld}
+use Rattle.watch_prop.specs.Watch.{other_of, is_upheld}
 use Rattle.watch_prop.specs.Linked.{watches_it}
-use Rattle.watch_prop.proofs.Truths.{true_same, same_true}
-use Rattle.watch_prop.proofs.Trails.{not_true}
+use Rattle.watch_prop.proofs.Truths.{true_same, same_true, false_apart}
 
 -- PARTS OF A TRAIL
 
@@ -62,39 +61,30 @@ not_there part trail l p n = false_from_ne_true (true_in part l) (λ h. (let f :
 
 -- UPHELD
 
--- a watch that has no true literal has two, neither false
+or_rest : (a b c : Bool) → (a || b || c) ≡ true → a ≡ false → b ≡ false → c ≡ true
+or_rest true b c h e f = absurd (let z : ⊥ = cc in z)
+or_rest false true c h e f = absurd (let z : ⊥ = cc in z)
+or_rest false false c h e f = h
+
+-- of a watch that has no true literal neither is false
 pub record AreFree (passed : List Entry) (w : Watch) : Type 0 where
-  pub two : int_eq w.first w.second ≡ false
   pub first : false_in passed w.first ≡ false
   pub second : false_in passed w.second ≡ false
 
 pub free : (trail passed : List Entry) (w : Watch) → is_upheld trail passed w ≡ true → true_in trail w.first ≡ false → true_in trail w.second ≡ false → AreFree passed w
 free trail passed w h a b =
-    let rest : (not (int_eq w.first w.second) && not (false_in passed w.first) && not (false_in passed w.second)) ≡ true =
-    sym (ap (λ (x : Bool). x || true_in trail w.second || not (int_eq w.first w.second) && not (false_in passed w.first) && not (false_in passed w.second)) a
-    ∙ ap (λ (x : Bool). x || not (int_eq w.first w.second) && not (false_in passed w.first) && not (false_in passed w.second)) b) ∙ h in
-    let x = and_true _ (not (false_in passed w.second)) rest in
-    let y = and_true (not (int_eq w.first w.second)) (not (false_in passed w.first)) x.0 in
-    record { two = not_true _ y.0; first = not_true _ y.1; second = not_true _ x.1 }
+    let both = and_true (not (false_in passed w.first)) (not (false_in passed w.second)) (or_rest (true_in trail w.first) (true_in trail w.second) _ h a b) in
+    record { first = not-true _ both.0; second = not-true _ both.1 }
 
 pub upheld_first : (trail passed : List Entry) (w : Watch) → true_in trail w.first ≡ true → is_upheld trail passed w ≡ true
 upheld_first trail passed w h = rw h refl
 
 pub upheld_second : (trail passed : List Entry) (w : Watch) → true_in trail w.second ≡ true → is_upheld trail passed w ≡ true
-upheld_second trail passed w h = at (true_in trail w.first)
-  where
-    at : (a : Bool) → (a || true_in trail w.second || not (int_eq w.first w.second) && not (false_in passed w.first) && not (false_in passed w.second)) ≡ true
-    at true = refl
-    at false = rw h refl
+upheld_second trail passed w h = or_left (true_in trail w.first || true_in trail w.second) _ (or_right (true_in trail w.first) (true_in trail w.second) h)
 
-pub upheld_free : (trail passed : List Entry) (w : Watch) → int_eq w.first w.second ≡ false → false_in passed w.first ≡ false → false_in passed w.second ≡ false
-    → is_upheld trail passed w ≡ true
-upheld_free trail passed w n a b = at (true_in trail w.first) (true_in trail w.second)
-  where
-    at : (x y : Bool) → (x || y || not (int_eq w.first w.second) && not (false_in passed w.first) && not (false_in passed w.second)) ≡ true
-    at true y = refl
-    at false true = refl
-    at false false = rw (n, a, b) refl
+pub upheld_free : (trail passed : List Entry) (w : Watch) → false_in passed w.first ≡ false → false_in passed w.second ≡ false → is_upheld trail passed w ≡ true
+upheld_free trail passed w a b =
+    or_right (true_in trail w.first || true_in trail w.second) (not (false_in passed w.first) && not (false_in passed w.second)) (rw (a, b) refl)
 
 -- longer trails uphold what shorter ones did
 pub upheld_more : (trail more passed : List Entry) (w : Watch) → is_upheld trail passed w ≡ true → is_upheld (trail ++ more) passed w ≡ true
@@ -102,14 +92,14 @@ upheld_more trail more passed w h = elim (cases_Bool (true_in trail w.first)) [
   | inl a ↦ upheld_first (trail ++ more) passed w ((part_more trail more).there w.first a)
   | inr a ↦ elim (cases_Bool (true_in trail w.second)) [
     | inl b ↦ upheld_second (trail ++ more) passed w ((part_more trail more).there w.second b)
-    | inr b ↦ (let f = free trail passed w h a b in upheld_free (trail ++ more) passed w f.two f.first f.second)
+    | inr b ↦ (let f = free trail passed w h a b in upheld_free (trail ++ more) passed w f.first f.second)
   ]
 ]
 
 -- which of the two
 pub data IsOneOf (w : Watch) (l : ℤ) : Type 0 where
-  first : l ≡ w.first → beside_of w l ≡ w.second → IsOneOf w l
-  second : l ≡ w.second → beside_of w l ≡ w.first → IsOneOf w l
+  first : l ≡ w.first → other_of w l ≡ w.second → IsOneOf w l
+  second : l ≡ w.second → other_of w l ≡ w.first → IsOneOf w l
 
 pub one_of : (w : Watch) (l : ℤ) → watches_it w l ≡ true → IsOneOf w l
 one_of w l h = elim (cases_Bool (int_eq w.first l)) [
@@ -122,17 +112,26 @@ one_of w l h = elim (cases_Bool (int_eq w.first l)) [
       (ap (λ (b : Bool). cond b w.second w.first) y)
 ]
 
+pub other_apart : (w : Watch) (l : ℤ) → not (int_eq w.second w.first) ≡ true → watches_it w l ≡ true → other_of w l ≢ l
+other_apart w l two it same = at (one_of w l it)
+  where
+    apart : w.second ≢ w.first
+    apart = false_apart w.second w.first (not-true (int_eq w.second w.first) two)
+
+    at : IsOneOf w l → ⊥
+    at (first a b) = apart (sym b ∙ same ∙ a)
+    at (second a b) = apart (sym a ∙ sym same ∙ b)
+
 -- A clause that watches r in place of l is upheld under a part of the trail: l is not true, and r is not false.
 pub moved_upheld : (trail sub passed : List Entry) (w : Watch) (l r : ℤ) (n : ℕ) → IsPart sub trail → IsPart passed trail → is_upheld sub passed w ≡ true → watches_it w l ≡ true
-    → true_in trail l ≡ false → false_in trail r ≡ false → int_eq r (beside_of w l) ≡ false
-    → is_upheld sub passed (record { first = r; second = beside_of w l; from = n }) ≡ true
-moved_upheld trail sub passed w l r n part passed_part h it no_l no_r apart = elim (cases_Bool (true_in sub (beside_of w l))) [
-  | inl b ↦ upheld_second sub passed (record { first = r; second = beside_of w l; from = n }) b
-  | inr b ↦ upheld_free sub passed (record { first = r; second = beside_of w l; from = n }) apart (not_there passed trail (complement r) passed_part no_r)
+    → true_in trail l ≡ false → false_in trail r ≡ false → is_upheld sub passed (record { first = r; second = other_of w l; from = n }) ≡ true
+moved_upheld trail sub passed w l r n part passed_part h it no_l no_r = elim (cases_Bool (true_in sub (other_of w l))) [
+  | inl b ↦ upheld_second sub passed (record { first = r; second = other_of w l; from = n }) b
+  | inr b ↦ upheld_free sub passed (record { first = r; second = other_of w l; from = n }) (not_there passed trail (complement r) passed_part no_r)
       (at (one_of w l it) b (not_there sub trail l part no_l))
 ]
   where
-    at : IsOneOf w l → true_in sub (beside_of w l) ≡ false → true_in sub l ≡ false → false_in passed (beside_of w l) ≡ false
+    at : IsOneOf w l → true_in sub (other_of w l) ≡ false → true_in sub l ≡ false → false_in passed (other_of w l) ≡ false
     at (first a b) no_b no_l =
         let f = free sub passed w h (subst (λ (k : ℤ). true_in sub k ≡ false) a no_l) (subst (λ (k : ℤ). true_in sub k ≡ false) b no_b) in
         subst (λ (k : ℤ). false_in passed k ≡ false) (sym b) f.second

@@ -1,10 +1,10 @@
 -- What a propagator is seen as, and what it keeps.
 use Rattle.watch_prop.specs.declared.propagator.Propagator.TheInside.{Inside}
 use Rattle.watch_prop.specs.Propagation.{Propagation}
-use Rattle.watch_prop.specs.Watching.{IsState, propagation_of}
+use Rattle.watch_prop.specs.States.{IsState, propagation_of}
 
 abbrev pub propagator_seen : Inside → Propagation
 propagator_seen p = propagation_of p.clauses.items p.trail
 
 abbrev pub IsKeptWhole : Inside → Type 0
-IsKeptWhole p = IsState p.clauses.items p.trail p.watching
+IsKeptWhole p = IsState p.clauses.items p.trail p.state

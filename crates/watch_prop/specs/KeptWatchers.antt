@@ -1,18 +1,18 @@
 -- How the lists of watchers are kept: for as many clauses as hold a literal there is room.
 use Rattle.std.specs.Prelude.{◌≡◌, ℕ, ◌<◌, ◌≤◌, List, map, length, slice_index_or, Vec, vec_len, vec_capacity}
 use Rattle.std.specs.declared.alloc.Global.{Global}
-use Rattle.watch_prop.specs.declared.watch_lists.WatchLists.TheInside.{Inside}
+use Rattle.watch_prop.specs.declared.watcher_lists.WatcherLists.TheInside.{Inside}
 use Rattle.watch_prop.specs.Watchers.{Watchers}
 
 abbrev pub items_of : List (Vec ℕ Global) → List (List ℕ)
 items_of lists = map (λ (v : Vec ℕ Global). v.items) lists
 
 abbrev pub watchers_seen : Inside → Watchers
-watchers_seen w = record { lists = items_of w.lists.items; holding = w.holding.items }
+watchers_seen w = record { lists = items_of w.lists.items; counts = w.counts.items }
 
 abbrev pub HasRoom : Vec ℕ Global → ℕ → Type 0
 HasRoom v n = (vec_len v ≤ n) × (n ≤ vec_capacity v)
 
 pub record HaveRoom (w : Inside) : Type 0 where
-  pub same : length w.lists.items ≡ length w.holding.items
-  pub each : (r : ℕ) (d : Vec ℕ Global) → r < length w.lists.items → HasRoom (slice_index_or w.lists.items r d) (slice_index_or w.holding.items r 0)
+  pub same : length w.lists.items ≡ length w.counts.items
+  pub each : (r : ℕ) (d : Vec ℕ Global) → r < length w.lists.items → HasRoom (slice_index_or w.lists.items r d) (slice_index_or w.counts.items r 0)

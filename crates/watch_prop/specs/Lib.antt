@@ -5,5 +5,5 @@ pub mod Watchers
 pub mod KeptWatchers
 pub mod Propagation
 pub mod Linked
-pub mod Watching
+pub mod States
 pub mod KeptPropagator

@@ -3,22 +3,23 @@ use Rattle.std.specs.Prelude.{◌≡◌, ℕ, ◌+◌, Bool, true, false, not, �
 use Rattle.std.specs.List.{list_all}
 use Rattle.std.specs.Option.{option_map_or}
 use Rattle.lk_model.specs.Lists.{is_empty, among}
-use Rattle.lk_model.specs.Literal.{variable, complement, is_clause, is_tautology}
+use Rattle.lk_model.specs.Formulas.Literal.{variable, complement, is_clause, is_tautology}
 use Rattle.lk_model.specs.Limits.{max_vars}
-use Rattle.lk_model.specs.Formula.{clause_at}
-use Rattle.lk_model.specs.Assignment.{Assignment, makes_true, satisfies}
-use Rattle.lk_model.specs.Crossed.{crossed_out, is_in}
+use Rattle.lk_model.specs.Formulas.Formula.{clause_at}
+use Rattle.lk_model.specs.Formulas.Assignment.{Assignment, makes_true, satisfies}
+use Rattle.lk_model.specs.Formulas.Crossed.{crossed_out}
+use Rattle.lk_model.specs.Held.VariableSets.{is_in}
 use Rattle.lk_model.specs.declared.crossed.Crossed.{Crossed}
 use Rattle.watch_prop.specs.declared.entry.Entry.{Entry}
-use Rattle.watch_prop.specs.declared.entry.Held.{Held}
+use Rattle.watch_prop.specs.declared.entry.NumberedClause.{NumberedClause}
 use Rattle.watch_prop.specs.declared.entry.Propagated.{Propagated}
 use Rattle.watch_prop.specs.declared.entry.Propagated.TheVariants.{Quiet, Conflict}
-use Rattle.watch_prop.specs.Trail.{assignment_along, present_level, up_to_level, clause_held, is_trail}
+use Rattle.watch_prop.specs.Trail.{assignment_along, present_level, up_to_level, clause_numbered, is_trail}
 
 -- the number of variables, the clauses that are held, and the trail
 pub record Propagation : Type 0 where
   pub vars : ℕ
-  pub clauses : List Held
+  pub clauses : List NumberedClause
   pub trail : List Entry
 
 -- the assignment of the trail
@@ -26,12 +27,12 @@ abbrev pub assigned : Propagation → Assignment
 assigned p = assignment_along p.trail
 
 -- the numbers of the clauses
-abbrev pub numbers_of : List Held → List ℕ
-numbers_of clauses = map (λ (c : Held). c.number) clauses
+abbrev pub numbers_of : List NumberedClause → List ℕ
+numbers_of clauses = map (λ (c : NumberedClause). c.number) clauses
 
 -- the non-empty crossed clauses of the part, each with its position as its number
-abbrev pub crossed_clauses : Crossed → List Held
-crossed_clauses over = filter (λ (c : Held). not (is_empty c.lits))
+abbrev pub crossed_clauses : Crossed → List NumberedClause
+crossed_clauses over = filter (λ (c : NumberedClause). not (is_empty c.lits))
     (map (λ p. record { number = p; lits = crossed_out (is_in over.blocked.now) (clause_at over.formula.now p) }) over.part.now)
 
 -- every literal is false
@@ -47,13 +48,13 @@ abbrev pub is_unit : Assignment → List ℤ → Bool
 is_unit φ c = not (satisfies φ c) && length (filter (is_unset φ) c) == 1
 
 -- no clause is false or has just one unset literal and no true one
-abbrev pub is_quiet : Assignment → List Held → Bool
-is_quiet φ clauses = list_all (λ (c : Held). not (is_false φ c.lits) && not (is_unit φ c.lits)) clauses
+abbrev pub is_quiet : Assignment → List NumberedClause → Bool
+is_quiet φ clauses = list_all (λ (c : NumberedClause). not (is_false φ c.lits) && not (is_unit φ c.lits)) clauses
 
 -- what a propagation answers
 abbrev pub IsAnswered : Propagation → Propagated → Type 0
 IsAnswered p Quiet = IsTrue (is_quiet (assigned p) p.clauses)
-IsAnswered p (Conflict k) = IsTrue (option_map_or (is_false (assigned p)) (clause_held p.clauses k) false)
+IsAnswered p (Conflict k) = IsTrue (option_map_or (is_false (assigned p)) (clause_numbered p.clauses k) false)
 
 -- The later one has the same clauses, and its trail goes on at the present level with literals that clauses forced.
 pub record GoesOn (before after : Propagation) : Type 0 where
@@ -87,6 +88,6 @@ are_distinct (n ∷ ns) = not (among ns n) && are_distinct ns
 -- what every propagation keeps
 pub record IsPropagation (p : Propagation) : Type 0 where
   pub vars : IsTrue (nat_le p.vars max_vars)
-  pub clauses : IsTrue (list_all (λ (c : Held). not (is_empty c.lits) && is_clause p.vars c.lits) p.clauses)
+  pub clauses : IsTrue (list_all (λ (c : NumberedClause). not (is_empty c.lits) && is_clause p.vars c.lits) p.clauses)
   pub numbers : IsTrue (are_distinct (numbers_of p.clauses))
   pub trail : IsTrue (is_trail p.vars p.clauses p.trail)

@@ -1,13 +1,13 @@
 -- Trails of unit propagation with decision levels: the literals that are true, in the order in which they came.
-use Rattle.std.specs.Prelude.{ℕ, ◌+◌, Bool, true, false, not, ◌&&◌, ◌||◌, ◌==◌, nat_le, List, [], ◌∷◌, map, filter, find, ℤ, Option, is_some, option_map, option_and_then}
+use Rattle.std.specs.Prelude.{ℕ, ◌+◌, Bool, true, false, not, ◌&&◌, ◌||◌, ◌==◌, nat_le, List, [], ◌∷◌, ◌++◌, if◌then◌else◌, map, filter, find, ℤ, Option, Some, is_some, option_map, option_and_then}
 use Rattle.std.specs.List.{list_all}
 use Rattle.std.specs.Ordering.{int_eq}
 use Rattle.std.specs.Option.{option_map_or}
 use Rattle.lk_model.specs.Lists.{with_earlier}
-use Rattle.lk_model.specs.Literal.{variable, complement, contains, is_positive, is_literal}
-use Rattle.lk_model.specs.Assignment.{Assignment}
+use Rattle.lk_model.specs.Formulas.Literal.{variable, complement, contains, is_positive, is_literal}
+use Rattle.lk_model.specs.Formulas.Assignment.{Assignment}
 use Rattle.watch_prop.specs.declared.entry.Entry.{Entry}
-use Rattle.watch_prop.specs.declared.entry.Held.{Held}
+use Rattle.watch_prop.specs.declared.entry.NumberedClause.{NumberedClause}
 
 -- the literals of a trail
 abbrev pub literals_of : List Entry → List ℤ
@@ -63,23 +63,31 @@ pub record Path : Type 0 where
   pub vars : ℕ
   pub entries : List Entry
 
+-- the entry of a literal that the clause of a number forces at the present level
+abbrev pub forced_entry : List Entry → ℤ → ℕ → Entry
+forced_entry trail l number = record { lit = l; level = present_level trail; reason = Some number }
+
+-- with it, if the literal is not true yet
+abbrev pub with_forced : Path → ℤ → ℕ → Path
+with_forced path l number = if true_in path.entries l then path else record path { entries = path.entries ++ forced_entry path.entries l number ∷ [] }
+
 -- the literals of the clause of a number
-abbrev pub clause_held : List Held → ℕ → Option (List ℤ)
-clause_held clauses k = option_map (λ (c : Held). c.lits) (find (λ (c : Held). c.number == k) clauses)
+abbrev pub clause_numbered : List NumberedClause → ℕ → Option (List ℤ)
+clause_numbered clauses k = option_map (λ (c : NumberedClause). c.lits) (find (λ (c : NumberedClause). c.number == k) clauses)
 
 -- the clause holds the literal, and each other literal of it is the complement of an earlier one
 abbrev pub forces : List ℤ → List Entry → ℤ → Bool
 forces c earlier l = contains c l && list_all (λ k. int_eq k l || contains (literals_of earlier) (complement k)) c
 
 -- the literal was assigned, or has a reason that forced it
-abbrev pub has_reason : List Held → List Entry → Entry → Bool
+abbrev pub has_reason : List NumberedClause → List Entry → Entry → Bool
 has_reason clauses earlier e =
-    option_map_or (λ k. option_map_or (λ c. forces c earlier e.lit) (clause_held clauses k) false) e.reason true
+    option_map_or (λ k. option_map_or (λ c. forces c earlier e.lit) (clause_numbered clauses k) false) e.reason true
 
 -- an entry that may follow the earlier ones: it may come after them, and has a reason among the clauses if it was forced
-abbrev pub may_follow : ℕ → List Held → List Entry → Entry → Bool
+abbrev pub may_follow : ℕ → List NumberedClause → List Entry → Entry → Bool
 may_follow vars clauses earlier e = may_come vars earlier e && has_reason clauses earlier e
 
 -- each entry may follow those before it
-unfoldable pub is_trail : ℕ → List Held → List Entry → Bool
+unfoldable pub is_trail : ℕ → List NumberedClause → List Entry → Bool
 is_trail vars clauses trail = list_all (λ (earlier, e). may_follow vars clauses earlier e) (with_earlier [] trail)

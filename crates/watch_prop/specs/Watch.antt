@@ -1,38 +1,54 @@
--- The two literals that a clause watches, and what the clause asks for.
-use Rattle.std.specs.Prelude.{◌≡◌, ◌&&◌, ◌||◌, Bool, not, cond, List, ℤ, IsTrue, Option, Some, None, ℕ, pos, ◌<◌, ◌≤◌, length, slice_index_or}
+-- The two literals that a clause watches, and what a clause asks for.
+use Rattle.std.specs.Prelude.{◌≡◌, ◌&&◌, ◌||◌, Bool, not, if◌then◌else◌, List, ℤ, IsTrue, Option, Some, None, ℕ, pos, ◌<◌, ◌≤◌, length, slice_index_or}
 use Rattle.std.specs.List.{list_all}
 use Rattle.std.specs.Ordering.{int_eq}
-use Rattle.lk_model.specs.Literal.{contains}
+use Rattle.lk_model.specs.Formulas.Literal.{contains}
 use Rattle.watch_prop.specs.declared.entry.Entry.{Entry}
 use Rattle.watch_prop.specs.declared.watch.Watch.{Watch}
+use Rattle.watch_prop.specs.declared.watch.Found.{Found}
+use Rattle.watch_prop.specs.declared.watch.Found.TheVariants.{AllFalse, One, Two}
 use Rattle.watch_prop.specs.declared.watch.Demand.{Demand}
-use Rattle.watch_prop.specs.declared.watch.Demand.TheVariants.{Nothing, Watching, Truth, Conflict}
+use Rattle.watch_prop.specs.declared.watch.Demand.TheVariants.{Move, Truth, Conflict}
 use Rattle.watch_prop.specs.Trail.{true_in, false_in}
 
--- the watched literal beside one
-abbrev pub beside_of : Watch → ℤ → ℤ
-beside_of w l = cond (int_eq w.first l) w.second w.first
+-- the other one of the two literals
+abbrev pub other_of : Watch → ℤ → ℤ
+other_of w l = if int_eq w.first l then w.second else w.first
 
--- A watch is upheld under a trail of which the literals of one part were passed on: it has a true literal, or two of which
--- neither is false by what was passed on.
+-- A watch is upheld under a trail of which the literals of one part were passed on: one of its literals is true, or neither
+-- is false by what was passed on.
 abbrev pub is_upheld : List Entry → List Entry → Watch → Bool
-is_upheld trail passed w = true_in trail w.first || true_in trail w.second
-    || not (int_eq w.first w.second) && not (false_in passed w.first) && not (false_in passed w.second)
+is_upheld trail passed w = true_in trail w.first || true_in trail w.second || not (false_in passed w.first) && not (false_in passed w.second)
+
+-- the literal at a place is false
+abbrev pub false_at : List Entry → List ℤ → ℕ → Bool
+false_at trail c place = false_in trail (slice_index_or c place (pos 0))
+
+-- the first place at which a literal stands that is not false
+abbrev pub IsFirstNotFalse : List Entry → List ℤ → Option ℕ → Type 0
+IsFirstNotFalse trail c (Some at) = (at < length c) × IsTrue (not (false_at trail c at)) × ((k : ℕ) → k < at → IsTrue (false_at trail c k))
+IsFirstNotFalse trail c None = (k : ℕ) → k < length c → IsTrue (false_at trail c k)
 
 -- A place of the clause at which a literal stands that is not false, other than one; none where each from a first place on
 -- and before a last one is false or that one.
-abbrev pub IsPlaceOfOther : List Entry → List ℤ → ℤ → ℕ → ℕ → Option ℕ → Type 0
-IsPlaceOfOther trail c b begin end (Some at) = (at < length c)
-    × IsTrue (not (int_eq (slice_index_or c at (pos 0)) b) && not (false_in trail (slice_index_or c at (pos 0))))
-IsPlaceOfOther trail c b begin end None = (k : ℕ) → begin ≤ k → k < end
-    → IsTrue (int_eq (slice_index_or c k (pos 0)) b || false_in trail (slice_index_or c k (pos 0)))
+abbrev pub IsPlaceOfAnother : List Entry → List ℤ → ℤ → ℕ → ℕ → Option ℕ → Type 0
+IsPlaceOfAnother trail c b begin end (Some at) = (at < length c) × IsTrue (not (int_eq (slice_index_or c at (pos 0)) b) && not (false_at trail c at))
+IsPlaceOfAnother trail c b begin end None = (k : ℕ) → begin ≤ k → k < end → IsTrue (int_eq (slice_index_or c k (pos 0)) b || false_at trail c k)
 
--- What a clause asks for that watches a literal l and one beside it, b: nothing where b is true, or where l is another
--- one and not false; to watch a literal that is not false, if there is one but b; else that b is true, or it is false.
-abbrev pub IsDemand : List Entry → List ℤ → ℤ → ℤ → Demand → Type 0
-IsDemand trail c l b Nothing = IsTrue (true_in trail b || not (int_eq l b) && not (false_in trail l))
-IsDemand trail c l b (Watching r at) = IsTrue (contains c r && not (int_eq r b) && not (false_in trail r)
-    && not (true_in trail b) && (int_eq l b || false_in trail l))
-IsDemand trail c l b (Truth f) = (f ≡ b) × IsTrue (not (true_in trail b) && not (false_in trail b)
-    && list_all (λ k. int_eq k b || false_in trail k) c)
-IsDemand trail c l b Conflict = IsTrue (list_all (false_in trail) c)
+-- each literal of the clause but one is false
+abbrev pub all_false_but : List Entry → List ℤ → ℤ → Bool
+all_false_but trail c l = list_all (λ k. int_eq k l || false_in trail k) c
+
+-- which literals of a clause are not false: none, just one, or two and perhaps others
+abbrev pub IsFound : List Entry → List ℤ → Found → Type 0
+IsFound trail c AllFalse = IsTrue (list_all (false_in trail) c)
+IsFound trail c (One l) = IsTrue (contains c l) × IsTrue (not (false_in trail l)) × IsTrue (all_false_but trail c l)
+IsFound trail c (Two w) = IsTrue (contains c w.first) × IsTrue (contains c w.second) × IsTrue (not (int_eq w.second w.first))
+    × IsTrue (not (false_in trail w.first)) × IsTrue (not (false_in trail w.second))
+
+-- What a clause asks for of which one watched literal is false, and the other one, b, is not true: to watch a literal that is
+-- not false, if there is one but b; else that b becomes true, or it is false.
+abbrev pub IsDemand : List Entry → List ℤ → ℤ → Demand → Type 0
+IsDemand trail c b (Move r at) = IsTrue (contains c r) × IsTrue (not (int_eq r b)) × IsTrue (not (false_in trail r))
+IsDemand trail c b (Truth f) = (f ≡ b) × IsTrue (not (false_in trail b)) × IsTrue (all_false_but trail c b)
+IsDemand trail c b Conflict = IsTrue (list_all (false_in trail) c)

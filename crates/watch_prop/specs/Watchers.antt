@@ -1,30 +1,24 @@
--- For each literal the clauses that watch it, by their places in the list of clauses, and how many clauses hold it.
-use Rattle.std.specs.Prelude.{ℕ, ◌+◌, List, [], ◌∷◌, ◌++◌, cond, ℤ, slice_index_or, slice_set}
-use Rattle.std.specs.Ordering.{int_eq}
-use Rattle.lk_model.specs.Literal.{rank_of}
-use Rattle.watch_prop.specs.declared.watch.Watch.{Watch}
+-- For each literal its watchers: the clauses that watch it, by their places in the list of clauses. And how many clauses have it.
+use Rattle.std.specs.Prelude.{ℕ, ◌+◌, List, [], ◌∷◌, ◌++◌, ℤ, slice_index_or, slice_set}
+use Rattle.lk_model.specs.Formulas.Literal.{rank_of}
 
 pub record Watchers : Type 0 where
   pub lists : List (List ℕ)
-  pub holding : List ℕ
+  pub counts : List ℕ
 
--- the clauses that watch a literal
-abbrev pub watching : List (List ℕ) → ℤ → List ℕ
-watching lists l = slice_index_or lists (rank_of l) []
+-- the watchers of a literal
+abbrev pub watchers : List (List ℕ) → ℤ → List ℕ
+watchers lists l = slice_index_or lists (rank_of l) []
 
--- how many clauses hold it
-abbrev pub held_by : List ℕ → ℤ → ℕ
-held_by holding l = slice_index_or holding (rank_of l) 0
+-- how many clauses have it
+abbrev pub count_of : List ℕ → ℤ → ℕ
+count_of counts l = slice_index_or counts (rank_of l) 0
 
--- with one clause more that watches a literal
+-- with one watcher more of a literal
 abbrev pub with_watcher : List (List ℕ) → ℤ → ℕ → List (List ℕ)
-with_watcher lists l place = slice_set lists (rank_of l) (watching lists l ++ place ∷ [])
+with_watcher lists l place = slice_set lists (rank_of l) (watchers lists l ++ place ∷ [])
 
-abbrev pub with_watch : List (List ℕ) → Watch → ℕ → List (List ℕ)
-with_watch lists w place =
-    let once = with_watcher lists w.first place in cond (int_eq w.second w.first) once (with_watcher once w.second place)
-
--- with one clause more that holds these literals
-abbrev pub with_holder : List ℕ → List ℤ → List ℕ
-with_holder holding [] = holding
-with_holder holding (l ∷ c) = with_holder (slice_set holding (rank_of l) (held_by holding l + 1)) c
+-- with one clause more that has these literals
+abbrev pub with_counted : List ℕ → List ℤ → List ℕ
+with_counted counts [] = counts
+with_counted counts (l ∷ c) = with_counted (slice_set counts (rank_of l) (count_of counts l + 1)) c

@@ -12,7 +12,7 @@ pub struct Entry {
 
 /// A clause with its number.
 #[derive(Drop)]
-pub struct Held {
+pub struct NumberedClause {
     pub number: u64,
     pub lits: List<Lit>,
 }

@@ -3,14 +3,10 @@
 
 mod entry;
 mod propagator;
-#[cfg(test)]
-mod scan_tests;
-#[cfg(test)]
-mod tests;
+mod state;
 mod trail;
 mod watch;
-mod watch_lists;
-mod watching;
+mod watcher_lists;
 
 pub use entry::Propagated;
 pub use propagator::Propagator;

@@ -1,16 +1,16 @@
 //! Propagators.
 ghost use Rattle.std.specs.Prelude.{◌≡◌, ◌<◌, ◌≤◌, [], length, not, ◌&&◌, IfOk, OnOk, OnErr, IsTrue, IsNone};
 ghost use Rattle.lk_model.specs.Lists.{among, is_empty};
-ghost use Rattle.lk_model.specs.Literal.{variable, is_literal, is_clause};
-ghost use Rattle.lk_model.specs.Crossed.{IsCrossed};
+ghost use Rattle.lk_model.specs.Formulas.Literal.{variable, is_literal, is_clause};
+ghost use Rattle.lk_model.specs.Held.VariableSets.{IsCrossed};
 ghost use Rattle.watch_prop.specs.Trail.{literals_of, level_of, reason_of, present_level};
 ghost use Rattle.watch_prop.specs.Propagation.{Propagation, IsPropagation, assigned, numbers_of, crossed_clauses, is_quiet, IsAnswered, GoesOn, with_held, with_assigned, back_at, may_be_held};
 
-use crate::entry::{Held, Propagated};
+use crate::entry::{NumberedClause, Propagated};
+use crate::state::{State, propagate};
 use crate::trail::Trail;
 use crate::watch::Watch;
-use crate::watch_lists::WatchLists;
-use crate::watching::{Watching, propagate};
+use crate::watcher_lists::WatcherLists;
 use lk_model::{Crossed, List, Lit, OutOfMemory};
 use std::alloc::Global;
 use std::marker::Model;
@@ -21,9 +21,9 @@ use std::marker::Model;
 /// all complements of earlier literals of the trail. Level 0 comes before the first assigned literal.
 #[derive(Drop)]
 pub struct Propagator {
-    clauses: Vec<Held>,
+    clauses: Vec<NumberedClause>,
     trail: Trail,
-    watching: Watching,
+    state: State,
 }
 
 impl Model for Propagator {
@@ -49,8 +49,8 @@ impl Propagator {
     {
         let clauses = clauses_of(alloc, over)?;
         let mut propagator = Propagator::without_clauses(alloc, over.formula.vars())?;
-        for held in clauses {
-            propagator.hold(held.number, held.lits)?;
+        for clause in clauses {
+            propagator.hold(clause.number, clause.lits)?;
         }
         Ok(propagator)
     }
@@ -75,10 +75,10 @@ impl Propagator {
         ensures { self.new ≡ with_assigned self.old l }
     {
         // Forces nothing, and passes on what is left: below the present level nothing is left.
-        let _quiet = propagate(&self.clauses, &mut self.trail, &mut self.watching);
+        let _quiet = propagate(&self.clauses, &mut self.trail, &mut self.state);
         let level = self.trail.level() + 1;
         self.trail.put(l, level, None);
-        self.watching.marks.push_reserved(self.clauses.len());
+        self.state.marks.push_reserved(self.state.waiting.len());
     }
 
     /// Unit propagation: makes literals true at the present level that a clause forces, with that clause
@@ -87,7 +87,7 @@ impl Propagator {
         ensures goes_on { GoesOn self.old self.new }
         ensures answer { IsAnswered self.new result }
     {
-        propagate(&self.clauses, &mut self.trail, &mut self.watching)
+        propagate(&self.clauses, &mut self.trail, &mut self.state)
     }
 
     /// Takes back what came above a level, at most the present one.
@@ -96,11 +96,11 @@ impl Propagator {
         ensures { self.new ≡ back_at self.old level }
     {
         let place = level as usize;
-        if place < self.watching.marks.len() {
-            self.watching.checked = self.watching.marks[place];
-            self.watching.marks.truncate(place);
+        if place < self.state.marks.len() {
+            self.state.satisfied = self.state.marks[place];
+            self.state.marks.truncate(place);
             self.trail.retract(level);
-            self.watching.head = self.trail.len();
+            self.state.head = self.trail.len();
         }
     }
 
@@ -149,10 +149,11 @@ impl Propagator {
         Ok(Propagator {
             clauses: Vec::new(alloc),
             trail: Trail::new(alloc, n as usize)?,
-            watching: Watching {
+            state: State {
                 watches: Vec::new(alloc),
-                lists: WatchLists::new(alloc, n)?,
-                checked: 0,
+                lists: WatcherLists::new(alloc, n)?,
+                waiting: Vec::new(alloc),
+                satisfied: 0,
                 head: 0,
                 marks: Vec::with_capacity(alloc, n as usize)?,
             },
@@ -167,33 +168,23 @@ impl Propagator {
         ensures err { OnErr result (self.new ≡ self.old) }
     {
         self.clauses.reserve(1)?;
-        self.watching.watches.reserve(1)?;
-        let Watch {
-            first,
-            second,
-            from,
-        } = Watch::of(lits.as_slice());
-        self.watching.lists.hold(
-            self.clauses.len(),
-            lits.as_slice(),
-            Watch {
-                first,
-                second,
-                from,
-            },
-        )?;
-        self.watching.watches.push_reserved(Watch {
-            first,
-            second,
-            from,
+        self.state.watches.reserve(1)?;
+        self.state.waiting.reserve(1)?;
+        self.state.lists.count(lits.as_slice())?;
+        let l = lits.as_slice()[0];
+        self.state.watches.push_reserved(Watch {
+            first: l,
+            second: l,
+            from: 0,
         });
-        self.clauses.push_reserved(Held { number, lits });
+        self.state.waiting.push_reserved(self.clauses.len());
+        self.clauses.push_reserved(NumberedClause { number, lits });
         Ok(())
     }
 }
 
 // The non-empty crossed clauses of the part, each with its position as its number.
-fn clauses_of(alloc: Global, over: &Crossed) -> Result<Vec<Held>, OutOfMemory>
+fn clauses_of(alloc: Global, over: &Crossed) -> Result<Vec<NumberedClause>, OutOfMemory>
     requires { IsCrossed over.now }
     ensures { IfOk result (λ v. v.items ≡ crossed_clauses over.now) }
 {
@@ -202,7 +193,7 @@ fn clauses_of(alloc: Global, over: &Crossed) -> Result<Vec<Held>, OutOfMemory>
         let lits = over.clause(alloc, *p)?;
         if lits.len() > 0 {
             let number = u64::from(*p);
-            clauses.push(Held { number, lits })?;
+            clauses.push(NumberedClause { number, lits })?;
         }
     }
     Ok(clauses)

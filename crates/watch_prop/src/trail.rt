@@ -1,7 +1,7 @@
 //! The literals that are true, in the order in which they came.
-ghost use Rattle.std.specs.Prelude.{◌≡◌, ℕ, ◌+◌, ◌-◌, ◌<◌, ◌≤◌, ◌++◌, ◌∷◌, [], length, take, IfOk, IsTrue};
-ghost use Rattle.lk_model.specs.Literal.{variable, is_literal};
-ghost use Rattle.watch_prop.specs.Trail.{Path, literals_of, entry_of, true_in, false_in, present_level, up_to_level, may_come, is_path};
+ghost use Rattle.std.specs.Prelude.{◌≡◌, ◌||◌, ℕ, ◌+◌, ◌-◌, ◌<◌, ◌≤◌, ◌++◌, ◌∷◌, [], length, take, IfOk, IsTrue};
+ghost use Rattle.lk_model.specs.Formulas.Literal.{variable, is_literal};
+ghost use Rattle.watch_prop.specs.Trail.{Path, literals_of, entry_of, true_in, false_in, present_level, up_to_level, may_come, is_path, forced_entry, with_forced};
 
 use crate::entry::Entry;
 use lk_model::{Lit, OutOfMemory};
@@ -114,6 +114,18 @@ impl Trail {
         self.table[place] = Some(Entry { lit, level, reason });
         self.entries.push_reserved(Entry { lit, level, reason });
         self.lits.push_reserved(lit);
+    }
+
+    /// Makes a literal true at the present level that the clause of a number forces, if it is not true yet.
+    pub fn force(&mut self, l: Lit, number: u64)
+        requires literal { IsTrue (is_literal self.old.vars l) }
+        requires comes { IsTrue (true_in self.old.entries l || may_come self.old.vars self.old.entries (forced_entry self.old.entries l number)) }
+        ensures { self.new ≡ with_forced self.old l number }
+    {
+        if !self.is_true(l) {
+            let level = self.level();
+            self.put(l, level, Some(number));
+        }
     }
 
     /// Takes back the entries above a level.

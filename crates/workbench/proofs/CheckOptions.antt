@@ -3,8 +3,8 @@ use Rattle.std.proofs.Common.{◌≡◌, ℕ, ◌<◌, ◌≤◌, ◌^◌, ◌�
 use Rattle.std.specs.Prelude.{IsSomeAnd}
 use Rattle.std.specs.List.{list_all}
 use Rattle.std.proofs.lemmas.Bool.{leb-true}
-use Rattle.lk_model.specs.Lines.{Word}
-use Rattle.lk_model.specs.NumberWords.{natural}
+use Rattle.lk_model.specs.Texts.Lines.{Word}
+use Rattle.lk_model.specs.Texts.NumberWords.{natural}
 use Rattle.lk_model.proofs.Booleans.{and_true, or_true}
 use Rattle.workbench.specs.Lawful.{Setting, workers, sets, options_of, chosen, is_allowed}
 use Rattle.workbench.specs.declared.options.Verb.TheVariants as verb

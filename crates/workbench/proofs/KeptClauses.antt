@@ -2,11 +2,11 @@
 use Rattle.std.proofs.Common.{◌≡◌, ℕ, ◌+◌, ◌<◌, ◌≤◌, List, [], ◌∷◌, ◌++◌, length, map, take, get_or, sym, ◌∙◌, ap, arith, IsTrue, sum_by}
 use Rattle.std.proofs.lemmas.List.{length-map, map-append, take_more, length-take, take-map}
 use Rattle.std.proofs.lemmas.List.Sums.{sum_by-append, sum_by-cons, sum_by-take-le}
-use Rattle.lk_model.specs.Lean.{are_positions}
-use Rattle.lk_model.specs.Formula.{Cnf, clause_at, literal_count, with_clause}
+use Rattle.lk_model.specs.Formulas.Lean.{are_positions}
+use Rattle.lk_model.specs.Formulas.Formula.{Cnf, clause_at, literal_count, with_clause}
 use Rattle.lk_model.proofs.Rising.{rising_count}
-use Rattle.lk_model.proofs.KeptLines.{kept_le}
-use Rattle.workbench.specs.PureDocument.{clauses_at}
+use Rattle.kernel_laws.proofs.KeptLines.{kept_le}
+use Rattle.kernel_laws.specs.ClauseLines.{clauses_at}
 
 -- one clause more
 pub clauses_more : (F : Cnf) (ps : List ℕ) (i : ℕ) → i < length ps → with_clause (clauses_at F (take i ps)) (clause_at F (get_or ps i 0)) ≡ clauses_at F (take (i + 1) ps)

@@ -4,7 +4,7 @@ use Rattle.std.specs.Prelude.{IsSomeAnd}
 use Rattle.std.specs.Str.{bytes_eq}
 use Rattle.std.proofs.lemmas.Slice.Eq.{bytes_eq-Decides}
 use Rattle.lk_model.specs.declared.class.Class.TheVariants.{Pure}
-use Rattle.lk_model.specs.Lines.{Word}
+use Rattle.lk_model.specs.Texts.Lines.{Word}
 use Rattle.lk_model.proofs.Booleans.{and_true}
 use Rattle.workbench.specs.Lawful.{Key, Command, Options, command_of, options_of, options_by, AsksToReduce, AsksToCheck, reduce, check, pure, Begins, IsRefusedAt}
 use Rattle.workbench.specs.declared.options.Verb.TheVariants as verb

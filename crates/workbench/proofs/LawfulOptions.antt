@@ -4,8 +4,8 @@ use Rattle.std.specs.Prelude.{option_and_then, codes}
 use Rattle.std.specs.List.{list_any, list_all}
 use Rattle.std.specs.Str.{bytes_eq}
 use Rattle.std.proofs.lemmas.Bool.{cases_Bool}
-use Rattle.lk_model.specs.Lines.{Word}
-use Rattle.lk_model.specs.NumberWords.{natural}
+use Rattle.lk_model.specs.Texts.Lines.{Word}
+use Rattle.lk_model.specs.Texts.NumberWords.{natural}
 use Rattle.lk_model.proofs.Booleans.{and_true, or_true, or_left, or_right, or_false}
 use Rattle.workbench.specs.Lawful.{Key, Setting, sets, with_setting, settings_of, is_allowed, is_once, options_of, Options, options_by}
 use Rattle.workbench.specs.OptionPlaces.{has, is_word_of, is_new, is_number_for, is_value, refused_place}

@@ -5,12 +5,6 @@ pub mod OptionSteps
 pub mod Streams
 pub mod InputStops
 pub mod KeptClauses
-pub mod PureRuns
-pub mod SetLines
-pub mod PurePairs
-pub mod PureForms
-pub mod Passed
-pub mod Accepted
 pub mod ReadInputs
 pub mod Verdicts
 pub mod GoodInputs

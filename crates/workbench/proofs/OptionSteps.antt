@@ -5,8 +5,8 @@ use Rattle.std.proofs.Math.ListN.{drop_of_length-le}
 use Rattle.std.proofs.lemmas.List.{drop_more, drop-map, length-map}
 use Rattle.std.proofs.lemmas.Slice.Eq.{bytes_eq-Decides}
 use Rattle.std.specs.Str.{bytes_eq}
-use Rattle.lk_model.specs.Lines.{Word}
-use Rattle.lk_model.specs.NumberWords.{natural}
+use Rattle.lk_model.specs.Texts.Lines.{Word}
+use Rattle.lk_model.specs.Texts.NumberWords.{natural}
 use Rattle.workbench.specs.Lawful as lawful
 use Rattle.workbench.specs.Lawful.{conflicts, pivots, workers}
 use Rattle.workbench.specs.declared.options.Verb.{Verb}

@@ -1,7 +1,7 @@
 -- What stands behind a stop, and what is told of it.
 use Rattle.std.proofs.Common.{◌≡◌, ℕ, List, Bool, arith, ◌⊎◌, inl, inr, Option, ap, ◌∙◌}
 use Rattle.std.specs.Io.KnownBytes.{Appends}
-use Rattle.lk_model.specs.Lines.{Word}
+use Rattle.lk_model.specs.Texts.Lines.{Word}
 use Rattle.workbench.specs.Lawful.{command_of}
 use Rattle.workbench.specs.Causes.{Told}
 use Rattle.workbench.specs.Endings.{StopsAt, TellsRefusal}

@@ -1,16 +1,19 @@
 -- What a verdict tells of two texts.
 use Rattle.std.proofs.Common.{◌≡◌, ℕ, Bool, List, Option, Some, None, refl, ap, ◌∙◌, inl, inr}
 use Rattle.std.specs.Prelude.{IfSome, IsTrue}
-use Rattle.lk_model.specs.Formula.{Cnf}
-use Rattle.lk_model.specs.Dimacs.{Spells}
-use Rattle.lk_model.specs.Fault.{fault_of}
-use Rattle.lk_model.specs.PlainText.{line}
-use Rattle.lk_model.specs.Checks.{first_failure}
-use Rattle.lk_model.specs.Form.{is_in_form}
+use Rattle.lk_model.specs.Formulas.Formula.{Cnf}
+use Rattle.lk_model.specs.Texts.Dimacs.{Spells}
+use Rattle.lk_model.specs.Texts.Fault.{fault_of}
+use Rattle.lk_model.specs.Texts.PlainText.{line}
+use Rattle.lk_model.specs.Checks.Checks.{first_failure}
+use Rattle.lk_model.specs.Documents.Form.{is_in_form}
 use Rattle.lk_model.specs.declared.document.Document.{Document}
 use Rattle.lk_model.specs.declared.document.Document.TheVariants.{Done, Unfinished}
 use Rattle.lk_model.specs.declared.verdict.Why.{Why}
-use Rattle.lk_model.specs.Built.{IsBuilt}
+use Rattle.lk_model.specs.declared.document.Body.{Body}
+use Rattle.lk_model.specs.declared.document.Body.TheVariants as body
+use Rattle.cert_text.specs.Built.{IsBuilt, IsBuiltBody}
+use Rattle.lean_checker.specs.Checked.{IsChecked as IsCheckable, IsCheckedBody}
 use Rattle.lk_model.proofs.FaultConverse.{faultless}
 use Rattle.lean_checker.specs.Verdicts.{verdict_of, verdict_words}
 use Rattle.lean_checker.specs.Accepted.{IsReducedBy}
@@ -21,8 +24,19 @@ use Rattle.workbench.specs.Checking.{AreRead, IsProved, IsChecked, verdict_statu
 use Rattle.workbench.specs.declared.stop.Stop.{Stop}
 use Rattle.workbench.specs.declared.stop.Stop.TheVariants.{Words, Formula, Document as DocumentStop, Read, Memory}
 
+-- the checks take each document that is read
+checked_body : (b : Body) → IsBuiltBody b → IsCheckedBody b
+checked_body (body.Pure order pairs) built = tt
+checked_body (body.Matching own rows) built = absurd built
+checked_body (body.Linear stages dual units) built = absurd built
+checked_body (body.General rounds) built = absurd built
+
+pub checkable : (d : Document) → IsBuilt d → IsCheckable d
+checkable (Done d) built = (built.unprotected, checked_body d.body built.body)
+checkable (Unfinished d) built = absurd built
+
 -- where no check fails, the document is proved
-is_proved : (formula document : Option (List ℕ)) (F : Cnf) (d : Document) → IsBuilt d → IsTrue (is_in_form d) → first_failure F d ≡ None → IsReducedBy F d → AreRead formula document F d → IsProved formula document
+is_proved : (formula document : Option (List ℕ)) (F : Cnf) (d : Document) → IsCheckable d → IsTrue (is_in_form d) → first_failure F d ≡ None → IsReducedBy F d → AreRead formula document F d → IsProved formula document
 is_proved formula document F (Done d) built form none reduced r = record {
   accepted = record { F = F; d = d; read = r; accepts = record { form = form; checks = none } };
   reduction = reduced;
@@ -30,7 +44,7 @@ is_proved formula document F (Done d) built form none reduced r = record {
 is_proved formula document F (Unfinished d) built form none reduced r = absurd built
 
 -- the verdict where no check fails, and where one does
-accepted_by : (F : Cnf) (d : Document) → IsBuilt d → first_failure F d ≡ None → verdict_of F d ≡ Accepted
+accepted_by : (F : Cnf) (d : Document) → IsCheckable d → first_failure F d ≡ None → verdict_of F d ≡ Accepted
 accepted_by F (Done d) built e = rw e refl
 accepted_by F (Unfinished d) built e = absurd built
 
@@ -39,7 +53,7 @@ refused_by F (Done d) why e = rw e refl
 refused_by F (Unfinished d) why e = rw e refl
 
 -- what the verdict's status and line tell of the two texts
-pub is_checked : (formula document : Option (List ℕ)) (F : Cnf) (d : Document) (v : Verdict) (status : ℕ) (text : List ℕ) → AreRead formula document F d → IsBuilt d → IsTrue (is_in_form d)
+pub is_checked : (formula document : Option (List ℕ)) (F : Cnf) (d : Document) (v : Verdict) (status : ℕ) (text : List ℕ) → AreRead formula document F d → IsCheckable d → IsTrue (is_in_form d)
     → v ≡ verdict_of F d → (v ≡ Accepted → IsReducedBy F d) → status ≡ verdict_status v → text ≡ line (verdict_words v) → IsChecked formula document status text
 is_checked formula document F d v status text r built form is reduced at tells = by (first_failure F d) refl
   where

@@ -1,8 +1,8 @@
 -- What stands behind a stop.
 use Rattle.std.specs.Prelude.{◌≡◌, ℕ, List, Bool, Some, None, IfSome, IsTrue}
 use Rattle.std.specs.declared.option.Option.{Option}
-use Rattle.lk_model.specs.Lines.{Word}
-use Rattle.lk_model.specs.Fault.{fault_of}
+use Rattle.lk_model.specs.Texts.Lines.{Word}
+use Rattle.lk_model.specs.Texts.Fault.{fault_of}
 use Rattle.dimacs_reader.specs.Faults.{refusal_of}
 use Rattle.dimacs_reader.specs.declared.refusal.Refused.{Refused}
 use Rattle.cert_text.specs.Readings.{StopsAtLine}

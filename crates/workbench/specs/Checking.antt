@@ -1,10 +1,10 @@
 -- What a check of a document says of two texts.
-use Rattle.std.specs.Prelude.{◌≡◌, ◌⊎◌, ℕ, List, [], ◌∷◌, codes, Option, Some, IfSome}
-use Rattle.lk_model.specs.Formula.{Cnf}
-use Rattle.lk_model.specs.Dimacs.{Spells}
-use Rattle.lk_model.specs.PlainText.{line}
-use Rattle.lk_model.specs.Checks.{first_failure, Accepts}
-use Rattle.lk_model.specs.KindWords.{refused_words}
+use Rattle.std.specs.Prelude.{◌≡◌, ◌⊎◌, ℕ, List, [], ◌∷◌, codes, Option, Some, None, IfSome}
+use Rattle.lk_model.specs.Formulas.Formula.{Cnf}
+use Rattle.lk_model.specs.Texts.Dimacs.{Spells}
+use Rattle.lk_model.specs.Texts.PlainText.{line}
+use Rattle.lk_model.specs.Checks.Checks.{first_failure, Accepts}
+use Rattle.lk_model.specs.Documents.KindWords.{refused_words}
 use Rattle.lk_model.specs.Reduction.{IsReduction, ReducesTo}
 use Rattle.lk_model.specs.declared.class.Class.TheVariants.{Pure}
 use Rattle.lk_model.specs.declared.document.Document.{Document}
@@ -49,7 +49,7 @@ refused_line why = line (refused_words why)
 
 -- What a reduction for the class pure writes, where the input is told; pivots have no part in it.
 abbrev pub IsReduced : Option (List ℕ) → List ℕ → Type 0
-IsReduced told text = IfSome told (λ bytes. (pivots : ℕ) → ReducesTo bytes Pure pivots text)
+IsReduced told text = IfSome told (λ bytes. (pivots : ℕ) → ReducesTo bytes Pure None pivots text)
 
 -- the text tells that the document is accepted
 pub record TellsAcceptance (formula document : Option (List ℕ)) (text : List ℕ) : Type 0 where
@@ -75,4 +75,4 @@ verdict_status (verdict.No why) = 8
 
 -- What a reduction writes of a text is accepted for that text.
 abbrev pub WrittenIsAccepted : Type 0
-WrittenIsAccepted = (text written : List ℕ) (pivots : ℕ) → ReducesTo text Pure pivots written → IsAccepted (Some text) (Some written)
+WrittenIsAccepted = (text written : List ℕ) (pivots : ℕ) → ReducesTo text Pure None pivots written → IsAccepted (Some text) (Some written)

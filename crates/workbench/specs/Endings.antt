@@ -2,8 +2,8 @@
 use Rattle.std.specs.Prelude.{◌≡◌, ◌≢◌, ◌⊎◌, ℕ, List, Bool, IfSome, IsSome, IsSomeAnd, IsTrue, Some, None}
 use Rattle.std.specs.declared.option.Option.{Option}
 use Rattle.std.specs.Io.KnownBytes.{Appends}
-use Rattle.lk_model.specs.Lines.{Word}
-use Rattle.lk_model.specs.Fault.{fault_of}
+use Rattle.lk_model.specs.Texts.Lines.{Word}
+use Rattle.lk_model.specs.Texts.Fault.{fault_of}
 use Rattle.lk_model.specs.Reduction.{ReducesTo}
 use Rattle.lk_model.specs.declared.document.Document.{Document as AnyDocument}
 use Rattle.lk_model.specs.declared.verdict.Why.{Why}
@@ -17,7 +17,7 @@ use Rattle.workbench.specs.declared.stop.Stop.TheVariants.{Words, Formula, Docum
 
 -- The text is what the command asks for, where its inputs are told; unlawful words ask for nothing.
 abbrev pub IsResult : Option Command → Told → List ℕ → Type 0
-IsResult (Some (Reduce class name options)) told text = IfSome (told name) (λ bytes. ReducesTo bytes class options.pivots text)
+IsResult (Some (Reduce class name options)) told text = IfSome (told name) (λ bytes. ReducesTo bytes class None options.pivots text)
 IsResult (Some (Check formula document options)) told text = TellsAcceptance (told formula) (told document) text
 IsResult None told text = ⊥
 

@@ -1,12 +1,12 @@
 -- The lawful words of the command line.
-use Rattle.std.specs.Prelude.{◌≡◌, ℕ, ◌+◌, ◌-◌, ◌<◌, ◌≤◌, ◌^◌, Bool, true, cond, not, ◌&&◌, List, [], ◌∷◌, ◌++◌, length, take, Option, Some, None, codes, nat_le, find, option_map, unwrap_or, option_and_then}
+use Rattle.std.specs.Prelude.{◌≡◌, ℕ, ◌+◌, ◌-◌, ◌<◌, ◌≤◌, ◌^◌, Bool, true, if◌then◌else◌, not, ◌&&◌, List, [], ◌∷◌, ◌++◌, length, take, Option, Some, None, codes, nat_le, find, option_map, unwrap_or, option_and_then}
 use Rattle.std.specs.List.{list_any, list_all}
 use Rattle.std.specs.Str.{bytes_eq}
 use Rattle.lk_model.specs.declared.class.Class.{Class}
 use Rattle.lk_model.specs.declared.class.Class.TheVariants.{Pure}
-use Rattle.lk_model.specs.Lines.{Word}
-use Rattle.lk_model.specs.NumberWords.{natural}
-use Rattle.lk_model.specs.Text.{class_word}
+use Rattle.lk_model.specs.Texts.Lines.{Word}
+use Rattle.lk_model.specs.Texts.NumberWords.{natural}
+use Rattle.lk_model.specs.Documents.Text.{class_word}
 
 pub record Options : Type 0 where
   pub conflicts : ℕ
@@ -84,14 +84,15 @@ options_by ss = record { conflicts = chosen conflicts 100000 ss; pivots = chosen
 -- options in any order, each of these keys at most once
 abbrev pub options_of : List Key → List Word → Option Options
 options_of keys words = option_and_then
-    (λ ss. cond (list_all (is_allowed keys) ss && is_once ss) (Some (options_by ss)) None)
+    (λ ss. if list_all (is_allowed keys) ss && is_once ss then Some (options_by ss) else None)
     (settings_of words)
 
 -- the command that lawful words give: `reduce`, `pure`, a name and options; or `check`, two names and options
 abbrev pub command_of : List Word → Option Command
 command_of (first ∷ second ∷ third ∷ words) =
-    cond (bytes_eq first reduce && bytes_eq second pure) (option_map (λ o. Reduce Pure third o) (options_of (conflicts ∷ pivots ∷ workers ∷ []) words))
-    (cond (bytes_eq first check) (option_map (λ o. Check second third o) (options_of (workers ∷ []) words)) None)
+    if bytes_eq first reduce && bytes_eq second pure
+    then option_map (λ o. Reduce Pure third o) (options_of (conflicts ∷ pivots ∷ workers ∷ []) words)
+    else if bytes_eq first check then option_map (λ o. Check second third o) (options_of (workers ∷ []) words) else None
 command_of _ = None
 
 -- the command is to reduce this input for this class, with whatever options

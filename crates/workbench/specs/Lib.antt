@@ -4,5 +4,4 @@ pub mod Requests
 pub mod Stops
 pub mod Causes
 pub mod Checking
-pub mod PureDocument
 pub mod Endings

@@ -1,9 +1,9 @@
 -- Which word among the options cannot stand where it does.
-use Rattle.std.specs.Prelude.{ℕ, ◌+◌, Bool, true, false, cond, not, ◌&&◌, List, [], ◌∷◌, Option, Some, None, option_map, nat_le}
+use Rattle.std.specs.Prelude.{ℕ, ◌+◌, Bool, true, false, if◌then◌else◌, not, ◌&&◌, List, [], ◌∷◌, Option, Some, None, option_map, nat_le}
 use Rattle.std.specs.List.{list_any}
 use Rattle.std.specs.Str.{bytes_eq}
-use Rattle.lk_model.specs.Lines.{Word}
-use Rattle.lk_model.specs.NumberWords.{natural}
+use Rattle.lk_model.specs.Texts.Lines.{Word}
+use Rattle.lk_model.specs.Texts.NumberWords.{natural}
 use Rattle.workbench.specs.Lawful as lawful
 use Rattle.workbench.specs.Lawful.{conflicts, pivots, workers, is_allowed}
 use Rattle.workbench.specs.declared.options.Verb.{Verb}
@@ -30,9 +30,9 @@ taken_by Check = record { conflicts = false; pivots = false; workers = true }
 
 -- the option of this word
 abbrev pub key_of : Word → Option Key
-key_of word = cond (bytes_eq word conflicts.word) (Some Conflicts)
-    (cond (bytes_eq word pivots.word) (Some Pivots)
-    (cond (bytes_eq word workers.word) (Some Workers) None))
+key_of word = if bytes_eq word conflicts.word then Some Conflicts
+    else if bytes_eq word pivots.word then Some Pivots
+    else if bytes_eq word workers.word then Some Workers else None
 
 abbrev pub has_key : Keys → Key → Bool
 has_key keys Conflicts = keys.conflicts
@@ -72,7 +72,7 @@ is_value keys word value = is_number_for keys word (natural value)
 -- value that is missing.
 abbrev pub refused_place : List lawful.Key → List Word → List Word → Option ℕ
 refused_place keys before [] = None
-refused_place keys before (word ∷ []) = cond (is_new keys before word) (Some 1) (Some 0)
-refused_place keys before (word ∷ value ∷ words) = cond (is_new keys before word)
-    (cond (is_value keys word value) (option_map (λ i. i + 2) (refused_place keys (word ∷ before) words)) (Some 1))
-    (Some 0)
+refused_place keys before (word ∷ []) = if is_new keys before word then Some 1 else Some 0
+refused_place keys before (word ∷ value ∷ words) = if is_new keys before word
+    then (if is_value keys word value then option_map (λ i. i + 2) (refused_place keys (word ∷ before) words) else Some 1)
+    else Some 0

@@ -1,11 +1,12 @@
 //! The document of a reduction.
-ghost use Rattle.std.specs.Prelude.{◌≡◌, IfOk, IsTrue};
-ghost use Rattle.lk_model.specs.Lean.{are_positions};
+ghost use Rattle.std.specs.Prelude.{◌≡◌, IfOk, IsTrue, None};
+ghost use Rattle.lk_model.specs.Formulas.Lean.{are_positions};
 ghost use Rattle.lk_model.specs.Reduction.{Reduces};
 ghost use Rattle.lk_model.specs.declared.class.Class.TheVariants.{Pure};
-ghost use Rattle.workbench.specs.PureDocument.{ArePureParts, IsSetLine, clauses_at};
+ghost use Rattle.kernel_laws.specs.ClauseLines.{clauses_at};
+ghost use Rattle.kernel_laws.specs.Pure.PureResults.{IsPureResult, IsSetLine};
 
-use lk_model::{Body, DoneDocument, Formula, FormulaError, List, Lit, OutOfMemory, PureResult};
+use lk_model::{Body, DoneDocument, Formula, List, Lit, OutOfMemory, PureResult};
 use std::alloc::Global;
 
 /// The literals of the order, ascending by variable.
@@ -22,36 +23,32 @@ fn kept_clauses(alloc: Global, f: &Formula, kept: &[u32]) -> Result<Formula, Out
     requires { IsTrue (are_positions f.now kept.now) }
     ensures { IfOk result (λ g. g ≡ clauses_at f.now kept.now) }
 {
-    let mut clauses = match Formula::new(alloc, f.vars()) {
-        Ok(clauses) => clauses,
-        Err(FormulaError::Limit) => unreachable!(),
-        Err(FormulaError::OutOfMemory) => return Err(OutOfMemory),
-    };
+    let mut clauses = f.empty(alloc);
     for p in kept {
-        match clauses.push_clause(f.clause(*p)) {
-            Ok(()) => {}
-            Err(FormulaError::Limit) => unreachable!(),
-            Err(FormulaError::OutOfMemory) => return Err(OutOfMemory),
-        }
+        clauses.push_within(f.clause(*p))?;
     }
     Ok(clauses)
 }
 
-/// The document of what the pure reducer found, with its set line. It reduces the formula for the
-/// class pure, and the checks accept it.
+/// The document of what the pure reducer found, with its set line, without protected variables. It
+/// reduces the formula for the class pure, and the checks accept it.
 pub(crate) fn pure_document(
     alloc: Global,
     f: &Formula,
     found: PureResult,
     set: List<Lit>,
 ) -> Result<DoneDocument, OutOfMemory>
-    requires { ArePureParts f.now found set }
-    ensures { IfOk result (Reduces f.now Pure 0) }
+    requires found { IsPureResult f.now found }
+    requires positions { IsTrue (are_positions f.now found.kept) }
+    requires line { IsSetLine found.order set }
+    ensures reduces { IfOk result (Reduces f.now Pure 0) }
+    ensures unprotected { IfOk result (λ d. d.protect ≡ None) }
 {
     let texts = kept_clauses(alloc, f, found.kept.as_slice())?;
     Ok(DoneDocument {
         vars: f.vars(),
         clauses: f.len(),
+        protect: None,
         kept: found.kept,
         set,
         body: Body::Pure {

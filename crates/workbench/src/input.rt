@@ -1,9 +1,10 @@
 //! Reading whole inputs.
 ghost use Rattle.std.specs.Prelude.{◌≡◌, ◌≢◌, OnOk, Some, ℕ, ◌<◌, ◌≤◌, length, IfOk, IfErr, IfSome, IsTrue, IsErrAnd};
-ghost use Rattle.lk_model.specs.Built.{IsBuilt};
-ghost use Rattle.lk_model.specs.Form.{is_in_form};
+ghost use Rattle.cert_text.specs.Built.{IsBuilt};
+ghost use Rattle.lean_checker.specs.Checked.{IsChecked as IsCheckable};
+ghost use Rattle.lk_model.specs.Documents.Form.{is_in_form};
 ghost use Rattle.cert_text.specs.Readings.{IsReadAs};
-ghost use Rattle.lk_model.specs.Dimacs.{Spells};
+ghost use Rattle.lk_model.specs.Texts.Dimacs.{Spells};
 ghost use Rattle.lk_outside.specs.Reads.{ReadTakes};
 ghost use Rattle.lk_outside.specs.Causes.{HasCause, TellsTheSame};
 ghost use Rattle.workbench.specs.Causes.{StopsReading, StopsText, StopsDocument};
@@ -93,6 +94,7 @@ pub(crate) fn read_document<H: Shelf>(
     ensures document { IfOk result (λ d. IfSome (H.told shelf.old name.now) (λ bytes. IsReadAs bytes d)) }
     ensures form { IfOk result (λ d. IsTrue (is_in_form d)) }
     ensures built { IfOk result IsBuilt }
+    ensures checkable { IfOk result IsCheckable }
     ensures stop { IfErr result (StopsDocument (H.told shelf.old name.now) (H.ailing shelf.new)) }
     ensures current { IsErrAnd result (λ s. s ≡ Stop.Read) → H.current shelf.new ≡ Some name.now }
     ensures cause { HasCause (H.faults shelf.old) (H.faults shelf.new) (IsErrAnd result (λ s. s ≡ Stop.Read)) }

@@ -1,8 +1,6 @@
 //! The commands over whole inputs: words, reading, reducing, writing.
 #![tactic(auto)]
 
-#[cfg(test)]
-mod check_tests;
 mod document;
 mod input;
 mod laws;
@@ -11,8 +9,6 @@ mod options;
 mod output;
 mod program;
 mod stop;
-#[cfg(test)]
-mod tests;
 mod words;
 
 pub use laws::written_law;

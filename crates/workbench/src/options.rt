@@ -1,6 +1,6 @@
 //! The options of the commands: pairs of an option's word and a number.
 ghost use Rattle.std.specs.Prelude.{◌≡◌, ◌<◌, ◌≤◌, [], pos, map, length, None, IfSome, IsSomeAnd};
-ghost use Rattle.lk_model.specs.NumberWords.{natural};
+ghost use Rattle.lk_model.specs.Texts.NumberWords.{natural};
 ghost use Rattle.workbench.specs.Lawful.{options_of};
 ghost use Rattle.workbench.specs.OptionPlaces.{named, keys_of, taken_by, key_of, has_key, without_key, is_number_of, refused_place};
 

@@ -5,7 +5,7 @@ ghost use Rattle.std.specs.Io.KnownBytes.{Appends};
 ghost use Rattle.lk_model.specs.Reduction.{Reduces};
 ghost use Rattle.lk_model.specs.declared.class.Class.TheVariants.{Pure};
 ghost use Rattle.lk_outside.specs.Causes.{HasCause, Rose};
-ghost use Rattle.lk_model.specs.PlainText.{line};
+ghost use Rattle.lk_model.specs.Texts.PlainText.{line};
 ghost use Rattle.lean_checker.specs.Verdicts.{verdict_words};
 ghost use Rattle.workbench.specs.Lawful.{command_of};
 ghost use Rattle.workbench.specs.Requests.{Asks};
@@ -21,7 +21,7 @@ use crate::lines::line_of;
 use crate::output::write_all;
 use crate::stop::Stop;
 use crate::words::{Request, request_of};
-use cert_text::print;
+use cert_text::{print, text_law};
 use lean_checker::{Verdict, check, put_verdict};
 use lk_model::{Document, DoneDocument, Formula, OutOfMemory};
 use lk_outside::{Gate, Shelf, Sink};
@@ -100,6 +100,7 @@ pub fn run<R: Threads + Sync, H: Shelf, O: Sink, E: Sink, G: Gate>(
         (Rose (E.faults say.old) (E.faults say.new) → ⊥) →
         (result ≡ 0) ⊎ (result ≡ 9) }
 {
+    text_law();
     match perform(rt, alloc, words, shelf, gate) {
         Ok(answer) => match write_all(out, answer.text.as_slice()) {
             Ok(()) => answer.status,
@@ -198,7 +199,8 @@ fn told(alloc: Global, verdict: Verdict) -> Result<Answer, OutOfMemory>
 /// The document of the pure kernel. It reduces the formula for the class pure, and the checks accept
 /// it.
 fn reduce(alloc: Global, f: &Formula) -> Result<DoneDocument, OutOfMemory>
-    ensures { IfOk result (Reduces f.now Pure 0) }
+    ensures reduces { IfOk result (Reduces f.now Pure 0) }
+    ensures unprotected { IfOk result (λ d. d.protect ≡ None) }
 {
     let found = pure_kernel(alloc, f)?;
     let set = set_line(alloc, found.order.as_slice())?;

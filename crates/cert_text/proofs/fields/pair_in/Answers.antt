@@ -1,6 +1,6 @@
 use Rattle.std.proofs.Common.{◌∷◌, ◌∙◌, List, ℕ, ap, sym}
 use Rattle.std.specs.Borrow.{Bor}
-use Rattle.lk_model.specs.Lines.{Word}
+use Rattle.lk_model.specs.Texts.Lines.{Word}
 use Rattle.cert_text.specs.Drafts.{fields}
 use Rattle.cert_text.specs.Fields.{rest_fields}
 use Rattle.cert_text.proofs.Words.{pair_many}

@@ -1,6 +1,6 @@
 use Rattle.std.proofs.Common.{◌+◌, drop, arith}
-use Rattle.lk_model.specs.PlainText.{literal_words}
-use Rattle.lk_model.specs.Formula.{clause_at}
+use Rattle.lk_model.specs.Texts.PlainText.{literal_words}
+use Rattle.lk_model.specs.Formulas.Formula.{clause_at}
 use Rattle.cert_text.proofs.LineTexts.{clauses_from, next_line}
 use Rattle.cert_text.proofs.formula.put_clauses.Goals as goal
 

@@ -1,6 +1,6 @@
 use Rattle.std.proofs.Common.{◌≡◌, ◌++◌, drop, map}
 use Rattle.std.specs.List.{flat_map}
-use Rattle.lk_model.specs.PlainText.{line, literal_words}
+use Rattle.lk_model.specs.Texts.PlainText.{line, literal_words}
 use Rattle.cert_text.proofs.formula.put_clauses.Given as goal
 
 -- what is written, and what is left to write

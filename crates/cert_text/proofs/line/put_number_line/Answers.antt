@@ -1,4 +1,4 @@
-use Rattle.lk_model.specs.PlainText.{number_words}
+use Rattle.lk_model.specs.Texts.PlainText.{number_words}
 use Rattle.cert_text.proofs.LineTexts.{ended_behind}
 use Rattle.cert_text.proofs.line.put_number_line.Goals as goal
 

@@ -1,5 +1,5 @@
 use Rattle.std.proofs.Common.{◌≡◌, ◌++◌, drop}
-use Rattle.lk_model.specs.PlainText.{number_words}
+use Rattle.lk_model.specs.Texts.PlainText.{number_words}
 use Rattle.cert_text.specs.Spaced.{spaced}
 use Rattle.cert_text.proofs.line.put_numbers.Given as goal
 

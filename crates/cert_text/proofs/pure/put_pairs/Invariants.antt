@@ -1,7 +1,7 @@
 use Rattle.std.proofs.Common.{◌≡◌, ◌++◌, drop, map}
 use Rattle.std.specs.List.{flat_map}
-use Rattle.lk_model.specs.PlainText.{line}
-use Rattle.lk_model.specs.Text.{pair_line}
+use Rattle.lk_model.specs.Texts.PlainText.{line}
+use Rattle.lk_model.specs.Documents.Text.{pair_line}
 use Rattle.cert_text.proofs.pure.put_pairs.Given as goal
 
 -- what is written, and what is left to write

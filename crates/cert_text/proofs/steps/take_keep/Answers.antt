@@ -1,6 +1,6 @@
 use Rattle.std.proofs.Common.{refl, sym, ◌∙◌}
 use Rattle.std.specs.Prelude.{codes}
-use Rattle.lk_model.specs.PlainText.{number_words}
+use Rattle.lk_model.specs.Texts.PlainText.{number_words}
 use Rattle.cert_text.specs.Drafts.{fields}
 use Rattle.cert_text.proofs.LineSteps.{no_list, keep_taken, keep_none}
 use Rattle.cert_text.proofs.steps.take_keep.Goals as goal

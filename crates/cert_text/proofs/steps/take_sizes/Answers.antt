@@ -1,7 +1,7 @@
 use Rattle.std.proofs.Common.{◌≡◌, [], sym, ◌∙◌, subst}
-use Rattle.lk_model.specs.Formula.{Cnf}
+use Rattle.lk_model.specs.Formulas.Formula.{Cnf}
 use Rattle.cert_text.specs.Drafts.{NextSizes, fields}
-use Rattle.cert_text.specs.declared.draft.Stage.TheVariants.{Keep}
+use Rattle.cert_text.specs.declared.draft.LineDue.TheVariants.{Keep}
 use Rattle.cert_text.proofs.LineSteps.{sizes_taken, sizes_none}
 use Rattle.cert_text.proofs.steps.take_sizes.Goals as goal
 
@@ -15,5 +15,5 @@ returns c =
     let m = c.in-Some-two_numbers.clauses in
     let made = c.in-Ok.ensures.ok in
     let texts : record { vars = n; clauses = [] } ≡ c.in-Ok.texts = λ i. record { vars = sym made.0 i; clauses = sym made.1 i } in
-    subst (λ (t : Cnf). NextSizes d (fields c.args.line.now) (record d { stage = Keep; vars = n; clauses = m; texts = t })) texts
+    subst (λ (t : Cnf). NextSizes d (fields c.args.line.now) (record d { due = Keep; vars = n; clauses = m; texts = t })) texts
     (sizes_taken d (fields c.args.line.now) (fields c.in-Some.rest.now) (n, m) c.in-Some.ensures.some (sym c.in-Some-two_numbers.is ∙ c.two_numbers.ensures))

@@ -3,7 +3,7 @@ use Rattle.std.specs.Prelude.{filter}
 use Rattle.std.proofs.lemmas.Iterator.{YieldsList-from_slice, YieldsList-from_take}
 use Rattle.std.proofs.lemmas.Iterator.Consumers.{YieldsList-from_filter, count_from_yields_List}
 use Rattle.std.proofs.lemmas.List.Sums.{length-filter}
-use Rattle.lk_model.specs.Lines.{is_newline}
+use Rattle.lk_model.specs.Texts.Lines.{is_newline}
 use Rattle.dimacs_reader.proofs.refusal.line_of.Goals as goal
 
 pub returns : goal.returns

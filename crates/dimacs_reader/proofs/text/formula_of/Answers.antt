@@ -1,5 +1,5 @@
 use Rattle.std.proofs.Common.{ℕ, subst}
-use Rattle.dimacs_reader.specs.Bodies.{IsRead}
+use Rattle.dimacs_reader.specs.ReadStates.{IsRead}
 use Rattle.dimacs_reader.proofs.Wholes.{read_text}
 use Rattle.dimacs_reader.proofs.Stopping.{if_ok_weaker}
 use Rattle.dimacs_reader.proofs.text.formula_of.Goals as goal

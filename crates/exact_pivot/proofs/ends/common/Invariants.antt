@@ -1,7 +1,7 @@
 use Rattle.std.proofs.Common.{◌≡◌, pos, ◌<ℤ◌, IsTrue, map, drop}
 use Rattle.lk_model.specs.Limits.{is_in_range}
-use Rattle.lk_model.specs.Arithmetic.{first_wide}
-use Rattle.lk_model.specs.Ends.{denominator, lcm_from, made_in_lcm}
+use Rattle.lk_model.specs.Linear.Arithmetic.{first_wide}
+use Rattle.lk_model.specs.Linear.Ends.{denominator, lcm_from, made_in_lcm}
 use Rattle.exact_pivot.proofs.ends.common.Given as goal
 
 abbrev pub invariant-loop-row : goal.invariant-loop-row

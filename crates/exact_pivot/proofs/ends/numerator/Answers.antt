@@ -2,7 +2,7 @@ use Rattle.std.proofs.Common.{pos, ◌<ℤ◌, sym, ap, ◌∙◌, subst, rules}
 use Rattle.std.specs.Int.RustNames.{FitsSigned}
 use mir.Syntax.{w128}
 use Rattle.std.proofs.lemmas.Int.{to_z-of_z}
-use Rattle.lk_model.specs.Rows.{entry}
+use Rattle.lk_model.specs.Linear.Rows.{entry}
 use Rattle.exact_pivot.proofs.Joins.{gcd_of_some_second}
 use Rattle.exact_pivot.proofs.ends.numerator.Goals as goal
 

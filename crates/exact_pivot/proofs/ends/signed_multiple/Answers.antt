@@ -1,5 +1,5 @@
 use Rattle.std.proofs.Common.{[], int_div}
-use Rattle.lk_model.specs.Ends.{numerator, denominator}
+use Rattle.lk_model.specs.Linear.Ends.{numerator, denominator}
 use Rattle.std.proofs.lemmas.Int.{to_z-of_z}
 use Rattle.std.proofs.lemmas.Result.{err_from_is_err_and}
 use Rattle.lk_model.specs.declared.wide.Op.TheVariants.{Product}

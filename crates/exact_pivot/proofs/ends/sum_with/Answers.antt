@@ -1,8 +1,8 @@
 use Rattle.std.proofs.Common.{int_div, ◌∷◌, []}
 use Rattle.std.proofs.lemmas.Int.{to_z-of_z}
 use Rattle.std.proofs.lemmas.Result.{err_from_is_err_and}
-use Rattle.lk_model.specs.Arithmetic.{made}
-use Rattle.lk_model.specs.Ends.{numerator, denominator}
+use Rattle.lk_model.specs.Linear.Arithmetic.{made}
+use Rattle.lk_model.specs.Linear.Ends.{numerator, denominator}
 use Rattle.lk_model.specs.declared.wide.Op.TheVariants.{Product, Sum}
 use Rattle.exact_rows.proofs.Wides.{fits_in_range}
 use Rattle.exact_pivot.specs.Placed.{multiple_of}

@@ -1,7 +1,7 @@
 use Rattle.std.proofs.Common.{◌≡◌, length, take, drop}
 use Rattle.std.specs.List.{flat_map}
 use Rattle.lk_model.specs.Lists.{up_to}
-use Rattle.lk_model.specs.Arithmetic.{first_wide}
+use Rattle.lk_model.specs.Linear.Arithmetic.{first_wide}
 use Rattle.exact_pivot.specs.Placed.{units_in, made_in_unit_at, made_in_all}
 use Rattle.exact_pivot.proofs.ends.units.Given as goal
 

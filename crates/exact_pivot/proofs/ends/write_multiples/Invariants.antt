@@ -1,6 +1,6 @@
 use Rattle.std.proofs.Common.{◌≡◌, ◌++◌, map, take, drop}
 use Rattle.std.specs.List.{flat_map}
-use Rattle.lk_model.specs.Arithmetic.{first_wide}
+use Rattle.lk_model.specs.Linear.Arithmetic.{first_wide}
 use Rattle.exact_pivot.specs.Placed.{signed_of, made_in_multiple}
 use Rattle.exact_pivot.proofs.ends.write_multiples.Given as goal
 

@@ -1,6 +1,6 @@
 use Rattle.std.proofs.Common.{◌≡◌, ◌++◌, map, take, drop}
 use Rattle.std.specs.List.{flat_map}
-use Rattle.lk_model.specs.Arithmetic.{first_wide}
+use Rattle.lk_model.specs.Linear.Arithmetic.{first_wide}
 use Rattle.exact_pivot.specs.Placed.{sum_with, made_in_sum}
 use Rattle.exact_pivot.proofs.ends.write_sums.Given as goal
 

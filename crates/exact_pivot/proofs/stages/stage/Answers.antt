@@ -1,7 +1,7 @@
 use Rattle.std.proofs.Common.{◌≡◌, length, Ok, sym, ap, ◌∙◌, arith}
 use Rattle.std.proofs.lemmas.Result.{err_from_is_err_and}
 use Rattle.std.proofs.lemmas.List.{take_at}
-use Rattle.lk_model.specs.Arithmetic.{primitive}
+use Rattle.lk_model.specs.Linear.Arithmetic.{primitive}
 use Rattle.lk_model.specs.declared.document.Stage.{Stage}
 use Rattle.exact_pivot.specs.Staged.{lasts, weights_with}
 use Rattle.exact_pivot.proofs.Stagings.{gives_stage, stage_numbers_long}

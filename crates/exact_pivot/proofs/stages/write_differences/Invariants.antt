@@ -1,7 +1,7 @@
 use Rattle.std.proofs.Common.{◌≡◌, ◌++◌, map, take, drop, length}
 use Rattle.std.specs.List.{flat_map}
 use Rattle.lk_model.specs.Lists.{up_to}
-use Rattle.lk_model.specs.Arithmetic.{first_wide}
+use Rattle.lk_model.specs.Linear.Arithmetic.{first_wide}
 use Rattle.exact_rows.specs.Made.{AreInRange}
 use Rattle.exact_pivot.specs.Staged.{difference_at, made_in_difference, signed_number}
 use Rattle.exact_pivot.proofs.stages.write_differences.Given as goal

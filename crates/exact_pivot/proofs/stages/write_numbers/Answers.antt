@@ -1,5 +1,5 @@
 use Rattle.std.proofs.Common.{◌≡◌, false, length, refl, sym, ◌∙◌}
-use Rattle.lk_model.specs.Arithmetic.{first_wide}
+use Rattle.lk_model.specs.Linear.Arithmetic.{first_wide}
 use Rattle.exact_pivot.specs.Staged.{lasts}
 use Rattle.exact_pivot.proofs.stages.write_numbers.Goals as goal
 

@@ -3,9 +3,9 @@ use Rattle.std.specs.Int.RustNames.{FitsSigned}
 use mir.Syntax.{w128}
 use mir.Val.{to_z}
 use Rattle.std.proofs.lemmas.Int.{to_z-of_z}
-use Rattle.lk_model.specs.Formula.{clause_at}
-use Rattle.lk_model.specs.Balance.{incidence}
-use Rattle.lk_model.specs.Rows.{lack}
+use Rattle.lk_model.specs.Formulas.Formula.{clause_at}
+use Rattle.lk_model.specs.Formulas.Balance.{incidence}
+use Rattle.lk_model.specs.Linear.Rows.{lack}
 use Rattle.exact_pivot.proofs.Positions.{rises_at, less_step, less_end}
 use Rattle.exact_pivot.proofs.start.lack.Goals as goal
 

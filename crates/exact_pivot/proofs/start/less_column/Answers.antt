@@ -3,7 +3,7 @@ use Rattle.std.specs.Int.RustNames.{FitsSigned}
 use mir.Syntax.{w128}
 use mir.Val.{to_z}
 use Rattle.std.proofs.lemmas.Int.{to_z-of_z}
-use Rattle.lk_model.specs.Rows.{Row, entry, less_column}
+use Rattle.lk_model.specs.Linear.Rows.{Row, entry, less_column}
 use Rattle.exact_pivot.proofs.Positions.{less_step}
 use Rattle.exact_pivot.proofs.Pushes.{small_entry}
 use Rattle.exact_pivot.proofs.start.less_column.Goals as goal

@@ -1,6 +1,6 @@
 use Rattle.std.proofs.Common.{◌≡◌, ◌≤◌, ◌*◌, drop, map, ◌-ℤ◌, unsigned_abs}
 use Rattle.lk_model.specs.Lists.{sum_of}
-use Rattle.lk_model.specs.Rows.{Row, entry, less_column}
+use Rattle.lk_model.specs.Linear.Rows.{Row, entry, less_column}
 use Rattle.exact_pivot.proofs.start.less_column.Given as goal
 
 abbrev pub invariant-loop-row : goal.invariant-loop-row

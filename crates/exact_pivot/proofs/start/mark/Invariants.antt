@@ -1,6 +1,6 @@
 use Rattle.std.proofs.Common.{◌≡◌, ℕ, ◌||◌, length, take}
-use Rattle.lk_model.specs.Literal.{mentions}
-use Rattle.lk_model.specs.Crossed.{is_in}
+use Rattle.lk_model.specs.Formulas.Literal.{mentions}
+use Rattle.lk_model.specs.Held.VariableSets.{is_in}
 use Rattle.exact_pivot.proofs.start.mark.Given as goal
 
 abbrev pub invariant-loop-l : goal.invariant-loop-l

@@ -1,6 +1,6 @@
 use Rattle.std.proofs.Common.{◌≡◌, ℕ, ◌||◌, length, take}
-use Rattle.lk_model.specs.Formula.{variable_occurs}
-use Rattle.lk_model.specs.Crossed.{is_in}
+use Rattle.lk_model.specs.Formulas.Formula.{variable_occurs}
+use Rattle.lk_model.specs.Held.VariableSets.{is_in}
 use Rattle.exact_pivot.proofs.start.mark_all.Given as goal
 
 abbrev pub invariant-loop-p : goal.invariant-loop-p

@@ -1,6 +1,6 @@
 use Rattle.std.proofs.Common.{◌≡◌, ◌+◌, ◌||◌, arith, ◌∙◌, ap}
-use Rattle.lk_model.specs.Formula.{variable_occurs}
-use Rattle.lk_model.specs.Crossed.{is_in}
+use Rattle.lk_model.specs.Formulas.Formula.{variable_occurs}
+use Rattle.lk_model.specs.Held.VariableSets.{is_in}
 use Rattle.exact_pivot.proofs.Occurring.{none_in, filter_step, range_step}
 use Rattle.exact_pivot.proofs.start.occurring.Goals as goal
 

@@ -1,7 +1,7 @@
 use Rattle.std.proofs.Common.{◌≡◌, ◌≤◌, filter}
 use Rattle.std.specs.List.{All}
 use Rattle.lk_model.specs.Lists.{up_to}
-use Rattle.lk_model.specs.Formula.{variable_occurs}
+use Rattle.lk_model.specs.Formulas.Formula.{variable_occurs}
 use Rattle.exact_pivot.proofs.start.occurring.Given as goal
 
 abbrev pub invariant-loop-v : goal.invariant-loop-v

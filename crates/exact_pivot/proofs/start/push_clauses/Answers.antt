@@ -4,8 +4,8 @@ use mir.Syntax.{w128}
 use Rattle.std.proofs.lemmas.Int.{to_z-of_z}
 use Rattle.std.proofs.lemmas.List.Elements.{All-append, All-cons, All-nil}
 use Rattle.lk_model.specs.Limits.{is_in_range}
-use Rattle.lk_model.specs.Formula.{clause_at}
-use Rattle.lk_model.specs.Balance.{incidence}
+use Rattle.lk_model.specs.Formulas.Formula.{clause_at}
+use Rattle.lk_model.specs.Formulas.Balance.{incidence}
 use Rattle.exact_rows.specs.Made.{AreInRange}
 use Rattle.exact_pivot.proofs.Positions.{rises_at}
 use Rattle.exact_pivot.proofs.Pushes.{push_step}

@@ -1,6 +1,6 @@
 use Rattle.std.proofs.Common.{◌≡◌, ◌++◌, ◌*ℤ◌, map, take}
-use Rattle.lk_model.specs.Formula.{clause_at}
-use Rattle.lk_model.specs.Balance.{incidence}
+use Rattle.lk_model.specs.Formulas.Formula.{clause_at}
+use Rattle.lk_model.specs.Formulas.Balance.{incidence}
 use Rattle.exact_rows.specs.Made.{AreInRange}
 use Rattle.exact_pivot.proofs.start.push_clauses.Given as goal
 

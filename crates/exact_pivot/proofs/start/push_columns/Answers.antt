@@ -4,7 +4,7 @@ use mir.Syntax.{w128}
 use Rattle.std.proofs.lemmas.Int.{to_z-of_z}
 use Rattle.std.proofs.lemmas.List.Elements.{All-append, All-cons, All-nil}
 use Rattle.lk_model.specs.Limits.{is_in_range}
-use Rattle.lk_model.specs.Rows.{less_column}
+use Rattle.lk_model.specs.Linear.Rows.{less_column}
 use Rattle.exact_rows.specs.Made.{AreInRange}
 use Rattle.exact_pivot.proofs.Pushes.{push_range}
 use Rattle.exact_pivot.proofs.start.push_columns.Goals as goal

@@ -1,6 +1,6 @@
 use Rattle.std.proofs.Common.{◌≡◌, ◌++◌, map}
 use Rattle.lk_model.specs.Lists.{up_to}
-use Rattle.lk_model.specs.Rows.{less_column}
+use Rattle.lk_model.specs.Linear.Rows.{less_column}
 use Rattle.exact_rows.specs.Made.{AreInRange}
 use Rattle.exact_pivot.proofs.start.push_columns.Given as goal
 

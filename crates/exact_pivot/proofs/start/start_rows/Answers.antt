@@ -1,7 +1,7 @@
 use Rattle.std.proofs.Common.{◌≡◌, ◌+◌, [], length, zip, map, arith, ◌∙◌, ap, sym, get_or}
 use Rattle.std.proofs.lemmas.List.{take_all}
 use Rattle.lk_model.specs.Lists.{up_to}
-use Rattle.lk_model.specs.Rows.{start_row}
+use Rattle.lk_model.specs.Linear.Rows.{start_row}
 use Rattle.exact_pivot.proofs.Pushes.{push_step, zip_get, zip_count}
 use Rattle.exact_pivot.proofs.start.start_rows.Goals as goal
 

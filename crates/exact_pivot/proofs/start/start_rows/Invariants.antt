@@ -1,6 +1,6 @@
 use Rattle.std.proofs.Common.{◌≡◌, length, map, take, zip}
 use Rattle.lk_model.specs.Lists.{up_to}
-use Rattle.lk_model.specs.Rows.{start_row}
+use Rattle.lk_model.specs.Linear.Rows.{start_row}
 use Rattle.exact_pivot.proofs.start.start_rows.Given as goal
 
 abbrev pub invariant-loop-j : goal.invariant-loop-j

@@ -1,9 +1,10 @@
 use Rattle.std.proofs.Common.{◌≡◌, ◌∙◌, ℕ, ℤ, List, map, sym, ap, subst, true}
 use Rattle.lk_model.specs.Lists.{rises_within}
-use Rattle.lk_model.specs.Literal.{variable}
-use Rattle.lk_model.specs.Assignment.{Assignment, assignment_of, first_unsatisfied}
-use Rattle.lean_checker.proofs.AcceptedForms.{same_numbers, form_rises}
-use Rattle.lean_checker.proofs.FirstFailures.{first_fails, second_fails, third_fails, fourth_fails, none_of_four, lines_match, unsatisfied_is}
+use Rattle.lk_model.specs.Formulas.Literal.{variable}
+use Rattle.lk_model.specs.Formulas.Assignment.{Assignment, assignment_of, first_unsatisfied}
+use Rattle.kernel_laws.proofs.Passed.{in_form}
+use Rattle.lean_checker.proofs.Sizes.{has_sizes}
+use Rattle.lean_checker.proofs.FirstFailures.{first_fails, second_fails, autarky_fails_first, removal_fails_first, none_of_five, lines_match, unsatisfied_is}
 use Rattle.lean_checker.proofs.checking.common_failure.Goals as goal
 
 pub returns-in-Some-clause-first : goal.returns-in-Some-clause-first
@@ -11,8 +12,8 @@ returns-in-Some-clause-first c = c.failure.ensures ∙ first_fails c.args.f.now 
 
 pub kept_clause-requires-clause-positions : goal.kept_clause-requires-clause-positions
 kept_clause-requires-clause-positions c =
-    let sizes = same_numbers c.args.f.now c.args.d.now (sym c.in_default.ensures.place) in
-    subst (λ (m : ℕ). rises_within 0 m c.args.d.now.kept ≡ true) sizes.clauses (form_rises c.args.d.now c.requires).kept
+    let sizes = has_sizes c.args.f.now c.args.d.now (sym c.in_default.ensures.place) in
+    subst (λ (m : ℕ). rises_within 0 m c.args.d.now.kept ≡ true) sizes.clauses (in_form c.args.d.now c.requires).kept
 
 pub kept_clause-requires-clause-lines : goal.kept_clause-requires-clause-lines
 kept_clause-requires-clause-lines c = lines_match c.args.d.now c.requires
@@ -22,8 +23,8 @@ returns-in-Some-kept_clause-clause-first c = c.failure-in-Some-kept_clause.ensur
 
 pub assignment_of-requires-clause-rising : goal.assignment_of-requires-clause-rising
 assignment_of-requires-clause-rising c =
-    let sizes = same_numbers c.args.f.now c.args.d.now (sym c.in_default.ensures.place) in
-    rw (c.as_slice.ensures, c.vars.ensures.value) (subst (λ (n : ℕ). rises_within 0 n (map variable c.args.d.now.set) ≡ true) sizes.vars (form_rises c.args.d.now c.requires).set)
+    let sizes = has_sizes c.args.f.now c.args.d.now (sym c.in_default.ensures.place) in
+    rw (c.as_slice.ensures, c.vars.ensures.value) (subst (λ (n : ℕ). rises_within 0 n (map variable c.args.d.now.set) ≡ true) sizes.vars (in_form c.args.d.now c.requires).set)
 
 pub returns-in-Some-first_unsatisfied_touched-clause-first : goal.returns-in-Some-first_unsatisfied_touched-clause-first
 returns-in-Some-first_unsatisfied_touched-clause-first c =
@@ -31,12 +32,12 @@ returns-in-Some-first_unsatisfied_touched-clause-first c =
     let d = c.args.d.now in
     let values = c.in_ok-values.ensures.values ∙ ap (λ (ls : List ℤ). assignment_of ls) c.as_slice.ensures in
     let found = c.in-Some-first_unsatisfied_touched.ensures.value ∙ ap (λ (φ : Assignment). first_unsatisfied φ F) values ∙ unsatisfied_is F d in
-    c.failure-in-Some-first_unsatisfied_touched.ensures ∙ third_fails F d c.in-Some-first_unsatisfied_touched.place c.in_default.ensures.place c.in_default-kept_clause.ensures found
+    c.failure-in-Some-first_unsatisfied_touched.ensures ∙ autarky_fails_first F d c.in-Some-first_unsatisfied_touched.place c.in_default.ensures.place c.in_default-kept_clause.ensures found
 
 pub kept_flags-requires : goal.kept_flags-requires
 kept_flags-requires c =
-    let sizes = same_numbers c.args.f.now c.args.d.now (sym c.in_default.ensures.place) in
-    rw (c.as_slice-2.ensures, c.len.ensures.value) (subst (λ (m : ℕ). rises_within 0 m c.args.d.now.kept ≡ true) sizes.clauses (form_rises c.args.d.now c.requires).kept)
+    let sizes = has_sizes c.args.f.now c.args.d.now (sym c.in_default.ensures.place) in
+    rw (c.as_slice-2.ensures, c.len.ensures.value) (subst (λ (m : ℕ). rises_within 0 m c.args.d.now.kept ≡ true) sizes.clauses (in_form c.args.d.now c.requires).kept)
 
 pub not_exactly_removed-requires-clause-values : goal.not_exactly_removed-requires-clause-values
 not_exactly_removed-requires-clause-values c = c.in_ok-values.ensures.values ∙ ap (λ (ls : List ℤ). assignment_of ls) c.as_slice.ensures
@@ -47,7 +48,7 @@ returns-in-Some-not_exactly_removed-clause-first c =
     let d = c.args.d.now in
     let values = c.in_ok-values.ensures.values ∙ ap (λ (ls : List ℤ). assignment_of ls) c.as_slice.ensures in
     let none = c.in_default-first_unsatisfied_touched.ensures.value ∙ ap (λ (φ : Assignment). first_unsatisfied φ F) values ∙ unsatisfied_is F d in
-    c.failure-in-Some-not_exactly_removed.ensures ∙ fourth_fails F d c.in-Some-not_exactly_removed.place c.in_default.ensures.place c.in_default-kept_clause.ensures none c.in-Some-not_exactly_removed.ensures
+    c.failure-in-Some-not_exactly_removed.ensures ∙ removal_fails_first F d c.in-Some-not_exactly_removed.place c.in_default.ensures.place c.in_default-kept_clause.ensures none c.in-Some-not_exactly_removed.ensures
 
 pub returns-clause-first : goal.returns-clause-first
 returns-clause-first c =
@@ -55,7 +56,7 @@ returns-clause-first c =
     let d = c.args.d.now in
     let values = c.in_ok-values.ensures.values ∙ ap (λ (ls : List ℤ). assignment_of ls) c.as_slice.ensures in
     let none = c.in_default-first_unsatisfied_touched.ensures.value ∙ ap (λ (φ : Assignment). first_unsatisfied φ F) values ∙ unsatisfied_is F d in
-    none_of_four F d c.in_default.ensures.place c.in_default-kept_clause.ensures none c.in_default-not_exactly_removed.ensures
+    none_of_five F d c.in_default.ensures.place c.in_default-kept_clause.ensures none c.in_default-not_exactly_removed.ensures
 
 pub returns-clause-sizes : goal.returns-clause-sizes
-returns-clause-sizes c = λ _. same_numbers c.args.f.now c.args.d.now (sym c.in_default.ensures.place)
+returns-clause-sizes c = λ _. has_sizes c.args.f.now c.args.d.now (sym c.in_default.ensures.place)

@@ -1,10 +1,10 @@
 use Rattle.std.proofs.Common.{◌≡◌, ◌∙◌, ℕ, map, sym, subst, true}
 use Rattle.std.specs.List.{list_all}
 use Rattle.lk_model.specs.Lists.{rises_within}
-use Rattle.lk_model.specs.Literal.{is_literal}
-use Rattle.lk_model.specs.Form.{is_pair}
+use Rattle.lk_model.specs.Formulas.Literal.{is_literal}
+use Rattle.lk_model.specs.Documents.Form.{is_pair}
 use Rattle.lk_model.specs.declared.document.Pair.{Pair}
-use Rattle.lean_checker.proofs.AcceptedForms.{form_rises}
+use Rattle.kernel_laws.proofs.Passed.{in_form}
 use Rattle.lean_checker.proofs.FirstFailures.{order_fails, pair_fails, pure_parts, set_literals}
 use Rattle.lean_checker.proofs.checking.pure_failure.Goals as goal
 
@@ -19,7 +19,7 @@ pub returns-in-Some : goal.returns-in-Some
 returns-in-Some c = order_fails c.args.f.now c.args.d.now c.args.order.now c.args.pairs.now c.in-Some.place (sym c.in-Some.is ∙ c.in_ok-place.ensures)
 
 pub bad_pair-requires-clause-kept : goal.bad_pair-requires-clause-kept
-bad_pair-requires-clause-kept c = subst (λ (m : ℕ). rises_within 0 m c.args.d.now.kept ≡ true) c.requires.sizes.clauses (form_rises c.args.d.now c.requires.form).kept
+bad_pair-requires-clause-kept c = subst (λ (m : ℕ). rises_within 0 m c.args.d.now.kept ≡ true) c.requires.sizes.clauses (in_form c.args.d.now c.requires.form).kept
 
 pub bad_pair-requires-clause-rising : goal.bad_pair-requires-clause-rising
 bad_pair-requires-clause-rising c =

@@ -1,7 +1,7 @@
 use Rattle.std.proofs.Common.{◌∙◌, ℤ, List, ap, arith}
 use Rattle.std.proofs.lemmas.List.{take_all}
-use Rattle.lk_model.specs.Literal.{variable}
-use Rattle.lk_model.specs.Assignment.{assignment_of, Assignment}
+use Rattle.lk_model.specs.Formulas.Literal.{variable}
+use Rattle.lk_model.specs.Formulas.Assignment.{assignment_of, Assignment}
 use Rattle.lean_checker.proofs.SetValues.{rising_literal, still_unset, values_more}
 use Rattle.lean_checker.proofs.common.assignment_of.Goals as goal
 

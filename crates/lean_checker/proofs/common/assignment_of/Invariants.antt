@@ -1,5 +1,6 @@
 use Rattle.std.proofs.Common.{◌≡◌, take, length}
-use Rattle.lk_model.specs.Assignment.{assignment_by, assignment_of}
+use Rattle.lk_model.specs.Held.PartialValues.{assignment_by}
+use Rattle.lk_model.specs.Formulas.Assignment.{assignment_of}
 use Rattle.lean_checker.proofs.common.assignment_of.Given as goal
 
 -- the assignment of the literals so far

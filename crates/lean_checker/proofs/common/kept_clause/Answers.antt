@@ -1,7 +1,7 @@
 use Rattle.std.proofs.Common.{◌≡◌, ◌∙◌, ◌<◌, sym, ap, length, get_or, take, arith, not}
 use Rattle.std.specs.Prelude.{find}
 use Rattle.std.proofs.lemmas.List.{take_all}
-use Rattle.lk_model.specs.Formula.{clause_at}
+use Rattle.lk_model.specs.Formulas.Formula.{clause_at}
 use Rattle.lk_model.proofs.Rising.{rising_bounds}
 use Rattle.lk_model.proofs.Founds.{find-here, find-none_more}
 use Rattle.lean_checker.proofs.ClauseLines.{is_changed, changed_at, kept_clause_is}

@@ -1,7 +1,7 @@
 use Rattle.std.proofs.Common.{◌≡◌, ◌∙◌, ◌<◌, ℤ, List, length, take, ap, sym, subst, Bool, true, false, not, arith}
 use Rattle.std.proofs.lemmas.Bool.{lt-ltb}
 use Rattle.std.specs.List.{list_all}
-use Rattle.lk_model.specs.Literal.{is_literal, contains}
+use Rattle.lk_model.specs.Formulas.Literal.{is_literal, contains}
 use Rattle.lean_checker.specs.Order.{IsSoundCount, first_broken}
 use Rattle.lean_checker.proofs.LiteralSetLemmas.{all_front}
 use Rattle.lean_checker.proofs.OrderChecks.{broken_found, unsound_found, missing_found, none_bad}

@@ -1,5 +1,5 @@
 use Rattle.std.proofs.Common.{map, arith}
-use Rattle.lk_model.specs.Literal.{complement}
+use Rattle.lk_model.specs.Formulas.Literal.{complement}
 use Rattle.lean_checker.proofs.OrderPlaces.{least_small}
 use Rattle.lean_checker.proofs.order.broken_place.Goals as goal
 

@@ -1,5 +1,5 @@
 use Rattle.std.proofs.Common.{◌≡◌, ◌≤◌, ◌+◌, min, drop, length, map}
-use Rattle.lk_model.specs.Literal.{complement}
+use Rattle.lk_model.specs.Formulas.Literal.{complement}
 use Rattle.lean_checker.specs.Order.{least_place}
 use Rattle.lean_checker.proofs.order.broken_place.Given as goal
 

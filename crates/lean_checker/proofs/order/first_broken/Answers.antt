@@ -1,5 +1,5 @@
 use Rattle.std.proofs.Common.{◌≡◌, ◌<◌, ◌∙◌, ℤ, List, length, ap, get_or, [], arith, add-one}
-use Rattle.lk_model.specs.Formula.{clause_at}
+use Rattle.lk_model.specs.Formulas.Formula.{clause_at}
 use Rattle.lean_checker.specs.Order.{broken_place}
 use Rattle.lean_checker.proofs.OrderPlaces.{first_small, first_next}
 use Rattle.lean_checker.proofs.order.first_broken.Goals as goal

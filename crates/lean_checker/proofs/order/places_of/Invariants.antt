@@ -1,5 +1,5 @@
 use Rattle.std.proofs.Common.{◌≡◌, ◌+◌, ◌*◌, ℤ, drop, length, true, get_or}
-use Rattle.lk_model.specs.Literal.{is_literal, rank_of}
+use Rattle.lk_model.specs.Formulas.Literal.{is_literal, rank_of}
 use Rattle.lean_checker.specs.Order.{place_in}
 use Rattle.lean_checker.proofs.order.places_of.Given as goal
 

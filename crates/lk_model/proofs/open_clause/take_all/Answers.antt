@@ -1,5 +1,5 @@
 use Rattle.std.proofs.Common.{subst, List, ℤ}
-use Rattle.lk_model.specs.Growing.{AreFlagged}
+use Rattle.lk_model.specs.Held.Growing.{AreFlagged}
 use Rattle.lk_model.proofs.Flags.{Flagged-pop}
 use Rattle.lk_model.proofs.open_clause.take_all.Goals as goal
 

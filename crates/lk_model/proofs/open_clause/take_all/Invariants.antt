@@ -1,5 +1,5 @@
 use Rattle.std.proofs.Common.{vec_len}
-use Rattle.lk_model.specs.Growing.{AreFlagged}
+use Rattle.lk_model.specs.Held.Growing.{AreFlagged}
 use Rattle.lk_model.proofs.open_clause.take_all.Given as goal
 
 -- the flags tell of the literals that are left

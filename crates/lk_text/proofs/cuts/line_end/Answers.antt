@@ -1,5 +1,5 @@
 use Rattle.std.proofs.Common.{not}
-use Rattle.lk_model.specs.Lines.{is_newline}
+use Rattle.lk_model.specs.Texts.Lines.{is_newline}
 use Rattle.lk_text.proofs.Ranges.{range-more, not_eq}
 use Rattle.lk_text.proofs.cuts.line_end.Goals as goal
 

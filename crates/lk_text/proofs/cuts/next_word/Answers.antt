@@ -1,5 +1,5 @@
 use Rattle.std.proofs.Common.{arith, ◌<◌, length}
-use Rattle.lk_model.specs.Lines.{is_blank}
+use Rattle.lk_model.specs.Texts.Lines.{is_blank}
 use Rattle.lk_text.proofs.Ranges.{rest_fails}
 use Rattle.lk_text.proofs.cuts.next_word.Goals as goal
 

@@ -1,5 +1,5 @@
 use Rattle.std.proofs.Common.{sym, ◌∙◌}
-use Rattle.lk_model.specs.Lines.{is_blank}
+use Rattle.lk_model.specs.Texts.Lines.{is_blank}
 use Rattle.lk_text.proofs.Ranges.{range-more}
 use Rattle.lk_text.proofs.cuts.word_begin.Goals as goal
 

@@ -1,5 +1,5 @@
 use Rattle.std.proofs.Common.{sym, ◌∙◌, ap, not}
-use Rattle.lk_model.specs.Lines.{is_blank}
+use Rattle.lk_model.specs.Texts.Lines.{is_blank}
 use Rattle.lk_text.proofs.Ranges.{range-more}
 use Rattle.lk_text.proofs.cuts.word_end.Goals as goal
 

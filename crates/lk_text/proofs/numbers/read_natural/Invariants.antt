@@ -1,7 +1,7 @@
 use Rattle.std.proofs.Common.{◌≡◌, ◌^◌, true, take, min}
 use Rattle.std.specs.List.{list_all}
 use Rattle.std.specs.Char.{is_ascii_digit}
-use Rattle.lk_model.specs.NumberWords.{digits_value}
+use Rattle.lk_model.specs.Texts.NumberWords.{digits_value}
 use Rattle.lk_text.proofs.numbers.read_natural.Given as goal
 
 -- the value of the digits so far, up to the bound

@@ -1,5 +1,5 @@
 use Rattle.std.proofs.Common.{ℕ, ℤ, List, ◌+◌, subst}
-use Rattle.lk_model.specs.Formula.{clause_at}
+use Rattle.lk_model.specs.Formulas.Formula.{clause_at}
 use Rattle.pure_strip.specs.Tables.{NotesClause}
 use Rattle.pure_strip.proofs.HolderLemmas.{Holders-more}
 use Rattle.pure_strip.proofs.holders.holders_of.Goals as goal

@@ -1,13 +1,17 @@
 use Rattle.std.proofs.Common.{◌∙◌, List, Bool, ℕ, length, [], map, sym, ap, subst, true, IsTrue}
 use Rattle.std.specs.Prelude.{replicate, filter}
-use Rattle.lk_model.specs.Lean.{are_positions}
+use Rattle.lk_model.specs.Formulas.Lean.{are_positions}
 use Rattle.lk_model.specs.Lists.{up_to}
-use Rattle.lk_model.specs.Formula.{positions_of}
-use Rattle.lk_model.specs.PureRun.{least_pure}
+use Rattle.lk_model.specs.Formulas.Formula.{positions_of}
+use Rattle.lk_model.specs.Formulas.Assignment.{assignment_of}
+use Rattle.lk_model.specs.Formulas.Crossed.{no_variable}
+use Rattle.lk_model.specs.Formulas.PureRun.{least_pure}
+use Rattle.lk_model.specs.Reduction.{ReducesBy}
+use Rattle.lk_model.specs.declared.class.Class.TheVariants.{Pure}
 use Rattle.pure_strip.specs.Live.{is_live}
 use Rattle.pure_strip.proofs.Starts.{Counted-start, Untouched-start, run_leaves, untouched_rise, kept_is}
 use Rattle.pure_strip.proofs.Runs.{live_is_untouched}
-use Rattle.pure_strip.proofs.LeanRests.{kernel_is}
+use Rattle.kernel_laws.proofs.Pure.PureLaws.{pure_law}
 use Rattle.pure_strip.proofs.kernel.pure_kernel.Goals as goal
 
 pub pure_order-requires-clause-counted : goal.pure_order-requires-clause-counted
@@ -40,6 +44,7 @@ returns-clause-positions c =
 
 pub returns-clause-kernel : goal.returns-clause-kernel
 returns-clause-kernel c =
-    kernel_is c.args.f.now c.in_ok-order.order _ c.len.ensures.formula c.in_ok-order.ensures.run
-    (c.in_ok-kept.ensures ∙ ap (λ (s : List Bool). filter (is_live s) (up_to (length s))) c.as_slice-3.ensures.value
-    ∙ kept_is c.args.f.now c.in_ok-order.order _ c.in_ok-order.ensures.untouched)
+    subst (λ (ps : List ℕ). ReducesBy no_variable Pure c.args.f.now ps (assignment_of c.in_ok-order.order))
+    (sym (c.in_ok-kept.ensures ∙ ap (λ (s : List Bool). filter (is_live s) (up_to (length s))) c.as_slice-3.ensures.value
+    ∙ kept_is c.args.f.now c.in_ok-order.order _ c.in_ok-order.ensures.untouched))
+    (pure_law.run c.args.f.now c.in_ok-order.order c.len.ensures.formula c.in_ok-order.ensures.run)

@@ -1,6 +1,6 @@
 use Rattle.std.proofs.Common.{◌∙◌, ◌<◌, sym, arith}
 use Rattle.std.specs.Prelude.{filter}
-use Rattle.lk_model.specs.Formula.{positions_of}
+use Rattle.lk_model.specs.Formulas.Formula.{positions_of}
 use Rattle.pure_strip.specs.Live.{is_live}
 use Rattle.pure_strip.proofs.PairLemmas.{listed-variable, listed-complement, pairs-add, pairs-without_variable, pairs-without_complement}
 use Rattle.pure_strip.proofs.pairs.pairs_of.Goals as goal

@@ -1,6 +1,6 @@
 use Rattle.std.proofs.Common.{◌≡◌}
 use Rattle.std.specs.Prelude.{filter}
-use Rattle.lk_model.specs.Formula.{positions_of}
+use Rattle.lk_model.specs.Formulas.Formula.{positions_of}
 use Rattle.pure_strip.specs.Live.{is_live}
 use Rattle.pure_strip.proofs.PairLemmas.{pairs_to}
 use Rattle.pure_strip.proofs.pairs.pairs_of.Given as goal

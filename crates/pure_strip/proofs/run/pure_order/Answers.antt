@@ -1,6 +1,6 @@
 use Rattle.std.proofs.Common.{◌<◌, ◌∙◌, ◌++◌, [], List, ℤ, length, sym, subst, arith}
 use Rattle.lk_model.proofs.Ranks.{rank_small}
-use Rattle.lk_model.specs.PureRun.{untouched, RunsOn}
+use Rattle.lk_model.specs.Formulas.PureRun.{untouched, RunsOn}
 use Rattle.pure_strip.specs.Live.{AreUntouched}
 use Rattle.pure_strip.proofs.PairLemmas.{listed, read_at}
 use Rattle.pure_strip.proofs.Runs.{least_is, least_literal, listed_within, Untouched-more, fewer_untouched, runs_more, runs_end}

@@ -1,5 +1,5 @@
 use Rattle.std.proofs.Common.{length, List, [], ◌++◌, ℤ}
-use Rattle.lk_model.specs.PureRun.{RunsOn, untouched}
+use Rattle.lk_model.specs.Formulas.PureRun.{RunsOn, untouched}
 use Rattle.pure_strip.specs.Live.{AreCounted, AreUntouched}
 use Rattle.pure_strip.proofs.run.pure_order.Given as goal
 

@@ -1,7 +1,7 @@
 use Rattle.std.proofs.Common.{◌≡◌, ◌-◌, ◌∙◌, Bool, List, ℕ, false, ap, subst, arith, length, filter, slice_index_or, IfOk}
 use Rattle.std.specs.List.{range_with_len}
 use Rattle.lk_model.specs.Lists.{among}
-use Rattle.lk_model.specs.Rounds.{reached, used_positions}
+use Rattle.lk_model.specs.Chains.Rounds.{reached, used_positions}
 use Rattle.lk_model.specs.declared.document.Step.{Step}
 use Rattle.refutation_log.specs.Derivation.{first_number}
 use Rattle.refutation_log.specs.Marks.{AreMarks}

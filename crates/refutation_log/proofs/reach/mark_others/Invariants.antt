@@ -1,5 +1,5 @@
 use Rattle.std.proofs.Common.{◌<◌, length, drop}
-use Rattle.lk_model.specs.Rounds.{reached}
+use Rattle.lk_model.specs.Chains.Rounds.{reached}
 use Rattle.refutation_log.specs.Marks.{AreMarks, HaveSameShape}
 use Rattle.refutation_log.proofs.reach.mark_others.Given as goal
 

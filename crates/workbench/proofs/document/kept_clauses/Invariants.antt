@@ -1,5 +1,5 @@
 use Rattle.std.proofs.Common.{◌≡◌, take}
-use Rattle.workbench.specs.PureDocument.{clauses_at}
+use Rattle.kernel_laws.specs.ClauseLines.{clauses_at}
 use Rattle.workbench.proofs.document.kept_clauses.Given as goal
 
 -- the clauses at the positions so far

@@ -1,6 +1,6 @@
 use Rattle.std.proofs.Common.{rules}
 use Rattle.std.proofs.lemmas.List.Sorted.{IsNonDecreasingBy-from_sort_by_key}
-use Rattle.lk_model.specs.Literal.{variable}
+use Rattle.lk_model.specs.Formulas.Literal.{variable}
 use Rattle.workbench.proofs.document.set_line.Goals as goal
 
 pub returns : goal.returns

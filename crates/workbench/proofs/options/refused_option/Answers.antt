@@ -1,5 +1,5 @@
 use Rattle.std.proofs.Common.{◌∙◌, map, [], ◌∷◌, ap}
-use Rattle.lk_model.specs.NumberWords.{natural}
+use Rattle.lk_model.specs.Texts.NumberWords.{natural}
 use Rattle.workbench.specs.OptionPlaces.{named, keys_of, is_number_of, without_key}
 use Rattle.workbench.proofs.OptionSteps.{AreLeft, all_left, fewer_left, begin, unknown, not_left, missing, no_value, another}
 use Rattle.workbench.proofs.options.refused_option.Goals as goal

@@ -1,5 +1,5 @@
 use Rattle.std.proofs.Common.{List, map, length, ◌-◌}
-use Rattle.lk_model.specs.Lines.{Word}
+use Rattle.lk_model.specs.Texts.Lines.{Word}
 use Rattle.workbench.specs.OptionPlaces.{keys_of}
 use Rattle.workbench.proofs.OptionSteps.{AreLeft, GoesOn}
 use Rattle.workbench.proofs.options.refused_option.Given as goal

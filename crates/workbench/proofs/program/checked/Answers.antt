@@ -21,4 +21,4 @@ returns-clause-ok g c =
       spells = c.in_ok-f.ensures.formula;
       read = subst (λ (o : Option (List ℕ)). IfSome o (λ bytes. IsReadAs bytes c.in_ok-d.d)) (c.in_ok-f.ensures.told c.args.document.now) c.in_ok-d.ensures.document;
     })
-    c.in_ok-d.ensures.built c.in_ok-d.ensures.form c.in_ok-check.ensures.verdict (λ e. c.in_ok-check.ensures.reduction (ap Ok e)) c.in_ok-told.ensures.status c.in_ok-told.ensures.text
+    c.in_ok-d.ensures.checkable c.in_ok-d.ensures.form c.in_ok-check.ensures.verdict (λ e. c.in_ok-check.ensures.reduction (ap Ok e)) c.in_ok-told.ensures.status c.in_ok-told.ensures.text

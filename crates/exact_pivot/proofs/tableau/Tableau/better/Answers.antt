@@ -1,5 +1,5 @@
 use Rattle.std.proofs.Common.{◌≡◌, true, sym, ◌∙◌, subst}
-use Rattle.lk_model.specs.Phases.{may_leave}
+use Rattle.lk_model.specs.Linear.Phases.{may_leave}
 use Rattle.exact_pivot.specs.Best.{IsBest}
 use Rattle.exact_pivot.proofs.Leaving.{new_best}
 use Rattle.exact_pivot.proofs.Shapes.{rights_of}

@@ -2,12 +2,12 @@ use Rattle.std.proofs.Common.{◌≡◌, cond, map, take, drop, ◌++◌, [], �
 use Rattle.std.specs.List.{All, remove, insert}
 use Rattle.std.proofs.lemmas.List.{length-map}
 use Rattle.std.proofs.lemmas.Result.{err_from_is_err_and}
-use Rattle.lk_model.specs.Arithmetic.{first_wide}
-use Rattle.lk_model.specs.Pivot.{in_first_phase, turned, cleared, made_to_clear, made_in_pivot, pivoted}
+use Rattle.lk_model.specs.Linear.Arithmetic.{first_wide}
+use Rattle.lk_model.specs.Linear.Pivot.{in_first_phase, turned, cleared, made_to_clear, made_in_pivot, pivoted}
 use Rattle.exact_pivot.specs.Moves.{cleared_row, made_to_clear_all}
 use Rattle.std.proofs.lemmas.Grind.{common_steps}
-use Rattle.lk_model.specs.Rows.{Row, TableauRows, entry, r_of}
-use Rattle.lk_model.specs.Phases.{next, PivotOn}
+use Rattle.lk_model.specs.Linear.Rows.{Row, TableauRows, entry, r_of}
+use Rattle.lk_model.specs.Linear.Phases.{next, PivotOn}
 use Rattle.exact_pivot.specs.Reached.{IsPivot}
 use Rattle.exact_pivot.specs.Shape.{IsTableau}
 use Rattle.exact_pivot.specs.Seen.{rows_of}

@@ -1,6 +1,6 @@
 use Rattle.std.proofs.Common.{ℕ, ◌+◌, ◌≤◌, List, map, length, arith, ◌++◌, subst, sym, ap, ◌∙◌}
 use Rattle.std.specs.List.{All}
-use Rattle.lk_model.specs.Rows.{Row, sign_of}
+use Rattle.lk_model.specs.Linear.Rows.{Row, sign_of}
 use Rattle.lk_model.proofs.Rising.{rising_count}
 use Rattle.exact_pivot.specs.Shape.{IsTableau}
 use Rattle.exact_pivot.specs.Small.{AreSmall, cost_of}

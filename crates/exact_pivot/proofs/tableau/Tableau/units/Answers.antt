@@ -1,5 +1,5 @@
 use Rattle.std.proofs.Common.{sym, ap, ◌∙◌}
-use Rattle.lk_model.specs.Rows.{TableauRows}
+use Rattle.lk_model.specs.Linear.Rows.{TableauRows}
 use Rattle.exact_pivot.proofs.tableau.Tableau.units.Goals as goal
 
 pub returns : goal.returns

@@ -3,7 +3,7 @@ use borrow.Author.Tests.{tests}
 use Rattle.std.proofs.lemmas.Iterator.{YieldsList-from_range}
 use Rattle.std.proofs.lemmas.Iterator.Adapters.{option_map_id}
 use Rattle.std.proofs.lemmas.Iterator.Search.{find_from_yields_List}
-use Rattle.lk_model.specs.Assignment.{assignment_by}
+use Rattle.lk_model.specs.Held.PartialValues.{assignment_by}
 use Rattle.lk_model.proofs.NoneLeft.{is_unsatisfied, autarky_where_none}
 use Rattle.partial_assign.proofs.assignment.Partial.first_unsatisfied_touched.Goals as goal
 

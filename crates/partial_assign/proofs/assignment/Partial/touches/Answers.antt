@@ -1,7 +1,7 @@
 use Rattle.std.proofs.Common.{length, arith}
 use Rattle.std.proofs.iter.Serving.{serving}
 use Rattle.std.proofs.lemmas.List.Sums.{AllPass-from_list_all}
-use Rattle.lk_model.specs.Literal.{is_literal}
+use Rattle.lk_model.specs.Formulas.Literal.{is_literal}
 use Rattle.partial_assign.proofs.assignment.Partial.touches.Goals as goal
 
 -- each literal that is looked at is one of a variable from 1 to n

@@ -1,5 +1,5 @@
 use Rattle.std.proofs.Common.{◌≡◌, true, sym, ◌∙◌, ap, pos, Some}
-use Rattle.lk_model.specs.Literal.{is_literal, complement, rank_of}
+use Rattle.lk_model.specs.Formulas.Literal.{is_literal, complement, rank_of}
 use Rattle.pure_strip.specs.Counted.{count_of, least_lone}
 use Rattle.pure_strip.proofs.LoneLemmas.{Lone-none, Lone-literal, Lone-first_positive, Lone-first_negative, count-at}
 use Rattle.pure_strip.proofs.counts.Counts.least_lone.Goals as goal

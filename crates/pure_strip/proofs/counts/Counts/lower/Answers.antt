@@ -1,7 +1,7 @@
 use Rattle.std.proofs.Common.{◌≡◌, ◌<◌, ℕ, true, false, subst, sym, ◌∙◌, ap, arith, IsTrue}
 use Rattle.std.specs.Ordering.{nat_cmp}
 use Rattle.std.specs.BTreeSet.{Updates}
-use Rattle.lk_model.specs.Literal.{variable, complement, is_literal, rank_of}
+use Rattle.lk_model.specs.Formulas.Literal.{variable, complement, is_literal, rank_of}
 use Rattle.pure_strip.specs.Counted.{Counted, count_of}
 use Rattle.pure_strip.proofs.LoneLemmas.{Lone-out, Lone-in, Lone-stays, count-at, literal-complement}
 use Rattle.pure_strip.proofs.counts.Counts.lower.Goals.{then-left-eq0+then-index-eq0, then-left-eq0+else-index-eq0+in_ok-insert, else-left-eq0}

@@ -1,5 +1,6 @@
 use Rattle.std.proofs.Common.{◌+◌, List, drop, subst, arith, IsSome}
-use Rattle.lk_model.specs.Chain.{Premises, premises_of, after_turns, chain_clause}
+use Rattle.lk_model.specs.Chains.Chain.{Premises, after_turns, chain_clause}
+use Rattle.lk_model.specs.Held.VariableSets.{premises_of}
 use Rattle.lk_model.specs.declared.document.Turn.{Turn}
 use Rattle.refutation_log.specs.SameClause.{IsSameClause}
 use Rattle.refutation_log.proofs.Chains.{chain_begins, turn_next, is_some_clause, turn_goes, turn_taken}

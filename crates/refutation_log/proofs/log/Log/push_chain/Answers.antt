@@ -1,6 +1,7 @@
 use Rattle.std.proofs.Common.{◌≡◌, ◌∙◌, ◌+◌, ◌<◌, ◌-◌, ◌^◌, ◌++◌, ◌∷◌, [], length, Some, IsSome, subst, sym, arith}
 use Rattle.std.proofs.lemmas.List.{length_push}
-use Rattle.lk_model.specs.Chain.{premises_of, chain_clause}
+use Rattle.lk_model.specs.Held.VariableSets.{premises_of}
+use Rattle.lk_model.specs.Chains.Chain.{chain_clause}
 use Rattle.refutation_log.specs.SameClause.{IsSameClause}
 use Rattle.refutation_log.specs.Derivation.{Derivation, IsDerivation, Extends, step_of}
 use Rattle.refutation_log.proofs.Chains.{pushed}

@@ -3,7 +3,7 @@ use Rattle.lk_model.specs.declared.document.Step.{Step}
 use Rattle.refutation_log.specs.Marks.{AreMarks}
 use Rattle.refutation_log.specs.Numbers.{AreNewNumbers}
 use Rattle.lk_model.specs.Lists.{among}
-use Rattle.lk_model.specs.Rounds.{reached}
+use Rattle.lk_model.specs.Chains.Rounds.{reached}
 use Rattle.refutation_log.specs.Derivation.{Derivation}
 use Rattle.refutation_log.specs.Trimmed.{trimmed}
 use Rattle.refutation_log.proofs.Trimming.{trims}

@@ -1,5 +1,5 @@
 use Rattle.std.proofs.Common.{arith}
-use Rattle.lk_model.specs.Chain.{premises_of}
+use Rattle.lk_model.specs.Held.VariableSets.{premises_of}
 use Rattle.refutation_log.proofs.Chains.{position_first}
 use Rattle.refutation_log.proofs.log.Log.work_of.Goals as goal
 

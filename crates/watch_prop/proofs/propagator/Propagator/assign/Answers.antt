@@ -1,10 +1,10 @@
 use Rattle.std.proofs.Common.{◌≡◌, ◌∙◌, ℕ, ◌+◌, ◌≤◌, ◌++◌, ◌∷◌, [], List, None, length, length-append, refl, sym, ap, subst, arith, IsTrue, IsNone, vec_len}
-use Rattle.lk_model.specs.Literal.{variable, is_literal}
+use Rattle.lk_model.specs.Formulas.Literal.{variable, is_literal}
 use Rattle.watch_prop.specs.declared.entry.Entry.{Entry}
 use Rattle.watch_prop.specs.Trail.{Path, entry_of, present_level}
 use Rattle.watch_prop.specs.Propagation.{Propagation, assigned, is_quiet, with_assigned}
-use Rattle.watch_prop.specs.declared.entry.Held.{Held}
-use Rattle.watch_prop.specs.Watching.{Leads, Passes, propagation_of}
+use Rattle.watch_prop.specs.declared.entry.NumberedClause.{NumberedClause}
+use Rattle.watch_prop.specs.States.{Leads, Passes, propagation_of, unseen}
 use Rattle.watch_prop.proofs.Paths.{present_le}
 use Rattle.watch_prop.proofs.Trails.{trail_path}
 use Rattle.watch_prop.proofs.Demands.{may_come_of}
@@ -19,12 +19,12 @@ put-requires c =
     let quiet = subst (λ (q : Propagation). IsTrue (is_quiet (assigned q) q.clauses)) (sym c.self.view_is) c.requires.quiet in
     let lit = subst (λ (q : Propagation). IsTrue (is_literal q.vars c.args.l)) (sym c.self.view_is) c.requires.within in
     let unset = subst (λ (q : Propagation). IsNone (assigned q (variable c.args.l))) (sym c.self.view_is) c.requires.unset in
-    let leads = subst (λ (cs : List Held). Leads cs c.self.inside.trail c.propagate-quiet.new.trail c.self.inside.watching c.propagate-quiet.new.watching) c.deref.ensures.value
+    let leads = subst (λ (cs : List NumberedClause). Leads cs c.self.inside.trail c.propagate-quiet.new.trail c.self.inside.state c.propagate-quiet.new.state) c.deref.ensures.value
     c.propagate-quiet.ensures.leads in
-    let done = subst (λ (cs : List Held). Passes cs c.propagate-quiet.new.trail c.propagate-quiet.result
-    ((c.propagate-quiet.new.watching.checked ≡ length cs) × (c.propagate-quiet.new.watching.head ≡ length c.propagate-quiet.new.trail.entries))) c.deref.ensures.value
+    let done = subst (λ (cs : List NumberedClause). Passes cs c.propagate-quiet.new.trail c.propagate-quiet.result
+    ((unseen c.propagate-quiet.new.state ≡ 0) × (c.propagate-quiet.new.state.head ≡ length c.propagate-quiet.new.trail.entries))) c.deref.ensures.value
     c.propagate-quiet.ensures.done in
-    let r = ready clauses c.self.inside.trail c.propagate-quiet.new.trail c.self.inside.watching c.propagate-quiet.new.watching c.propagate-quiet.result e c.self.invariant
+    let r = ready clauses c.self.inside.trail c.propagate-quiet.new.trail c.self.inside.state c.propagate-quiet.new.state c.propagate-quiet.result e c.self.invariant
     leads done quiet lit (unset_none (entry_of c.self.inside.trail.entries (variable c.args.l)) unset) level refl in
     may_come_of c.propagate-quiet.new.trail.vars clauses c.propagate-quiet.new.trail.entries e r.may
 
@@ -32,15 +32,15 @@ pub push_reserved-requires : goal.push_reserved-requires
 push_reserved-requires c =
     let clauses = c.self.inside.clauses.items in
     let path = c.propagate-quiet.new.trail in
-    let w = c.propagate-quiet.new.watching in
-    let state = (subst (λ (cs : List Held). Leads cs c.self.inside.trail c.propagate-quiet.new.trail c.self.inside.watching c.propagate-quiet.new.watching) c.deref.ensures.value
+    let w = c.propagate-quiet.new.state in
+    let state = (subst (λ (cs : List NumberedClause). Leads cs c.self.inside.trail c.propagate-quiet.new.trail c.self.inside.state c.propagate-quiet.new.state) c.deref.ensures.value
     c.propagate-quiet.ensures.leads).state in
     let e : Entry = record { lit = c.args.l; level = c.level-level.result + 1; reason = None } in
-    let low = present_le path.vars path.entries (trail_path path.vars clauses path.entries state.held.trail) in
+    let low = present_le path.vars path.entries (trail_path path.vars clauses path.entries state.propagation.trail) in
     let room : length (path.entries ++ e ∷ []) ≤ path.vars = subst (λ (p : Path). length p.entries ≤ p.vars) c.put.ensures.value c.put.ensures.room in
     let more = length-append path.entries (e ∷ []) in
     let count : vec_len w.marks ≡ length w.marks.items = w.marks.ok.0 in
-    omega (arith, low, room, more, count, state.watching.marks, state.watching.marks_room)
+    omega (arith, low, room, more, count, state.known.marks, state.known.marks_room)
 
 pub invariant_of-self : goal.invariant_of-self
 invariant_of-self c =
@@ -50,26 +50,27 @@ invariant_of-self c =
     let quiet = subst (λ (q : Propagation). IsTrue (is_quiet (assigned q) q.clauses)) (sym c.self.view_is) c.requires.quiet in
     let lit = subst (λ (q : Propagation). IsTrue (is_literal q.vars c.args.l)) (sym c.self.view_is) c.requires.within in
     let unset = subst (λ (q : Propagation). IsNone (assigned q (variable c.args.l))) (sym c.self.view_is) c.requires.unset in
-    let leads = subst (λ (cs : List Held). Leads cs c.self.inside.trail c.propagate-quiet.new.trail c.self.inside.watching c.propagate-quiet.new.watching) c.deref.ensures.value
+    let leads = subst (λ (cs : List NumberedClause). Leads cs c.self.inside.trail c.propagate-quiet.new.trail c.self.inside.state c.propagate-quiet.new.state) c.deref.ensures.value
     c.propagate-quiet.ensures.leads in
-    let done = subst (λ (cs : List Held). Passes cs c.propagate-quiet.new.trail c.propagate-quiet.result
-    ((c.propagate-quiet.new.watching.checked ≡ length cs) × (c.propagate-quiet.new.watching.head ≡ length c.propagate-quiet.new.trail.entries))) c.deref.ensures.value
+    let done = subst (λ (cs : List NumberedClause). Passes cs c.propagate-quiet.new.trail c.propagate-quiet.result
+    ((unseen c.propagate-quiet.new.state ≡ 0) × (c.propagate-quiet.new.state.head ≡ length c.propagate-quiet.new.trail.entries))) c.deref.ensures.value
     c.propagate-quiet.ensures.done in
-    let r = ready clauses c.self.inside.trail c.propagate-quiet.new.trail c.self.inside.watching c.propagate-quiet.new.watching c.propagate-quiet.result e c.self.invariant
+    let r = ready clauses c.self.inside.trail c.propagate-quiet.new.trail c.self.inside.state c.propagate-quiet.new.state c.propagate-quiet.result e c.self.invariant
     leads done quiet lit (unset_none (entry_of c.self.inside.trail.entries (variable c.args.l)) unset) level refl in
-    let count : c.len.result ≡ length clauses = c.len.ensures ∙ c.self.inside.clauses.ok.0 in
-    opened_state clauses c.propagate-quiet.new.trail c.put.new.self c.propagate-quiet.new.watching _ e
+    let count : c.len.result ≡ length c.propagate-quiet.new.state.waiting.items = c.len.ensures ∙ c.propagate-quiet.new.state.waiting.ok.0 in
+    opened_state clauses c.propagate-quiet.new.trail c.put.new.self c.propagate-quiet.new.state _ e
     (record {
       state = r.state;
-      all_checked = r.checked;
+      all_seen = r.seen;
       all_passed = r.head;
       may = r.may;
       level = level;
       watches = refl;
       lists = refl;
-      checked = refl;
+      waiting = refl;
+      satisfied = refl;
       head = refl;
-      marks = c.push_reserved.ensures.items ∙ ap (λ (n : ℕ). c.propagate-quiet.new.watching.marks.items ++ n ∷ []) count;
+      marks = c.push_reserved.ensures.items ∙ ap (λ (n : ℕ). c.propagate-quiet.new.state.marks.items ++ n ∷ []) count;
       capacity = c.push_reserved.ensures.capacity;
     }) c.put.ensures.value
 
@@ -81,12 +82,12 @@ returns c =
     let quiet = subst (λ (q : Propagation). IsTrue (is_quiet (assigned q) q.clauses)) (sym c.self.view_is) c.requires.quiet in
     let lit = subst (λ (q : Propagation). IsTrue (is_literal q.vars c.args.l)) (sym c.self.view_is) c.requires.within in
     let unset = subst (λ (q : Propagation). IsNone (assigned q (variable c.args.l))) (sym c.self.view_is) c.requires.unset in
-    let leads = subst (λ (cs : List Held). Leads cs c.self.inside.trail c.propagate-quiet.new.trail c.self.inside.watching c.propagate-quiet.new.watching) c.deref.ensures.value
+    let leads = subst (λ (cs : List NumberedClause). Leads cs c.self.inside.trail c.propagate-quiet.new.trail c.self.inside.state c.propagate-quiet.new.state) c.deref.ensures.value
     c.propagate-quiet.ensures.leads in
-    let done = subst (λ (cs : List Held). Passes cs c.propagate-quiet.new.trail c.propagate-quiet.result
-    ((c.propagate-quiet.new.watching.checked ≡ length cs) × (c.propagate-quiet.new.watching.head ≡ length c.propagate-quiet.new.trail.entries))) c.deref.ensures.value
+    let done = subst (λ (cs : List NumberedClause). Passes cs c.propagate-quiet.new.trail c.propagate-quiet.result
+    ((unseen c.propagate-quiet.new.state ≡ 0) × (c.propagate-quiet.new.state.head ≡ length c.propagate-quiet.new.trail.entries))) c.deref.ensures.value
     c.propagate-quiet.ensures.done in
-    let r = ready clauses c.self.inside.trail c.propagate-quiet.new.trail c.self.inside.watching c.propagate-quiet.new.watching c.propagate-quiet.result e c.self.invariant
+    let r = ready clauses c.self.inside.trail c.propagate-quiet.new.trail c.self.inside.state c.propagate-quiet.new.state c.propagate-quiet.result e c.self.invariant
     leads done quiet lit (unset_none (entry_of c.self.inside.trail.entries (variable c.args.l)) unset) level refl in
     let at : ℕ → Path → Propagation = λ n p. propagation_of clauses (record p { entries = p.entries ++ (record { lit = c.args.l; level = n; reason = None }) ∷ [] }) in
     ap (propagation_of clauses) c.put.ensures.value

@@ -11,16 +11,17 @@ use Rattle.watch_prop.proofs.propagator.Propagator.retract.Goals as goal
 
 pub invariant_of-self : goal.invariant_of-self
 invariant_of-self c =
-    let w = c.self.inside.watching in
-    let below : c.args.level < length w.marks.items = omega (arith, c.if-place-len.true, c.len.ensures) in
-    let read = get_or_read w.marks.items c.args.level c.index.result.now below c.index.ensures 0 in
-    returned_state c.self.inside.clauses.items c.self.inside.trail c.retract.new.self w _ c.args.level c.self.invariant
+    let s = c.self.inside.state in
+    let below : c.args.level < length s.marks.items = omega (arith, c.if-place-len.true, c.len.ensures) in
+    let read = get_or_read s.marks.items c.args.level c.index.result.now below c.index.ensures 0 in
+    returned_state c.self.inside.clauses.items c.self.inside.trail c.retract.new.self s _ c.args.level c.self.invariant
     (record {
       below = below;
       path_is = c.retract.ensures;
       watches = refl;
       lists = refl;
-      checked = read;
+      waiting = refl;
+      satisfied = read;
       head = c.len-self-inside.ensures.value ∙ ap (λ (p : Path). length p.entries) c.retract.ensures;
       marks = c.truncate.ensures.items;
       capacity = c.truncate.ensures.capacity;
@@ -29,8 +30,8 @@ invariant_of-self c =
 pub returns-else-place-len : goal.returns-else-place-len
 returns-else-place-len c =
     let p = propagator_seen c.self.inside in
-    let w = c.self.inside.watching in
-    let long : length w.marks.items ≡ vec_len w.marks = sym w.marks.ok.0 in
-    let le : present_level p.trail ≤ c.args.level = omega (arith, c.if-place-len.false, c.len.ensures, long, c.self.invariant.watching.marks) in
-    let back : up_to_level c.args.level p.trail ≡ p.trail = back_there p.vars p.trail c.args.level (trail_path p.vars p.clauses p.trail c.self.invariant.held.trail) le in
+    let s = c.self.inside.state in
+    let long : length s.marks.items ≡ vec_len s.marks = sym s.marks.ok.0 in
+    let le : present_level p.trail ≤ c.args.level = omega (arith, c.if-place-len.false, c.len.ensures, long, c.self.invariant.known.marks) in
+    let back : up_to_level c.args.level p.trail ≡ p.trail = back_there p.vars p.trail c.args.level (trail_path p.vars p.clauses p.trail c.self.invariant.propagation.trail) le in
     sym c.self.view_is ∙ ap (λ (t : List Entry). record p { trail = t }) (sym back) ∙ ap (λ (q : Propagation). back_at q c.args.level) c.self.view_is

@@ -1,5 +1,5 @@
 use Rattle.std.proofs.Common.{◌≡◌, ◌∙◌, true, ◌-◌, ◌<◌, ◌++◌, ◌∷◌, [], List, Some, None, length, length-set, length-append, refl, ℕ, get_or, set, ap, subst, sym, arith, IsTrue}
-use Rattle.lk_model.specs.Literal.{variable}
+use Rattle.lk_model.specs.Formulas.Literal.{variable}
 use Rattle.watch_prop.specs.declared.entry.Entry.{Entry}
 use Rattle.watch_prop.specs.KeptTrail.{seen}
 use Rattle.watch_prop.specs.Trail.{Path, may_come, literals_of, entry_of, is_path}

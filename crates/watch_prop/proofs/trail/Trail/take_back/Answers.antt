@@ -1,5 +1,5 @@
 use Rattle.std.proofs.Common.{◌≡◌, ◌∙◌, ℕ, true, ◌+◌, ◌-◌, ◌<◌, ◌++◌, ◌∷◌, [], List, Some, None, length, length-set, length-append, take, get_or, set, sum_by, ap, subst, sym, arith}
-use Rattle.lk_model.specs.Literal.{variable}
+use Rattle.lk_model.specs.Formulas.Literal.{variable}
 use Rattle.watch_prop.specs.declared.entry.Entry.{Entry}
 use Rattle.watch_prop.specs.KeptTrail.{seen, unset_one}
 use Rattle.watch_prop.specs.Trail.{Path, literals_of, entry_of, is_path}

@@ -1,5 +1,0 @@
-use Rattle.std.proofs.Common.{length}
-use Rattle.bipartite_match.proofs.tests.+ascend.Given as goal
-
-abbrev pub decreases-ascend : goal.decreases-ascend
-decreases-ascend l = length l.part.now

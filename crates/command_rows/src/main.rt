@@ -1,0 +1,45 @@
+//! Runs the commands over texts in memory, as a script on standard input says, and prints what each run
+//! answers and writes. A line of the script is one of these; `#` begins a remark.
+//!
+//! - `new`: no text is there, nothing fails, and bytes move in chunks of 8 and 16.
+//! - `text NAME TEXT`: the text stands under that name. `\n` ends a line of it, `\r` is a return
+//!   character.
+//! - `shelf`, `out` or `say`, and then `chunk N`, how many bytes move at a time; `room N`, how many a sink
+//!   takes; or `fails N..`, the numbers of the calls that fail.
+//! - `run WORDS`: the commands run with these words.
+//! - `keep NAME`: what the last run wrote stands under that name.
+//! - `verdict WORDS`: the line that tells this verdict.
+#![tactic(auto)]
+
+mod outside;
+mod runs;
+mod script;
+mod verdicts;
+
+use crate::runs::print_run;
+use crate::script::Script;
+use crate::verdicts::print_verdict;
+use std::test::Fail;
+use std::thread::Threads;
+
+/// Does what a line of the script says.
+fn take<R: Threads + Sync + AllocGlobal + Print>(
+    rt: &R,
+    script: &mut Script,
+    line: &str,
+) -> Result<(), Fail> {
+    let (word, rest) = line.split_once(" ").unwrap_or((line, ""));
+    match word {
+        "run" => print_run(rt, script, rest),
+        "verdict" => print_verdict(rt, rest),
+        _ => script.take(rt.alloc(), word, rest),
+    }
+}
+
+fn main(rt: HostRuntime) -> Result<(), Fail> {
+    let mut script = Script::new(rt.alloc());
+    for line in rt.lines(rt.alloc()) {
+        take(&rt, &mut script, line?.as_str())?;
+    }
+    Ok(())
+}

@@ -1,0 +1,5 @@
+-- The class matching.
+pub mod MatchingLaws
+pub mod SetLines
+pub mod MatchingResults
+pub mod MatchingReductions

@@ -1,0 +1,2 @@
+-- The class linear.
+pub mod LinearLaw

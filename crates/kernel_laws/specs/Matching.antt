@@ -1,0 +1,3 @@
+-- The class matching.
+pub mod MatchingLaw
+pub mod MatchingResults

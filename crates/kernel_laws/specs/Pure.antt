@@ -1,0 +1,3 @@
+-- The class pure.
+pub mod PureLaw
+pub mod PureResults

@@ -1,0 +1,11 @@
+//! Laws over the definitions alone: what the checks of a document show, that a reduction follows from
+//! it, what the reducers find, and how all of this is under protected variables.
+#![tactic(auto)]
+
+mod laws;
+
+pub use laws::{
+    accepted_law, autarky_law, check_law, count_law, empty_law, found_law, general_law,
+    general_result_law, grow_law, join_law, linear_law, matching_law, matching_result_law,
+    model_law, one_kernel, open_result_law, part_law, pure_law, pure_result_law, run_law,
+};

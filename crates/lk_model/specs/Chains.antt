@@ -1,0 +1,3 @@
+-- Resolution chains, and rounds of refutations.
+pub mod Chain
+pub mod Rounds

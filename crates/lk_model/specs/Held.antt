@@ -1,0 +1,5 @@
+-- How the code holds formulas, clauses, sets of variables and assignments. No part of the mathematics.
+pub mod Flat
+pub mod Growing
+pub mod VariableSets
+pub mod PartialValues

@@ -1,0 +1,59 @@
+use Rattle.std.proofs.Common.{◌≡◌, ◌∙◌, ◌<◌, List, length, get_or, refl, ap, arith, ℤ, pos}
+use Rattle.watch_prop.specs.declared.entry.NumberedClause.{NumberedClause}
+use Rattle.watch_prop.specs.declared.state.Settled.TheVariants.{Stays, Moves}
+use Rattle.watch_prop.proofs.Passing.{passing_start, passing_stays, passing_moves, passing_end, picked, settled_once, conflict_named}
+use Rattle.watch_prop.proofs.States.{leads_then}
+use Rattle.watch_prop.proofs.Paths.{length-literals}
+use Rattle.std.proofs.lemmas.List.{get_or_read}
+use Rattle.lk_model.specs.Formulas.Literal.{complement}
+use Rattle.watch_prop.proofs.state.pass_on.Goals as goal
+
+pub watchers-init : goal.watchers-init
+watchers-init c =
+    let lits = c.lits.result.now in
+    let head = c.args.state.now.head in
+    let long : length lits ≡ length c.args.trail.now.entries = ap length c.lits.ensures.value ∙ length-literals c.args.trail.now.entries in
+    let within : head < length lits = omega (arith, long, c.requires.more) in
+    let read = get_or_read lits head c.index-lits-state.result within c.index-lits-state.is (pos 0) ∙ ap (λ (ls : List ℤ). get_or ls head (pos 0)) c.lits.ensures.value in
+    passing_start c.args.clauses.now c.args.trail.now c.args.state.now c.negated-l.result c.requires.state c.requires.more (c.negated-l.ensures ∙ ap complement read)
+
+pub settle-requires-clause-place : goal.settle-requires-clause-place
+settle-requires-clause-place c =
+    (picked c.args.clauses.now c.args.trail.now c.watchers.trail c.args.state.now c.watchers.state c.negated-l.result c.watchers.at c.of.result.now c.of-in-watchers.result.now
+    c.watchers.invariant c.of.ensures c.of-in-watchers.ensures c.watchers-test.true).in_clauses
+
+pub watchers-preserved-in-Stays : goal.watchers-preserved-in-Stays
+watchers-preserved-in-Stays c =
+    let p = picked c.args.clauses.now c.args.trail.now c.watchers.trail c.args.state.now c.watchers.state c.negated-l.result c.watchers.at c.of.result.now c.of-in-watchers.result.now
+    c.watchers.invariant c.of.ensures c.of-in-watchers.ensures c.watchers-test.true in
+    passing_stays c.args.clauses.now c.args.trail.now c.watchers.trail c.settle.new.trail c.args.state.now c.watchers.state c.settle.new.state _ c.negated-l.result c.watchers.at
+    (settled_once _ _ _ _ _ _ _ _ _ _ Stays c.watchers.invariant p c.in-Stays.ensures.leads c.in-Stays.ensures.settles)
+
+pub watchers-preserved : goal.watchers-preserved
+watchers-preserved c =
+    let p = picked c.args.clauses.now c.args.trail.now c.watchers.trail c.args.state.now c.watchers.state c.negated-l.result c.watchers.at c.of.result.now c.of-in-watchers.result.now
+    c.watchers.invariant c.of.ensures c.of-in-watchers.ensures c.watchers-test.true in
+    passing_moves c.args.clauses.now c.args.trail.now c.watchers.trail c.settle.new.trail c.args.state.now c.watchers.state c.settle.new.state _ c.negated-l.result c.watchers.at
+    (settled_once _ _ _ _ _ _ _ _ _ _ Moves c.watchers.invariant p c.in-Moves.ensures.leads c.in-Moves.ensures.settles)
+
+pub returns-clause-leads : goal.returns-clause-leads
+returns-clause-leads c =
+    passing_end c.args.clauses.now c.args.trail.now c.watchers.trail c.args.state.now c.watchers.state c.negated-l.result c.watchers.at c.watchers.invariant
+    (omega (arith, c.watchers-test.false, ap length c.of.ensures))
+
+pub clause_at-requires : goal.clause_at-requires
+clause_at-requires c =
+    (picked c.args.clauses.now c.args.trail.now c.watchers.trail c.args.state.now c.watchers.state c.negated-l.result c.watchers.at c.of.result.now c.of-in-watchers.result.now
+    c.watchers.invariant c.of.ensures c.of-in-watchers.ensures c.watchers-test.true).in_clauses
+
+pub returns-in-IsFalse-clause-leads : goal.returns-in-IsFalse-clause-leads
+returns-in-IsFalse-clause-leads c =
+    leads_then c.args.clauses.now c.args.trail.now c.watchers.trail c.settle.new.trail c.args.state.now c.watchers.state c.settle.new.state
+    c.watchers.invariant.leads c.in-IsFalse.ensures.leads
+
+pub returns-in-IsFalse-clause-done : goal.returns-in-IsFalse-clause-done
+returns-in-IsFalse-clause-done c =
+    let p = picked c.args.clauses.now c.args.trail.now c.watchers.trail c.args.state.now c.watchers.state c.negated-l.result c.watchers.at c.of.result.now c.of-in-watchers.result.now
+    c.watchers.invariant c.of.ensures c.of-in-watchers.ensures c.watchers-test.true in
+    conflict_named c.args.clauses.now c.settle.new.trail c.settle.new.state _ c.clause_at.result.now.number c.in-IsFalse.ensures.leads.state p.in_clauses (ap (λ (h : NumberedClause). h.number) c.clause_at.ensures)
+    c.in-IsFalse.ensures.settles.settled

@@ -1,0 +1,132 @@
+//! The watchers of a literal: the clauses that watch it.
+ghost use Rattle.std.specs.Prelude.{◌≡◌, ◌≢◌, ℕ, ◌+◌, ◌*◌, ◌^◌, ◌<◌, ◌≤◌, [], length, replicate, slice_index_or, nat_lt, ℤ, Vec, vec_capacity, IfOk, OnOk, OnErr, IsTrue};
+ghost use Rattle.std.specs.List.{list_all};
+ghost use Rattle.lk_model.specs.Formulas.Literal.{contains, is_distinct, rank_of};
+ghost use Rattle.watch_prop.specs.Watchers.{watchers, count_of, with_watcher, with_counted};
+ghost use Rattle.watch_prop.specs.Linked.{moved};
+ghost use Rattle.watch_prop.specs.KeptWatchers.{items_of, HasRoom};
+
+use lk_model::{Lit, OutOfMemory};
+use std::alloc::Global;
+use std::marker::Model;
+
+/// For each literal, at its rank, the places of the clauses that watch it, and how many clauses have it. So
+/// many may come to watch it, and for so many there is room.
+#[derive(Drop)]
+pub(crate) struct WatcherLists {
+    lists: Vec<Vec<usize>>,
+    counts: Vec<usize>,
+}
+
+impl Model for WatcherLists {
+    ghost use Rattle.watch_prop.specs.Watchers.{Watchers};
+
+    ghost Value = { Watchers };
+
+    ghost use Rattle.watch_prop.specs.KeptWatchers.{watchers_seen, HaveRoom};
+
+    ghost view = { watchers_seen };
+
+    ghost invariant = { HaveRoom };
+}
+
+impl WatcherLists {
+    /// Those without a clause, over the variables from 1 to n.
+    pub fn new(alloc: Global, n: u32) -> Result<WatcherLists, OutOfMemory>
+        requires { n ≤ 1000000 }
+        ensures lists { IfOk result (λ w. w.lists ≡ replicate (2 * n + 2) []) }
+        ensures counts { IfOk result (λ w. w.counts ≡ replicate (2 * n + 2) 0) }
+    {
+        let ranks = 2 * n as usize + 2;
+        Ok(WatcherLists {
+            lists: empty_lists(alloc, ranks)?,
+            counts: vec![in alloc; 0; ranks]?,
+        })
+    }
+
+    /// The watchers of a literal.
+    pub fn of(&self, l: Lit) -> &[usize]
+        requires { rank_of l < length self.now.lists }
+        ensures { result.now ≡ watchers self.now.lists l }
+    {
+        self.lists[l.rank()].as_slice()
+    }
+
+    /// Counts one clause more, which has these literals, and makes room for it. Without memory for that all stays as
+    /// it is.
+    pub fn count(&mut self, lits: &[Lit]) -> Result<(), OutOfMemory>
+        requires ranks { IsTrue (list_all (λ l. nat_lt (rank_of l) (length self.old.lists)) lits.now) }
+        requires distinct { IsTrue (is_distinct lits.now) }
+        ensures lists { self.new.lists ≡ self.old.lists }
+        ensures counts { OnOk result (self.new.counts ≡ with_counted self.old.counts lits.now) }
+        ensures err { OnErr result (self.new ≡ self.old) }
+    {
+        make_room(&mut self.lists, &self.counts, lits)?;
+        count_literals(&mut self.counts, lits);
+        Ok(())
+    }
+
+    /// Puts a clause at the end of a literal's list.
+    pub fn push(&mut self, l: Lit, place: usize)
+        requires rank { rank_of l < length self.old.lists }
+        requires room { length (watchers self.old.lists l) < count_of self.old.counts l }
+        ensures lists { self.new.lists ≡ with_watcher self.old.lists l place }
+        ensures counts { self.new.counts ≡ self.old.counts }
+    {
+        self.lists[l.rank()].push_reserved(place);
+    }
+
+    /// Moves the clause that stands at a place of one literal's list to that of another literal.
+    pub fn shift(&mut self, l: Lit, at: usize, to: Lit)
+        requires from { rank_of l < length self.old.lists }
+        requires to { rank_of to < length self.old.lists }
+        requires apart { l ≢ to }
+        requires within { at < length (watchers self.old.lists l) }
+        requires room { length (watchers self.old.lists to) < count_of self.old.counts to }
+        ensures lists { self.new.lists ≡ moved self.old.lists l at to }
+        ensures counts { self.new.counts ≡ self.old.counts }
+    {
+        let place = self.lists[l.rank()].swap_remove(at);
+        self.lists[to.rank()].push_reserved(place);
+    }
+}
+
+// So many lists without a clause.
+fn empty_lists(alloc: Global, count: usize) -> Result<Vec<Vec<usize>>, OutOfMemory>
+    ensures { IfOk result (λ v. items_of v.items ≡ replicate count []) }
+{
+    let mut lists = Vec::with_capacity(alloc, count)?;
+    for _ in 0..count {
+        lists.push(Vec::new(alloc))?;
+    }
+    Ok(lists)
+}
+
+// Makes room for one clause more that has these literals.
+fn make_room(lists: &mut [Vec<usize>], counts: &[usize], lits: &[Lit]) -> Result<(), OutOfMemory>
+    requires same { length lists.old ≡ length counts.now }
+    requires ranks { IsTrue (list_all (λ l. nat_lt (rank_of l) (length lists.old)) lits.now) }
+    requires room { (r : ℕ) (d : Vec ℕ Global) → r < length lists.old → HasRoom (slice_index_or lists.old r d) (slice_index_or counts.now r 0) }
+    ensures items { items_of lists.new ≡ items_of lists.old }
+    ensures room { (r : ℕ) (d : Vec ℕ Global) → r < length lists.old → HasRoom (slice_index_or lists.new r d) (slice_index_or counts.now r 0) }
+    ensures more { OnOk result ((l : ℤ) (d : Vec ℕ Global) → IsTrue (contains lits.now l) → count_of counts.now l < vec_capacity (slice_index_or lists.new (rank_of l) d)) }
+{
+    for l in lits {
+        let rank = l.rank();
+        let more = counts[rank] - lists[rank].len() + 1;
+        lists[rank].reserve(more)?;
+    }
+    Ok(())
+}
+
+// Counts one clause more that has these literals.
+fn count_literals(counts: &mut [usize], lits: &[Lit])
+    requires ranks { IsTrue (list_all (λ l. nat_lt (rank_of l) (length counts.old)) lits.now) }
+    requires distinct { IsTrue (is_distinct lits.now) }
+    requires small { (l : ℤ) → IsTrue (contains lits.now l) → count_of counts.old l < 2 ^ 63 }
+    ensures { counts.new ≡ with_counted counts.old lits.now }
+{
+    for l in lits {
+        counts[l.rank()] += 1;
+    }
+}
