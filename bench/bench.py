@@ -7,9 +7,15 @@ reads and writes the formula. And its check of the document that it wrote, besid
 LEANK is the built program (crates/leank/out holds it after `bin/leank` ran once). Needs Debian's
 packages python3, cadical and minisat. Prints wall seconds, peak memory and ratios as measured;
 nothing fails by time.
+
+The system counts to a child's peak what its parent had held when the child began. So the formulas
+are written by processes of their own, and this one stays small: its own peak is printed, and no
+figure can be below it.
 """
+import multiprocessing
 import os
 import random
+import resource
 import subprocess
 import sys
 import tempfile
@@ -55,6 +61,26 @@ def near_limits(out):
 KINDS = {"random": random_three, "chain": chain, "two": two_clauses, "limits": near_limits}
 
 
+def write_formula(kind, name):
+    """Writes a formula into a file."""
+    with open(name, "w") as file:
+        KINDS[kind](file)
+
+
+def write_apart(kind, name):
+    """Writes a formula into a file, by a process of its own."""
+    writer = multiprocessing.Process(target=write_formula, args=(kind, name))
+    writer.start()
+    writer.join()
+    if writer.exitcode != 0:
+        sys.exit(f"{kind}: not written")
+
+
+def own_peak():
+    """The peak memory of this process in MB."""
+    return resource.getrusage(resource.RUSAGE_SELF).ru_maxrss / 1024
+
+
 def measure(words, output):
     """Wall seconds, peak memory in MB and the status of a command that writes to a file."""
     begin = time.monotonic()
@@ -71,8 +97,9 @@ def main():
     leank, kinds = sys.argv[1], sys.argv[2:] or list(KINDS)
     print(f"processors {os.cpu_count()}")
     for kind in kinds:
-        with tempfile.NamedTemporaryFile("w", suffix=".cnf", delete=False) as file:
-            KINDS[kind](file)
+        with tempfile.NamedTemporaryFile(suffix=".cnf", delete=False) as file:
+            pass
+        write_apart(kind, file.name)
         document = file.name + ".reduced"
         commands = {
             "leank reduce": ([leank, "reduce", "pure", file.name], document),
@@ -88,6 +115,7 @@ def main():
             print(f"  {name:18} {seconds:7.2f} s {megabytes:7.0f} MB  status {status}  reduce/this {own / seconds:.2f}")
         os.unlink(document)
         os.unlink(file.name)
+    print(f"peak of this process {own_peak():.0f} MB")
 
 
 if __name__ == "__main__":

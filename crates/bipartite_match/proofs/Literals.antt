@@ -6,8 +6,9 @@ use Rattle.lk_model.specs.Formulas.Literal.{variable, mentions}
 use Rattle.lk_model.specs.Formulas.Formula.{Cnf, clause_at, IsWithinLimits}
 use Rattle.lk_model.specs.Formulas.Lean.{are_positions}
 use Rattle.lk_model.proofs.Booleans.{or_true, or_left, or_right}
+use Rattle.lk_model.proofs.Rising.{rising_bounds}
 use Rattle.bipartite_match.specs.Matchings.{joins}
-use Rattle.bipartite_match.proofs.Numbers.{rising_at, rising_length}
+use Rattle.bipartite_match.proofs.Numbers.{rising_length}
 
 -- an element that is read with itself as its default
 pub literal_at : (xs : List ℤ) (k : ℕ) (x : ℤ) → k < length xs → x ≡ get_or xs k x → x ≡ get_or xs k (pos 0)
@@ -18,7 +19,7 @@ small_part F part r w = let a = rising_length 0 (length F.clauses) part (omega a
 
 -- the part's position at an index
 pub position_in : (F : Cnf) (part : List ℕ) (i : ℕ) → IsTrue (are_positions F part) → i < length part → (0 < get_or part i 0) × (get_or part i 0 ≤ length F.clauses)
-position_in F part i r h = rising_at 0 (length F.clauses) part i r h
+position_in F part i r h = rising_bounds 0 (length F.clauses) part i r h
 
 mentions_at : (c : List ℤ) (k : ℕ) → k < length c → mentions c (variable (get_or c k (pos 0))) ≡ true
 mentions_at [] k h = absurd (omega (arith, h))

@@ -1,4 +1,13 @@
 //! Maximum matchings.
+//!
+//! In rounds: a search by layers, from all clauses that have no variable, finds walks that end at a free variable, and
+//! turning the pairs of such a walk makes one pair more (Hopcroft and Karp, "An n^(5/2) Algorithm for Maximum
+//! Matchings in Bipartite Graphs", 1973). Where no walk ends so, no matching has more pairs (Berge 1957).
+//!
+//! Here the search stops at the first free variable, and the walk that it found is turned as it stands, so each round
+//! adds a pair and the rounds end. Further walks of the round are led in depth along the layers that the search left
+//! (`paths`). The last layer may then be known in part only, and a round may turn fewer walks than theirs: nothing is
+//! claimed of how many rounds there are.
 ghost use Rattle.std.specs.Prelude.{◌≡◌, ◌≤◌, ℕ, length, slice_index, map, IfOk, IsTrue};
 ghost use Rattle.lk_model.specs.Formulas.Lean.{are_positions};
 ghost use Rattle.bipartite_match.specs.Matchings.{IsMaximum};

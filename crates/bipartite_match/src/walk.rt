@@ -1,4 +1,12 @@
 //! What alternating walks reach.
+//!
+//! From the clauses that a maximum matching leaves without a variable, a walk goes to any variable of a clause, and
+//! from there to the clause that has this variable. What such walks reach is one of the parts into which maximum
+//! matchings divide a bipartite graph (Dulmage and Mendelsohn, "Coverings of Bipartite Graphs", 1958): the part with
+//! more clauses than variables.
+//!
+//! Here each variable that is reached is given an escape and a rank besides, so that who reads the result can see
+//! without a search that its clauses are lean for matching autarkies.
 ghost use Rattle.std.specs.Prelude.{◌≡◌, ◌≢◌, ◌+◌, ◌-◌, ◌≤◌, ℕ, length, slice_index, map, IfOk, IsTrue};
 ghost use Rattle.lk_model.specs.Formulas.Lean.{are_positions};
 ghost use Rattle.bipartite_match.specs.Matchings.{IsMaximum};
@@ -12,8 +20,8 @@ use lk_model::{Formula, List, OutOfMemory};
 use std::alloc::Global;
 
 /// What alternating walks from the unmatched clauses of a part reach: the positions, ascending, and for each variable of
-/// their clauses the position that reached it and its rank, which is less for the variable before it on its walk. Other
-/// variables have 0.
+/// their clauses an escape, which is a kept position whose clause has the variable, and a rank, which is less for the
+/// variable that is matched with the escape. Other variables have 0.
 #[derive(Drop)]
 pub struct Reached {
     pub kept: List<u32>,

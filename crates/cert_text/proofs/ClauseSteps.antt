@@ -1,30 +1,19 @@
 -- One clause line more.
 use Rattle.std.proofs.Common.{◌≡◌, ◌+◌, ◌<◌, ◌≤◌, ◌∙◌, Bool, true, false, List, [], length, refl, sym, ap, subst, arith, ℤ, Some, None, ◌⊎◌, inl, inr}
-use Rattle.std.specs.Prelude.{nat_le}
-use Rattle.std.proofs.lemmas.Bool.{leb-true}
 use Rattle.lk_model.specs.Texts.Lines.{Word}
-use Rattle.lk_model.specs.Limits.{max_vars, max_clauses}
 use Rattle.lk_model.specs.Formulas.Formula.{Cnf, literal_count, with_clause}
 use Rattle.lk_model.specs.Held.Growing.{Growing}
-use Rattle.lk_model.proofs.Booleans.{and_true}
 use Rattle.lk_model.proofs.Rising.{rising_count}
 use Rattle.cert_text.specs.Drafts.{IsDraft, NextClause}
 use Rattle.cert_text.specs.Taking.{IsReady}
 use Rattle.cert_text.specs.FieldLists.{clause_from, IsClauseOf}
 use Rattle.cert_text.specs.declared.draft.Draft.{Draft}
 use Rattle.cert_text.proofs.ListForms.{clause_form, clause_back}
+use Rattle.cert_text.proofs.DraftForms.{vars_limit, clauses_limit}
 
--- a draft has few variables
-pub few_vars : (d : Draft) → IsDraft d → d.vars ≤ 1000000
-few_vars d h = leb-true d.vars max_vars (and_true (nat_le d.vars max_vars) (nat_le d.clauses max_clauses) h.size).0
-
--- and few clauses
-pub few_clauses : (d : Draft) → IsDraft d → d.clauses ≤ 4000000
-few_clauses d h = leb-true d.clauses max_clauses (and_true (nat_le d.vars max_vars) (nat_le d.clauses max_clauses) h.size).1
-
--- and few of them are kept
+-- a draft keeps few clauses
 pub few_kept : (d : Draft) → IsDraft d → length d.kept ≤ 4000000
-few_kept d h = omega (arith, rising_count 0 d.clauses d.kept h.kept (omega arith), few_clauses d h)
+few_kept d h = omega (arith, rising_count 0 d.clauses d.kept h.kept (omega arith), clauses_limit d h)
 
 -- what was read into a clause without a literal is what the words give
 pub read_some : (d : Draft) (growing : Growing) (words : List Word) (is : Bool) (clause : List ℤ) → IsReady d growing → IsClauseOf (clause_from growing.vars [] words) is clause → is ≡ true
@@ -39,7 +28,7 @@ read_none d growing words is clause ready read is-read =
 
 -- the clause of a next draft is the one that the words give
 next_clause : (d next : Draft) (words : List Word) → IsDraft d → (s : NextClause d words next) → clause_from d.vars [] words ≡ Some s.clause
-next_clause d next words h s = ap (clause_from d.vars []) s.line ∙ clause_back d.vars [] s.clause (few_vars d h) s.form
+next_clause d next words h s = ap (clause_from d.vars []) s.line ∙ clause_back d.vars [] s.clause (vars_limit d h) s.form
 
 -- where the words give no clause there is no next draft
 pub no_clause : (d next : Draft) (words : List Word) → IsDraft d → clause_from d.vars [] words ≡ None → NextClause d words next → ⊥

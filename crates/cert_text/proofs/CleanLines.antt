@@ -23,8 +23,8 @@ use Rattle.cert_text.specs.Drafts.{IsDraft, lines_read, front_lines, size_line, 
 use Rattle.cert_text.specs.declared.draft.Draft.{Draft}
 use Rattle.cert_text.proofs.NumberTexts.{spelling}
 use Rattle.cert_text.proofs.WholeDrafts.{back_lines, whole_of, lines_of_whole, filled, filled_form, filled_lines}
-use Rattle.cert_text.proofs.Followers.{vars_limit, clauses_limit}
 use Rattle.cert_text.proofs.CleanWords.{is_clean, is_clean_line, are_clean}
+use Rattle.cert_text.proofs.DraftForms.{vars_limit, clauses_limit}
 
 -- NUMBERS
 

@@ -1,6 +1,7 @@
 -- Drafts that the next line leads to are in form, and their lines.
-use Rattle.std.proofs.Common.{◌≡◌, ◌≢◌, ℕ, ◌∙◌, List, [], ◌∷◌, ◌++◌, map, length, refl, sym, ap, subst, arith, ℤ, append_assoc, length-append, inl, inr}
-use Rattle.std.specs.Prelude.{IsTrue, ⊤}
+use Rattle.std.proofs.Common.{◌≡◌, ◌≢◌, ℕ, ◌≤◌, ◌∙◌, List, [], ◌∷◌, ◌++◌, map, length, refl, sym, ap, subst, arith, ℤ, append_assoc, length-append, inl, inr}
+use Rattle.std.specs.Prelude.{IsTrue, ⊤, nat_le}
+use Rattle.std.proofs.lemmas.Bool.{leb-true}
 use Rattle.std.proofs.lemmas.List.{map-append}
 use Rattle.std.proofs.lemmas.List.Sums.{sum_by_push}
 use Rattle.std.proofs.lemmas.List.Folds.{list_all-append}
@@ -11,12 +12,21 @@ use Rattle.lk_model.specs.Texts.PlainText.{literal_words}
 use Rattle.lk_model.specs.Documents.Text.{pair_line}
 use Rattle.lk_model.specs.Documents.Form.{is_pair}
 use Rattle.lk_model.proofs.Cuts.{formula_push}
+use Rattle.lk_model.specs.Limits.{max_vars, max_clauses}
+use Rattle.lk_model.proofs.Booleans.{and_true}
 use Rattle.cert_text.specs.Drafts.{IsDraft, IsNext, IsNextAt, NextSizes, NextKeep, NextSet, NextOrder, NextPair, NextProblem, NextClause, lines_read, lines_before, format_line, size_line, keep_line, set_line, front_lines, problem_line}
 use Rattle.cert_text.specs.declared.draft.Draft.{Draft}
 use Rattle.cert_text.specs.declared.draft.LineDue.{LineDue}
 use Rattle.cert_text.specs.declared.draft.LineDue.TheVariants.{Format, Sizes, Keep, Set, Order, Pairs, Clauses}
 
 -- IN FORM
+
+-- a draft is within the limits
+pub vars_limit : (d : Draft) → IsDraft d → d.vars ≤ 1000000
+vars_limit d h = leb-true d.vars max_vars (and_true (nat_le d.vars max_vars) (nat_le d.clauses max_clauses) h.size).0
+
+pub clauses_limit : (d : Draft) → IsDraft d → d.clauses ≤ 4000000
+clauses_limit d h = leb-true d.clauses max_clauses (and_true (nat_le d.vars max_vars) (nat_le d.clauses max_clauses) h.size).1
 
 -- before the clause lines there are none
 none_yet : (d : Draft) (s : LineDue) → IsDraft d → d.due ≡ s → s ≢ Clauses → d.texts.clauses ≡ []

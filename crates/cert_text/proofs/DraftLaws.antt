@@ -1,22 +1,17 @@
 -- Drafts and the documents that go on from them.
-use Rattle.std.proofs.Common.{◌≡◌, List, [], ◌∷◌, ◌++◌, ◌∙◌, refl, sym}
+use Rattle.std.proofs.Common.{◌≡◌, List, ◌∷◌, ◌++◌, ◌∙◌, refl, sym}
 use Rattle.std.specs.Prelude.{IsTrue}
 use Rattle.std.proofs.lemmas.List.{append-nil}
 use Rattle.lk_model.specs.Texts.Lines.{Word}
-use Rattle.lk_model.specs.Documents.Form.{is_in_form, is_done_in_form}
+use Rattle.lk_model.specs.Documents.Form.{is_in_form}
 use Rattle.lk_model.specs.Documents.Text.{document_lines}
 use Rattle.lk_model.specs.declared.document.Document.{Document}
 use Rattle.lk_model.specs.declared.document.Document.TheVariants.{Done}
 use Rattle.cert_text.specs.Built.{IsBuilt}
 use Rattle.cert_text.specs.Drafts.{IsDraft, IsNext, IsWhole, lines_read, document_of}
 use Rattle.cert_text.specs.declared.draft.Draft.{Draft}
-use Rattle.cert_text.proofs.DraftForms.{lines_more}
-use Rattle.cert_text.proofs.WholeDrafts.{document_all, lines_whole, form_whole, whole_of, lines_of_whole, filled, filled_form, filled_whole, filled_lines}
+use Rattle.cert_text.proofs.WholeDrafts.{document_all, form_whole, whole_of, lines_of_whole, filled, filled_form, filled_whole, filled_lines}
 use Rattle.cert_text.proofs.Followers.{next_at, whole_at}
-
--- the line that leads to the next draft is the one more that was read
-pub next_lines : (d next : Draft) (words : List Word) → IsDraft d → IsNext d words next → lines_read next ≡ lines_read d ++ words ∷ []
-next_lines d next words h n = lines_more d next words h n
 
 -- some document in form goes on from each draft
 pub record GoesOnFrom (d : Draft) : Type 0 where
@@ -52,10 +47,3 @@ ends_whole d document h b f e =
     let w = whole_of document b f in
     let end = whole_at d.due w.draft d w.form w.whole h (sym (lines_of_whole document w) ∙ e ∙ sym (append-nil (lines_read d))) in
     record { last = end.0; count = end.1 }
-
--- a whole draft is a document
-pub whole_lines : (d : Draft) → IsDraft d → IsWhole d → document_lines (Done (document_of d)) ≡ lines_read d
-whole_lines d h w = lines_whole d h w
-
-pub whole_form : (d : Draft) → IsDraft d → IsWhole d → IsTrue (is_done_in_form (document_of d))
-whole_form d h w = form_whole d h w

@@ -1,22 +1,11 @@
 -- Words of a line between its spaces.
-use Rattle.std.proofs.Common.{◌≡◌, ℕ, zero, suc, ◌+◌, ◌-◌, ◌<◌, ◌∙◌, Bool, true, false, not, ◌==◌, List, [], ◌∷◌, ◌++◌, length, take, drop, get_or, refl, sym, ap, arith, length-drop}
-use Rattle.std.specs.List.{list_all, All}
-use Rattle.std.proofs.lemmas.List.{take-append-drop, take_all}
+use Rattle.std.proofs.Common.{◌≡◌, ℕ, suc, ◌+◌, ◌-◌, ◌<◌, ◌∙◌, true, ◌==◌, List, [], ◌∷◌, ◌++◌, length, take, drop, get_or, refl, sym, ap, arith}
+use Rattle.std.proofs.lemmas.List.{take-append-drop, take_rest}
 use Rattle.std.proofs.Math.Seq.{drop-cons, take-length}
 use Rattle.std.proofs.lemmas.List.Splits.{slice_split_at, slice_split_none}
-use Rattle.lk_model.proofs.Booleans.{and_true}
+use Rattle.lk_model.proofs.ListTests.{none_pass}
 use Rattle.cert_text.specs.Drafts.{fields}
 use Rattle.cert_text.specs.Fields.{has_no_space}
-
--- a test that passes nowhere
-none_pass : (p : ℕ → Bool) (xs : List ℕ) → list_all (λ b. not (p b)) xs ≡ true → All (λ b. p b ≡ false) xs
-none_pass p [] h k d lt = absurd (omega (arith, lt))
-none_pass p (x ∷ xs) h zero d lt = not_not (p x) (and_true _ _ h).0
-  where
-    not_not : (b : Bool) → not b ≡ true → b ≡ false
-    not_not true e = absurd (let f : ⊥ = cc in f)
-    not_not false e = refl
-none_pass p (x ∷ xs) h (suc k) d lt = none_pass p xs (and_true _ _ h).1 k d (omega (arith, lt))
 
 -- a line without a space is one word
 pub one_field : (line : List ℕ) → has_no_space line ≡ true → fields line ≡ line ∷ []
@@ -38,10 +27,6 @@ field_at line end h space none =
     ∙ field_then (take end line) (drop (suc end) line) front
     ∙ ap (λ (n : ℕ). take end line ∷ fields (drop n line)) next
 
--- the rest of a line from a place on
-pub rest_is : (line : List ℕ) (n : ℕ) → take (length line - n) (drop n line) ≡ drop n line
-rest_is line n = take_all (length line - n) (drop n line) (let h = length-drop n line in omega (arith, h))
-
 pub whole_field : (line : List ℕ) (end : ℕ) → end ≡ length line → has_no_space (take (end - 0) line) ≡ true → fields line ≡ line ∷ []
 whole_field line end e none =
     let size : end - 0 ≡ length line = omega (arith, e) in
@@ -49,4 +34,4 @@ whole_field line end e none =
 
 pub field_before : (line : List ℕ) (end : ℕ) → end < length line → get_or line end 0 ≡ 32 → has_no_space (take (end - 0) line) ≡ true
     → fields line ≡ take end line ∷ fields (take (length line - (end + 1)) (drop (end + 1) line))
-field_before line end h space none = field_at line end h space none ∙ ap (λ (bs : List ℕ). take end line ∷ fields bs) (sym (rest_is line (end + 1)))
+field_before line end h space none = field_at line end h space none ∙ ap (λ (bs : List ℕ). take end line ∷ fields bs) (sym (take_rest line (end + 1)))

@@ -2,13 +2,13 @@
 use Rattle.std.proofs.Common.{◌≡◌, ℕ, ◌≤◌, ◌∙◌, true, ◌&&◌, List, [], ◌∷◌, ◌++◌, map, length, refl, sym, ap, subst, arith, ℤ, append_assoc, length-append, nat_le, nat_lt, sum_by, inl, inr}
 use Rattle.std.specs.List.{list_all}
 use Rattle.std.specs.Fmt.{decimal, signed_decimal}
-use Rattle.std.proofs.lemmas.Bool.{and_from, leb-true}
+use Rattle.std.proofs.lemmas.Bool.{and_from}
 use Rattle.std.proofs.lemmas.List.{append-nil}
 use Rattle.std.proofs.lemmas.List.Sums.{sum_by-append, sum_by-cons}
 use Rattle.std.proofs.lemmas.List.Folds.{list_all-append}
 use Rattle.lk_model.specs.Texts.Lines.{Word}
 use Rattle.lk_model.specs.Lists.{rises_within}
-use Rattle.lk_model.specs.Limits.{max_vars, max_clauses, max_literals}
+use Rattle.lk_model.specs.Limits.{max_literals}
 use Rattle.lk_model.specs.Formulas.Literal.{variable, is_literal, is_clause}
 use Rattle.lk_model.specs.Formulas.Formula.{with_clause}
 use Rattle.lk_model.specs.Texts.PlainText.{literal_words}
@@ -22,15 +22,9 @@ use Rattle.cert_text.specs.declared.draft.LineDue.{LineDue}
 use Rattle.cert_text.specs.declared.draft.LineDue.TheVariants.{Format, Sizes, Keep, Set, Order, Pairs, Clauses}
 use Rattle.cert_text.proofs.Spelled.{cons_parts, same_number, same_rising, same_set, same_ended, Further, further_pairs, further_clauses}
 use Rattle.cert_text.proofs.WholeDrafts.{back_lines}
+use Rattle.cert_text.proofs.DraftForms.{vars_limit, clauses_limit}
 
 -- LINES THAT ARE THE SAME
-
--- a draft is within the limits
-pub vars_limit : (d : Draft) → IsDraft d → d.vars ≤ 1000000
-vars_limit d h = leb-true d.vars max_vars (and_true (nat_le d.vars max_vars) (nat_le d.clauses max_clauses) h.size).0
-
-pub clauses_limit : (d : Draft) → IsDraft d → d.clauses ≤ 4000000
-clauses_limit d h = leb-true d.clauses max_clauses (and_true (nat_le d.vars max_vars) (nat_le d.clauses max_clauses) h.size).1
 
 -- the same sizes
 pub record SameSizes (w d : Draft) : Type 0 where

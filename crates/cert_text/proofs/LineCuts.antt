@@ -1,8 +1,8 @@
 -- A text cut after each byte 10.
-use Rattle.std.proofs.Common.{◌≡◌, ℕ, suc, ◌<◌, ◌∙◌, Bool, true, false, not, cond, ◌==◌, List, [], ◌∷◌, ◌++◌, length, drop, refl, sym, ap, arith, inl, inr}
+use Rattle.std.proofs.Common.{◌≡◌, ℕ, suc, ◌<◌, ◌∙◌, Bool, true, false, cond, ◌==◌, List, [], ◌∷◌, ◌++◌, length, drop, refl, sym, ap, arith, inl, inr}
 use Rattle.std.specs.Prelude.{slice_range}
 use Rattle.std.specs.List.{concat}
-use Rattle.std.proofs.lemmas.Bool.{cases_Bool}
+use Rattle.std.proofs.lemmas.Bool.{cases_Bool, not-true}
 use Rattle.std.proofs.lemmas.List.{append-nil, length-drop}
 use Rattle.std.proofs.lemmas.List.Folds.{drop_split}
 use Rattle.std.proofs.Math.Seq.{drop-cons, drop-length}
@@ -10,10 +10,6 @@ use Rattle.lk_model.specs.Documents.Reading.{cut_lines, onto_first}
 use Rattle.lk_model.proofs.Booleans.{and_true}
 use Rattle.lk_text.specs.Cutting.{is_one_line, IsNextLine}
 use Rattle.lk_text.specs.declared.cuts.Cut.{Cut}
-
-not_true : (b : Bool) → not b ≡ true → b ≡ false
-not_true true e = absurd (let f : ⊥ = cc in f)
-not_true false e = refl
 
 -- one byte that is no byte 10
 cut_byte : (b : ℕ) (bs : List ℕ) → (b == 10) ≡ false → cut_lines (b ∷ bs) ≡ onto_first b (cut_lines bs)
@@ -31,14 +27,14 @@ unfolding cut_lines
 cut_line [] rest h = refl
 cut_line (b ∷ bs) rest h =
     let p = and_true _ _ h in
-    cut_byte b (bs ++ 10 ∷ rest) (not_true (b == 10) p.0) ∙ ap (onto_first b) (cut_line bs rest p.1)
+    cut_byte b (bs ++ 10 ∷ rest) (not-true (b == 10) p.0) ∙ ap (onto_first b) (cut_line bs rest p.1)
 
 -- a last line without it
 pub cut_open : (b : ℕ) (bs : List ℕ) → is_one_line (b ∷ bs) ≡ true → cut_lines (b ∷ bs) ≡ (b ∷ bs) ∷ []
-cut_open b [] h = cut_byte b [] (not_true (b == 10) (and_true _ _ h).0) ∙ ap (onto_first b) cut_nothing
+cut_open b [] h = cut_byte b [] (not-true (b == 10) (and_true _ _ h).0) ∙ ap (onto_first b) cut_nothing
 cut_open b (c ∷ bs) h =
     let p = and_true _ _ h in
-    cut_byte b (c ∷ bs) (not_true (b == 10) p.0) ∙ ap (onto_first b) (cut_open c bs p.1)
+    cut_byte b (c ∷ bs) (not-true (b == 10) p.0) ∙ ap (onto_first b) (cut_open c bs p.1)
 
 -- the lines in a row are the text
 pub lines_in_row : (bytes : List ℕ) → concat (cut_lines bytes) ≡ bytes

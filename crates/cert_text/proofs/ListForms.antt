@@ -8,6 +8,7 @@ use Rattle.std.proofs.lemmas.Bool.{cases_Bool, leb-true, le-leb, ltb-true, lt-lt
 use Rattle.std.proofs.lemmas.List.{append-nil}
 use Rattle.std.proofs.lemmas.List.Folds.{list_all-append}
 use Rattle.std.proofs.lemmas.Slice.Eq.{bytes_eq-Decides}
+use Rattle.std.proofs.lemmas.Option.{same_Some}
 use Rattle.lk_model.specs.Lists.{is_between, rises_within}
 use Rattle.lk_model.specs.Formulas.Literal.{variable, contains, is_literal, is_distinct, is_clause}
 use Rattle.lk_model.specs.Texts.Lines.{Word}
@@ -27,16 +28,13 @@ record Parts {X : Type 0} (o : Option X) (others : X → Option (List X)) (xs : 
   later : others item ≡ Some rest
   whole : xs ≡ item ∷ rest
 
-some_same : {X : Type 0} (x y : X) → Some x ≡ Some y → x ≡ y
-some_same x y e = cc
-
 parts_of : {X : Type 0} (o : Option X) (others : X → Option (List X)) (xs : List X) → in_front o others ≡ Some xs → Parts o others xs
 parts_of None others xs e = absurd (let f : ⊥ = cc in f)
 parts_of (Some x) others xs e = by_rest (others x) refl e
   where
     by_rest : (o : Option (List _)) → others x ≡ o → option_map (λ ys. x ∷ ys) o ≡ Some xs → Parts (Some x) others xs
     by_rest None h g = absurd (let f : ⊥ = cc in f)
-    by_rest (Some ys) h g = record { item = x; rest = ys; here = refl; later = h; whole = sym (some_same (x ∷ ys) xs g) }
+    by_rest (Some ys) h g = record { item = x; rest = ys; here = refl; later = h; whole = sym (same_Some (x ∷ ys) xs g) }
 
 -- words that a last one closes have a first
 pub ended_parts : (words : List Word) → (first : Word) × (more : List Word) × (ended words ≡ first ∷ more)
@@ -48,7 +46,7 @@ closing : {X : Type 0} (word : Word) (xs : List X) → cond (bytes_eq word (code
 closing word xs e = by_test (bytes_eq word (codes "0")) refl e
   where
     by_test : (b : Bool) → bytes_eq word (codes "0") ≡ b → cond b (Some []) None ≡ Some xs → (word ≡ codes "0") × (xs ≡ [])
-    by_test true t h = ((bytes_eq-Decides word (codes "0")).0 t, sym (some_same [] xs h))
+    by_test true t h = ((bytes_eq-Decides word (codes "0")).0 t, sym (same_Some [] xs h))
     by_test false t h = absurd (let f : ⊥ = cc in f)
 
 -- NUMBERS
@@ -60,7 +58,7 @@ read_number low high n (Some (negsuc k)) e = absurd (let f : ⊥ = cc in f)
 read_number low high n (Some (pos m)) e = by_test (is_between low high m) refl e
   where
     by_test : (b : Bool) → is_between low high m ≡ b → cond b (Some m) None ≡ Some n → (Some (pos m) ≡ Some (pos n)) × (is_between low high n ≡ true)
-    by_test true t h = let same = some_same m n h in (ap (λ (k : ℕ). Some (pos k)) same, ap (is_between low high) (sym same) ∙ t)
+    by_test true t h = let same = same_Some m n h in (ap (λ (k : ℕ). Some (pos k)) same, ap (is_between low high) (sym same) ∙ t)
     by_test false t h = absurd (let f : ⊥ = cc in f)
 
 pub number_read : (low high n : ℕ) → high ≤ 4000000 → low ≤ n → n ≤ high → number_within low high (plain_number (decimal n)) ≡ Some n
@@ -107,7 +105,7 @@ read_literal n l None e = absurd (let f : ⊥ = cc in f)
 read_literal n l (Some x) e = by_test (is_literal n x) refl e
   where
     by_test : (b : Bool) → is_literal n x ≡ b → cond b (Some x) None ≡ Some l → (Some x ≡ Some l) × (is_literal n l ≡ true)
-    by_test true t h = let same = some_same x l h in (h, ap (is_literal n) (sym same) ∙ t)
+    by_test true t h = let same = same_Some x l h in (h, ap (is_literal n) (sym same) ∙ t)
     by_test false t h = absurd (let f : ⊥ = cc in f)
 
 literal_read : (n : ℕ) (l : ℤ) → n ≤ 1000000 → is_literal n l ≡ true → literal_within n (plain_number (signed_decimal l)) ≡ Some l
@@ -121,7 +119,7 @@ passed rising last l None e = absurd (let f : ⊥ = cc in f)
 passed rising last l (Some x) e = by_test (not rising || nat_lt last (variable x)) refl e
   where
     by_test : (b : Bool) → (not rising || nat_lt last (variable x)) ≡ b → cond b (Some x) None ≡ Some l → (Some x ≡ Some l) × ((not rising || nat_lt last (variable l)) ≡ true)
-    by_test true t h = let same = some_same x l h in (h, ap (λ (k : ℤ). not rising || nat_lt last (variable k)) (sym same) ∙ t)
+    by_test true t h = let same = same_Some x l h in (h, ap (λ (k : ℤ). not rising || nat_lt last (variable k)) (sym same) ∙ t)
     by_test false t h = absurd (let f : ⊥ = cc in f)
 
 -- literals as they may stand
@@ -191,7 +189,7 @@ new_literal clause l (Some x) e = by_test (contains clause x) refl e
   where
     by_test : (b : Bool) → contains clause x ≡ b → cond b None (Some x) ≡ Some l → (Some x ≡ Some l) × (contains clause l ≡ false)
     by_test true t h = absurd (let f : ⊥ = cc in f)
-    by_test false t h = let same = some_same x l h in (h, ap (contains clause) (sym same) ∙ t)
+    by_test false t h = let same = same_Some x l h in (h, ap (contains clause) (sym same) ∙ t)
 
 pub clause_form : (n : ℕ) (clause : List ℤ) (words : List Word) (ls : List ℤ) → is_clause n clause ≡ true → clause_from n clause words ≡ Some ls → (words ≡ literal_words ls) × (is_clause n (clause ++ ls) ≡ true)
 clause_form n clause [] ls h e = absurd (let f : ⊥ = cc in f)

@@ -18,7 +18,7 @@ use Rattle.cert_text.specs.LastVars.{last_or}
 use Rattle.cert_text.specs.declared.draft.Draft.{Draft}
 use Rattle.cert_text.proofs.ListForms.{number_read}
 use Rattle.cert_text.proofs.NumberForms.{number_form}
-use Rattle.cert_text.proofs.ClauseSteps.{few_vars, few_clauses}
+use Rattle.cert_text.proofs.DraftForms.{vars_limit, clauses_limit}
 
 -- PAIRS
 
@@ -102,7 +102,7 @@ last_rises low high n (k ∷ ns) h above within =
 pub small_last : (d : Draft) (last : ℕ) → IsDraft d → last ≡ last_or 0 (map (λ (q : Pair). q.var) d.pairs) → last ≤ 1000000
 small_last d last h is =
     let within : last_or 0 (map (λ (q : Pair). q.var) d.pairs) ≤ d.vars = last_within 0 d.vars (map (λ (q : Pair). q.var) d.pairs) h.pair_vars (omega arith) in
-    omega (arith, is, within, few_vars d h)
+    omega (arith, is, within, vars_limit d h)
 
 -- the variables with that of one more pair
 vars_more : (qs : List Pair) (q : Pair) → map (λ (p : Pair). p.var) (qs ++ q ∷ []) ≡ map (λ (p : Pair). p.var) qs ++ q.var ∷ []
@@ -114,7 +114,7 @@ pub no_pair : (d next : Draft) (words rest : List Word) (last : ℕ) → IsDraft
 no_pair d next words rest last h is e none s =
     let q = s.pair in
     let more = rises_last 0 d.vars q.var (map (λ (p : Pair). p.var) d.pairs) (ap (rises_within 0 d.vars) (sym (vars_more d.pairs q)) ∙ s.rises) in
-    let back = pair_back last d.vars d.clauses q (few_vars d h) (few_clauses d h) (omega (arith, is, more.0)) more.1 s.form in
+    let back = pair_back last d.vars d.clauses q (vars_limit d h) (clauses_limit d h) (omega (arith, is, more.0)) more.1 s.form in
     let line : codes "c" ∷ codes "pair" ∷ rest ≡ pair_line q = sym e ∙ s.line in
     let same : rest ≡ number_words (q.var ∷ q.with ∷ q.against ∷ []) = cc in
     let some : None ≡ Some q = none ∙ ap (pair_within last d.vars d.clauses) same ∙ back in

@@ -6,8 +6,9 @@ use Rattle.lk_model.specs.Texts.PlainText.{number_words}
 use Rattle.cert_text.specs.Drafts.{IsDraft, problem_line}
 use Rattle.cert_text.specs.Fields.{two_within}
 use Rattle.cert_text.specs.declared.draft.Draft.{Draft}
-use Rattle.cert_text.proofs.ClauseSteps.{few_vars, few_kept}
+use Rattle.cert_text.proofs.ClauseSteps.{few_kept}
 use Rattle.cert_text.proofs.NumberForms.{two_form, two_back}
+use Rattle.cert_text.proofs.DraftForms.{vars_limit}
 
 -- two numbers that are the same two
 same_two : (s t : ℕ × ℕ) → Some s ≡ Some t → (s.0 ≡ t.0) × (s.1 ≡ t.1)
@@ -19,7 +20,7 @@ problem_found : (d : Draft) (words rest : List Word) (found : Option (ℕ × ℕ
 problem_found d words rest found h e is line =
     let both : codes "p" ∷ codes "cnf" ∷ rest ≡ problem_line d.vars (length d.kept) = sym e ∙ line in
     let same : rest ≡ number_words (d.vars ∷ length d.kept ∷ []) = cc in
-    is ∙ ap (two_within 1000000 4000000) same ∙ two_back 1000000 4000000 d.vars (length d.kept) (omega arith) (omega arith) (few_vars d h) (few_kept d h)
+    is ∙ ap (two_within 1000000 4000000) same ∙ two_back 1000000 4000000 d.vars (length d.kept) (omega arith) (omega arith) (vars_limit d h) (few_kept d h)
 
 -- a line with these numbers
 pub problem_told : (d : Draft) (words rest : List Word) (n count : ℕ) → words ≡ codes "p" ∷ codes "cnf" ∷ rest → Some (n, count) ≡ two_within 1000000 4000000 rest

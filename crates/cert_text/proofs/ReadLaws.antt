@@ -19,9 +19,9 @@ use Rattle.cert_text.specs.Readings.{IsReadAs, GoesOnBuilt, StopsAtLine, IsReadO
 use Rattle.cert_text.specs.declared.draft.Draft.{Draft}
 use Rattle.cert_text.specs.declared.draft.LineDue.{LineDue}
 use Rattle.cert_text.specs.declared.draft.LineDue.TheVariants.{Format}
-use Rattle.cert_text.proofs.DraftForms.{IsBlank, IsBlankAt, next_form, next_blank}
-use Rattle.cert_text.proofs.WholeDrafts.{whole_of, lines_of_whole}
-use Rattle.cert_text.proofs.DraftLaws.{next_lines, goes_on, follows, ends_whole, whole_lines, whole_form}
+use Rattle.cert_text.proofs.DraftForms.{IsBlank, IsBlankAt, next_form, next_blank, lines_more}
+use Rattle.cert_text.proofs.WholeDrafts.{whole_of, lines_of_whole, lines_whole, form_whole}
+use Rattle.cert_text.proofs.DraftLaws.{goes_on, follows, ends_whole}
 use Rattle.cert_text.proofs.LineCuts.{cut_next, cut_last, cut_nothing, lines_in_row}
 use Rattle.cert_text.proofs.CleanWords.{line_fields, words_of_line, same_lines, GoesOnBy, goes_on_by, cut_lines_in_row, line_ends}
 use Rattle.cert_text.proofs.CleanLines.{clean_read, clean_document}
@@ -50,7 +50,7 @@ at_next bytes at number d next cut h c w n =
     let raw = slice_range bytes cut.begin cut.end in
     let words = fields raw in
     let rest = cut_lines (drop cut.next bytes) in
-    let more = next_lines d next words h.form n in
+    let more = lines_more d next words h.form n in
     let read : map line (lines_read next) ≡ map line (lines_read d) ++ (raw ++ 10 ∷ []) ∷ [] =
     ap (map line) more ∙ map-append line (lines_read d) (words ∷ [])
     ∙ ap (λ (l : List ℕ). map line (lines_read d) ++ l ∷ []) (line_fields raw) in
@@ -161,8 +161,8 @@ stops_early bytes number d h n = record { stops = never; first = goes_as_far byt
 pub reads_whole : (bytes : List ℕ) (number : ℕ) (d : Draft) → IsAt bytes (length bytes) number d → IsWhole d → IsReadAs bytes (Done (document_of d))
 unfolding text_of text_lines
 reads_whole bytes number d h w =
-    let text = sym (lines_in_row bytes) ∙ ap concat (lines_at_end bytes number d h) ∙ ap (λ (ls : List (List Word)). concat (map line ls)) (sym (whole_lines d h.form w)) in
-    record { built = record { unprotected = refl; body = tt }; text = record { form = whole_form d h.form w; text = text } }
+    let text = sym (lines_in_row bytes) ∙ ap concat (lines_at_end bytes number d h) ∙ ap (λ (ls : List (List Word)). concat (map line ls)) (sym (lines_whole d h.form w)) in
+    record { built = record { unprotected = refl; body = tt }; text = record { form = form_whole d h.form w; text = text } }
 
 -- the lines of a text are those of its document
 lines_of_text : (bytes : List ℕ) (d : Document) → IsReadAs bytes d → cut_lines bytes ≡ map line (document_lines d)

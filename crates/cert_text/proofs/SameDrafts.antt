@@ -13,7 +13,8 @@ use Rattle.cert_text.specs.Drafts.{IsDraft, front_lines, order_line, problem_lin
 use Rattle.cert_text.specs.declared.draft.Draft.{Draft}
 use Rattle.cert_text.proofs.Spelled.{cons_parts, same_literals, same_ended, Further}
 use Rattle.cert_text.proofs.WholeDrafts.{back_lines}
-use Rattle.cert_text.proofs.Followers.{SameSizes, vars_limit, same_sets, same_front, problem_apart, more_pairs, past_problem, more_clauses}
+use Rattle.cert_text.proofs.Followers.{SameSizes, same_sets, same_front, problem_apart, more_pairs, past_problem, more_clauses}
+use Rattle.cert_text.proofs.DraftForms.{vars_limit}
 
 -- THE PARTS
 

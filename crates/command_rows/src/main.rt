@@ -36,10 +36,18 @@ fn take<R: Threads + Sync + AllocGlobal + Print>(
     }
 }
 
-fn main(rt: HostRuntime) -> Result<(), Fail> {
-    let mut script = Script::new(rt.alloc());
+/// Does what the lines of the script say.
+fn take_lines<R: Threads + Sync + AllocGlobal + Print + Input>(
+    rt: &R,
+    script: &mut Script,
+) -> Result<(), Fail> {
     for line in rt.lines(rt.alloc()) {
-        take(&rt, &mut script, line?.as_str())?;
+        take(rt, script, line?.as_str())?;
     }
     Ok(())
+}
+
+fn main(rt: HostRuntime) -> Result<(), Fail> {
+    let mut script = Script::new(rt.alloc());
+    take_lines(&rt, &mut script)
 }

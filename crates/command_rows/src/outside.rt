@@ -1,29 +1,27 @@
 //! A shelf and two sinks in memory, as a script says.
-use crate::script::{Script, Side};
+use crate::script::{Script, Side, Text};
 use lk_model::{List, OutOfMemory};
 use lk_outside::{Bytes, MemoryShelf, MemorySink, Name};
 use std::alloc::Global;
 
-/// What a run reads, writes and says.
+/// What a run writes and says.
 #[derive(Drop)]
-pub(crate) struct Outside {
-    pub(crate) shelf: MemoryShelf,
+pub(crate) struct Sinks {
     pub(crate) out: MemorySink,
     pub(crate) say: MemorySink,
 }
 
-/// The outside that a script has.
-pub(crate) fn outside_of(alloc: Global, script: &Script) -> Result<Outside, OutOfMemory> {
-    Ok(Outside {
-        shelf: shelf_of(alloc, script)?,
-        out: sink_of(alloc, &script.out)?,
-        say: sink_of(alloc, &script.say)?,
-    })
+/// The sinks that a script has.
+pub(crate) fn sinks_of(alloc: Global, script: &Script) -> Result<Sinks, OutOfMemory> {
+    let out = sink_of(alloc, &script.out)?;
+    let say = sink_of(alloc, &script.say)?;
+    Ok(Sinks { out, say })
 }
 
-fn shelf_of(alloc: Global, script: &Script) -> Result<MemoryShelf, OutOfMemory> {
-    let files = files_of(alloc, script.texts.as_slice())?;
+/// The shelf that a script has.
+pub(crate) fn shelf_of(alloc: Global, script: &Script) -> Result<MemoryShelf, OutOfMemory> {
     let fails = list_of(alloc, script.shelf.fails.as_slice())?;
+    let files = files_of(alloc, script.texts.as_slice())?;
     Ok(MemoryShelf::new(alloc, files, script.shelf.chunk.max(1), fails))
 }
 
@@ -33,19 +31,18 @@ fn sink_of(alloc: Global, side: &Side) -> Result<MemorySink, OutOfMemory> {
 }
 
 /// The texts under their names.
-fn files_of(
-    alloc: Global,
-    texts: &[(String, Vec<u8>)],
-) -> Result<List<(Name, Bytes)>, OutOfMemory> {
+fn files_of(alloc: Global, texts: &[Text]) -> Result<List<(Name, Bytes)>, OutOfMemory> {
     let mut files = List::new(alloc);
-    for (name, text) in texts {
-        files.push(file_of(alloc, name.as_str(), text.as_slice())?)?;
+    for text in texts {
+        files.push(file_of(alloc, text)?)?;
     }
     Ok(files)
 }
 
-fn file_of(alloc: Global, name: &str, text: &[u8]) -> Result<(Name, Bytes), OutOfMemory> {
-    Ok((Name::of(alloc, name)?, Bytes::of(alloc, text)?))
+fn file_of(alloc: Global, text: &Text) -> Result<(Name, Bytes), OutOfMemory> {
+    let name = Name::of(alloc, text.name.as_str())?;
+    let bytes = Bytes::of(alloc, text.bytes.as_slice())?;
+    Ok((name, bytes))
 }
 
 fn list_of(alloc: Global, numbers: &[u64]) -> Result<List<u64>, OutOfMemory> {

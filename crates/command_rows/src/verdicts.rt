@@ -1,5 +1,7 @@
 //! The lines that tell verdicts.
-use lean_checker::{Verdict, put_verdict};
+ghost use Rattle.std.specs.Prelude.{◌≤◌};
+
+use lean_checker::{Verdict, VerdictText, put_verdict};
 use lk_model::{Kind, Why};
 use std::io::{self, Write};
 use std::test::Fail;
@@ -28,33 +30,68 @@ const KINDS: &[(&str, Kind)] = &[
 
 /// Prints the line that tells a verdict, and says so where it is not all there is.
 pub(crate) fn print_verdict<R: Print>(rt: &R, words: &str) -> Result<(), Fail> {
-    let text = put_verdict(&verdict_of(words)?);
+    match verdict_of(words) {
+        Some(verdict) => Ok(print_line(rt, words, &put_verdict(&verdict))?),
+        None => Err(Fail::from("no verdict")),
+    }
+}
+
+fn print_line<R: Print>(rt: &R, words: &str, text: &VerdictText) -> io::Result<()>
+    requires { text.now.len ≤ 64 }
+{
     println!(rt; "== verdict {words}")?;
     io::writer(rt).write_all(&text.bytes[..text.len])?;
-    if !text.bytes[text.len..].iter().all(|b| *b == 0) {
-        println!(rt; "-- and more")?;
+    print_more(rt, &text.bytes[text.len..])
+}
+
+fn print_more<R: Print>(rt: &R, others: &[u8]) -> io::Result<()> {
+    if is_zero(others) {
+        Ok(())
+    } else {
+        println!(rt; "-- and more")
     }
-    Ok(())
+}
+
+/// Whether each byte is 0.
+fn is_zero(bytes: &[u8]) -> bool {
+    for b in bytes {
+        if *b != 0 {
+            return false;
+        }
+    }
+    true
 }
 
 /// The verdict of these words.
-fn verdict_of(words: &str) -> Result<Verdict, Fail> {
+fn verdict_of(words: &str) -> Option<Verdict> {
     let (word, rest) = words.split_once(" ").unwrap_or((words, ""));
     match word {
-        "accepted" => Ok(Verdict::Accepted),
-        "unfinished" => Ok(Verdict::Unfinished(rest.parse()?)),
-        "refused" => Ok(Verdict::No(why_of(rest)?)),
-        _ => Err(Fail::new(format_args!("no verdict: {words}"))),
+        "accepted" => Some(Verdict::Accepted),
+        "unfinished" => unfinished_of(rest),
+        "refused" => refused_of(rest),
+        _ => None,
     }
 }
 
-/// The kind and the place of these words.
-fn why_of(words: &str) -> Result<Why, Fail> {
-    let (word, place) = words.split_once(" ").ok_or("no place")?;
-    let kind = KINDS.iter().find(|(known, _)| *known == word);
-    let (_, kind) = kind.ok_or("no kind")?;
-    Ok(Why {
-        kind: *kind,
-        place: place.parse()?,
-    })
+/// The verdict after so many learned clauses.
+fn unfinished_of(learned: &str) -> Option<Verdict> {
+    Some(Verdict::Unfinished(learned.parse().ok()?))
+}
+
+/// The refusal with the kind and the place of these words.
+fn refused_of(words: &str) -> Option<Verdict> {
+    let (word, place) = words.split_once(" ")?;
+    let kind = kind_of(word)?;
+    let place = place.parse().ok()?;
+    Some(Verdict::No(Why { kind, place }))
+}
+
+/// The kind of a word.
+fn kind_of(word: &str) -> Option<Kind> {
+    for (known, kind) in KINDS {
+        if *known == word {
+            return Some(*kind);
+        }
+    }
+    None
 }

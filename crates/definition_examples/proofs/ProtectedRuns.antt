@@ -2,7 +2,7 @@
 use Rattle.std.specs.Prelude.{◌≡◌, refl, ℕ, true, false, List, [], ◌∷◌, map, pos, negsuc, Some, None}
 use Rattle.lk_model.specs.Formulas.Formula.{Cnf}
 use Rattle.lk_model.specs.Formulas.Crossed.{Variables, formula_without, protected_by, protected_of}
-use Rattle.lk_model.specs.Formulas.PureRun.{IsPureRunUnder, untouched, least_pairs_under}
+use Rattle.lk_model.specs.Formulas.PureRun.{IsPureRunUnder, least_pairs_under}
 use Rattle.lk_model.specs.Linear.Arithmetic.{gcd, first_wide}
 use Rattle.lk_model.specs.Linear.Rows.{start_row, start_cost, start_of}
 use Rattle.lk_model.specs.Linear.Pivot.{combined, made_in_row, pivoted, made_in_pivot}
@@ -47,12 +47,9 @@ pure_run = refl
 pairs_of_kept : least_pairs_under one equivalence (1 ∷ 2 ∷ 3 ∷ []) ≡ all_pairs
 pairs_of_kept = refl
 
--- with 2 protected the run takes 1, behind which 3 has both signs
+-- with 2 protected the run takes 1, behind which 3 has both signs, and so keeps what the unprotected run keeps
 run_beside_two : IsPureRunUnder two equivalence (pos 1 ∷ [])
 run_beside_two = (refl, refl)
-
-kept_beside_two : untouched equivalence (pos 1 ∷ []) ≡ 2 ∷ 3 ∷ []
-kept_beside_two = refl
 
 pure_stated : IsStatedBody one equivalence 0 all_kept.kept all_kept.body
 pure_stated = (refl, refl)

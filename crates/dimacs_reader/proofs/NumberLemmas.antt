@@ -11,6 +11,7 @@ use Rattle.std.proofs.lemmas.List.Sums.{sum_by-cons, length-filter, count_by-le-
 use Rattle.lk_model.specs.Lists.{is_empty, is_zero}
 use Rattle.lk_model.specs.Formulas.Literal.{contains}
 use Rattle.lk_model.specs.Texts.Dimacs.{without_empty_last, without_repeats}
+use Rattle.lk_model.proofs.Literals.{contains_filter}
 
 -- RUNS
 
@@ -124,21 +125,6 @@ split_count (x ∷ numbers) =
 
 -- REPEATS
 
--- a filter by a test on values keeps a literal where the literal passes
-contains-filter : (t : ℤ → Bool) (c : List ℤ) (x : ℤ) → contains (filter t c) x ≡ (t x && contains c x)
-contains-filter t [] x = elim (cases_Bool (t x)) [ inl e ↦ rw e refl | inr e ↦ rw e refl ]
-contains-filter t (k ∷ c) x =
-    let rest = contains-filter t c x in
-    elim (cases_Bool (int_eq x k)) [
-      | inl e ↦
-          let same : x ≡ k = (Decides-int_eq x k).0 e in
-          elim (cases_Bool (t k)) [
-            | inl y ↦ let here : t x ≡ true = ap t same ∙ y in rw (y, e, here) refl
-            | inr y ↦ let here : t x ≡ false = ap t same ∙ y in rw (y, here) (rest ∙ rw here refl)
-          ]
-      | inr e ↦ elim (cases_Bool (t k)) [ inl y ↦ rw (y, e) rest | inr y ↦ rw (y, e) rest ]
-    ]
-
 -- the same literals stand in a list without its repeats
 pub contains-repeats : (ls : List ℤ) (x : ℤ) → contains (without_repeats ls) x ≡ contains ls x
 contains-repeats [] x = refl
@@ -148,7 +134,7 @@ contains-repeats (l ∷ ls) x =
       | inl e ↦ rw e refl
       | inr e ↦
           let back : int_eq l x ≡ false = elim (cases_Bool (int_eq l x)) [ inl y ↦ absurd (cc (e, (Decides-int_eq x l).1 (sym ((Decides-int_eq l x).0 y)))) | inr y ↦ y ] in
-          rw e (contains-filter (λ k. not (int_eq l k)) (without_repeats ls) x ∙ ap (λ (b : Bool). not b && contains (without_repeats ls) x) back ∙ rest)
+          rw e (contains_filter (λ k. not (int_eq l k)) (without_repeats ls) x ∙ ap (λ (b : Bool). not b && contains (without_repeats ls) x) back ∙ rest)
     ]
 
 -- one literal more

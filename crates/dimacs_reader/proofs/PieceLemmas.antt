@@ -9,10 +9,11 @@ use Rattle.std.proofs.lemmas.List.Splits.{slice_split_at, slice_split_none, slic
 use Rattle.lk_model.specs.Lists.{is_empty}
 use Rattle.lk_model.specs.Texts.Lines.{Piece, is_newline, is_blank, placed_after, words_of, texts}
 use Rattle.lk_model.proofs.Booleans.{and_true}
+use Rattle.lk_model.proofs.ListTests.{none_pass}
 use Rattle.lk_text.specs.Cutting.{has_no_blank, IsNextLine, IsNextWord, HasNoWord}
 use Rattle.lk_text.specs.declared.cuts.Cut.{Cut}
 use Rattle.dimacs_reader.specs.Contents.{words_in, words_after, lines_from}
-use Rattle.dimacs_reader.proofs.TextLemmas.{none_pass, cut_rest, not_empty, length-range}
+use Rattle.dimacs_reader.proofs.TextLemmas.{cut_rest, not_empty, length-range}
 
 abbrev pub piece : List ℕ → ℕ → Piece
 piece bytes last = record { bytes = bytes; last = last }

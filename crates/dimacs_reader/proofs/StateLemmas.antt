@@ -2,7 +2,7 @@
 use Rattle.std.proofs.Common.{◌≡◌, ℕ, ◌+◌, ◌<◌, ◌≤◌, ◌∙◌, Bool, true, false, not, cond, ◌&&◌, List, [], ◌∷◌, ◌++◌, length, map, refl, sym, ap, arith, ℤ, pos, Option, Some, None, sum_by}
 use Rattle.std.specs.Prelude.{count_by, nat_le, nat_lt}
 use Rattle.std.specs.List.{list_all}
-use Rattle.std.proofs.lemmas.Bool.{le-leb, lt-leb, le-ltb, leb-true, leb-false, lt-ltb}
+use Rattle.std.proofs.lemmas.Bool.{le-leb, lt-leb, le-ltb, leb-true, leb-false, lt-ltb, and_from}
 use Rattle.std.proofs.lemmas.List.{append-nil, length-append, length-map, map-append}
 use Rattle.std.proofs.lemmas.List.Sums.{sum_by-cons, sum_by-append}
 use Rattle.std.proofs.lemmas.List.Folds.{list_all-append}
@@ -24,7 +24,6 @@ use Rattle.dimacs_reader.specs.ReadStates.{HasRead, Fits, Leads, HasFault, Close
 use Rattle.dimacs_reader.specs.declared.clauses.ReadState.{ReadState}
 use Rattle.dimacs_reader.specs.declared.clauses.Number.{Number}
 use Rattle.dimacs_reader.specs.declared.clauses.Number.TheVariants.{Zero, Literal, Past}
-use Rattle.lk_model.proofs.Literals.{and_both}
 use Rattle.dimacs_reader.proofs.NumberLemmas.{split-zero, split-other, split_count, runs-last, repeats-more, contains-repeats, repeats-empty}
 use Rattle.dimacs_reader.proofs.WordKinds.{literal_nonzero, literal_fits}
 
@@ -53,7 +52,7 @@ count_more numbers x =
     omega (arith, one, two, none)
 
 all_more : (n : ℕ) (numbers : List ℤ) (x : ℤ) → list_all (λ l. nat_le (variable l) n) numbers ≡ true → nat_le (variable x) n ≡ true → list_all (λ l. nat_le (variable l) n) (numbers ++ x ∷ []) ≡ true
-all_more n numbers x h v = list_all-append (λ l. nat_le (variable l) n) numbers (x ∷ []) ∙ and_both _ _ h (and_both _ _ v refl)
+all_more n numbers x h v = list_all-append (λ l. nat_le (variable l) n) numbers (x ∷ []) ∙ and_from _ _ h (and_from _ _ v refl)
 
 -- COUNTS
 

@@ -1,8 +1,5 @@
 -- What is said of a stop.
 use Rattle.std.proofs.Common.{◌≡◌, sym, subst}
-use Rattle.std.specs.Prelude.{IfOk}
-use Rattle.std.specs.declared.result.Result.{Result}
-use Rattle.std.specs.declared.result.Result.TheVariants.{Ok, Err}
 use Rattle.lk_model.specs.declared.text_fault.Fault.{Fault}
 use Rattle.dimacs_reader.specs.Faults.{ForFault}
 use Rattle.dimacs_reader.specs.declared.stop.Stop.{Stop}
@@ -15,10 +12,6 @@ for_fault P s f e h = subst (λ (t : Stop). ForFault t P) (sym e) h
 pub for_fault_weaker : (P Q : Fault → Type 0) (s : Stop) → ((f : Fault) → P f → Q f) → ForFault s P → ForFault s Q
 for_fault_weaker P Q (stop.Fault f) g h = g f h
 for_fault_weaker P Q stop.OutOfMemory g h = h
-
-pub if_ok_weaker : {A E : Type 0} (r : Result A E) (P Q : A → Type 0) → ((a : A) → P a → Q a) → IfOk r P → IfOk r Q
-if_ok_weaker (Ok a) P Q f p = f a p
-if_ok_weaker (Err e) P Q f p = p
 
 -- what is said of the fault of a stop
 pub at_fault : (P : Fault → Type 0) (s : Stop) (f : Fault) → s ≡ stop.Fault f → ForFault s P → P f

@@ -1,7 +1,7 @@
 -- Lines and words of a text, from a place on.
-use Rattle.std.proofs.Common.{◌≡◌, ℕ, zero, suc, ◌+◌, ◌-◌, ◌<◌, ◌≤◌, ◌∙◌, Bool, true, false, not, cond, List, [], ◌∷◌, ◌++◌, length, take, drop, get_or, refl, sym, ap, arith, inl, inr, length-drop, length-take}
+use Rattle.std.proofs.Common.{◌≡◌, ℕ, suc, ◌+◌, ◌-◌, ◌<◌, ◌≤◌, ◌∙◌, Bool, true, false, not, cond, List, [], ◌∷◌, ◌++◌, length, take, drop, get_or, refl, sym, ap, arith, inl, inr, length-drop, length-take}
 use Rattle.std.specs.Prelude.{filter, slice_range}
-use Rattle.std.specs.List.{slice_split, list_all, All, prefix_len}
+use Rattle.std.specs.List.{slice_split, list_all, prefix_len}
 use Rattle.std.proofs.lemmas.Bool.{cases_Bool, eq-eqb}
 use Rattle.std.proofs.lemmas.List.{take-append-drop, drop-drop, append-nil}
 use Rattle.std.proofs.Math.Seq.{drop-cons, drop-length}
@@ -9,19 +9,10 @@ use Rattle.std.proofs.lemmas.List.Splits.{slice_split_at, slice_split_none, slic
 use Rattle.lk_model.specs.Lists.{is_empty}
 use Rattle.lk_model.specs.Texts.Lines.{Word, is_newline, is_blank}
 use Rattle.lk_model.proofs.Booleans.{and_true}
+use Rattle.lk_model.proofs.ListTests.{none_pass}
 use Rattle.lk_text.specs.Cutting.{has_no_blank, IsNextLine, IsNextWord, HasNoWord}
 use Rattle.lk_text.specs.declared.cuts.Cut.{Cut}
 use Rattle.dimacs_reader.specs.Contents.{words_in, is_end, is_content, content_of, content_from}
-
--- a test that passes nowhere
-pub none_pass : (p : ℕ → Bool) (xs : List ℕ) → list_all (λ b. not (p b)) xs ≡ true → All (λ b. p b ≡ false) xs
-none_pass p [] h k d lt = absurd (omega (arith, lt))
-none_pass p (x ∷ xs) h zero d lt = not_not (p x) (and_true _ _ h).0
-  where
-    not_not : (b : Bool) → not b ≡ true → b ≡ false
-    not_not true e = absurd (let f : ⊥ = cc in f)
-    not_not false e = refl
-none_pass p (x ∷ xs) h (suc k) d lt = none_pass p xs (and_true _ _ h).1 k d (omega (arith, lt))
 
 -- the rest from a place on is what lies before a later place, and the rest from there
 pub cut_rest : (xs : List ℕ) (a b : ℕ) → a ≤ b → drop a xs ≡ slice_range xs a b ++ drop b xs

@@ -3,7 +3,7 @@ use Rattle.std.specs.Prelude.{ℕ, List}
 use Rattle.std.specs.declared.option.Option.{Option}
 use Rattle.dimacs_reader.specs.declared.refusal.Refused.{Refused}
 
--- the bytes of all pieces that were taken, and the refusal after which no more are
+-- the bytes that were fed, and the refusal once there is one
 pub record Reading : Type 0 where
   pub fed : List ℕ
   pub stopped : Option Refused

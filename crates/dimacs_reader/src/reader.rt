@@ -53,10 +53,10 @@ impl Reader {
         }
     }
 
-    /// Takes the next piece of the text. It is refused where byte number 2^30 + 1 is in it, and only
-    /// there, with the first fault of the bytes fed so far, which stays the first however the text goes
-    /// on: that it is too long, unless another fault comes before that byte. After a refusal each call
-    /// answers that refusal and takes nothing.
+    /// Takes the next piece of the text. It is refused where byte number 2^30 + 1 is in it, or memory is
+    /// wanting, and only there. The refusal is the first fault of the bytes fed so far, which stays the
+    /// first however the text goes on: that it is too long, unless another fault comes before that byte.
+    /// After a refusal each call answers that refusal; what the reader then holds, no clause says.
     pub fn feed(&mut self, piece: &[u8]) -> Result<(), Refused>
         ensures ok { OnOk result (self.new ≡ record { fed = self.old.fed ++ piece.now; stopped = None }) }
         ensures going { OnOk result (self.old.stopped ≡ None) }
@@ -76,8 +76,8 @@ impl Reader {
         taken
     }
 
-    /// The formula that the bytes spell. It is refused exactly where the bytes are no text of a formula,
-    /// with their first fault; a reader that has refused answers that refusal again.
+    /// The formula that the bytes spell. But for want of memory it is refused exactly where the bytes are
+    /// no text of a formula, with their first fault; a reader that has refused answers that refusal again.
     pub fn finish(self) -> Result<Formula, Refused>
         ensures ok { IfOk result (Spells self.fed) }
         ensures going { OnOk result (self.stopped ≡ None) }

@@ -10,7 +10,8 @@ use std::alloc::{AllocError, AllocFailed};
 /// Why a text is no formula, with the line of its first fault, counted from 1; or want of memory.
 #[derive(Clone, Copy, Debug, PartialEq, Eq)]
 pub enum Refused {
-    /// A number, the end mark or the end of the text comes before the problem line.
+    /// The first line that is neither blank nor a comment does not begin with `p`, or there is none before
+    /// the end mark or the end of the text.
     NoHeader { line: u64 },
     /// The first line that begins with `p` is not `p cnf V C`.
     BadHeader { line: u64 },
@@ -22,7 +23,7 @@ pub enum Refused {
     BeyondStated { line: u64 },
     /// A number comes when C clauses are closed.
     TooManyClauses { line: u64 },
-    /// Fewer than C clauses are closed at the end mark or at the end of the text.
+    /// There are fewer than C clauses at the end mark or at the end of the text.
     TooFewClauses { line: u64 },
     /// V is past 1,000,000, C is past 4,000,000, or more than 20,000,000 literals are written.
     Limit { line: u64 },

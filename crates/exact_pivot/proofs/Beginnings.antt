@@ -1,5 +1,5 @@
 -- The starting rows as the code makes them: their sizes, and their small numbers.
-use Rattle.std.proofs.Common.{◌≡◌, ℕ, suc, ◌+◌, ◌≤◌, Bool, true, false, cond, List, [], ◌∷◌, ◌++◌, map, zip, replicate, length, filter, ℤ, pos, negsuc, neg_ℤ, ◌==◌, ◌+ℤ◌, ◌-ℤ◌, ◌*ℤ◌, int_lt, unsigned_abs, ap, ◌∙◌, arith}
+use Rattle.std.proofs.Common.{◌≡◌, ℕ, suc, ◌+◌, ◌≤◌, Bool, true, false, cond, List, [], ◌∷◌, ◌++◌, map, zip, replicate, length, ℤ, pos, negsuc, neg_ℤ, ◌==◌, ◌+ℤ◌, ◌-ℤ◌, ◌*ℤ◌, int_lt, unsigned_abs, ap, ◌∙◌, arith}
 use Rattle.std.proofs.lemmas.Int.{ints}
 use Rattle.std.proofs.lemmas.List.Elements.{All-append, All-cons, All-nil}
 use Rattle.std.proofs.lemmas.List.FromFn.{length-range_with_len}
@@ -9,19 +9,12 @@ use Rattle.lk_model.specs.Formulas.Literal.{contains, complement}
 use Rattle.lk_model.specs.Formulas.Balance.{incidence}
 use Rattle.lk_model.specs.Formulas.Formula.{Cnf, clause_at, variables_at, variables_to, variable_occurs}
 use Rattle.lk_model.specs.Linear.Rows.{Row, lack, sign_of, start_row, start_rows, start_cost, less_column, start_of}
+use Rattle.lk_model.proofs.Lists.{filter_length}
 use Rattle.exact_pivot.specs.Reached.{AtStart}
 use Rattle.exact_pivot.specs.Shape.{IsTableau}
 use Rattle.exact_pivot.proofs.Shapes.{tableau_of}
 use Rattle.exact_pivot.proofs.Starts.{zip_length}
 use Rattle.exact_pivot.specs.Small.{AreSmall, cost_of}
-
-filter_length : (p : ℕ → Bool) (xs : List ℕ) → length (filter p xs) ≤ length xs
-filter_length p [] = omega arith
-filter_length p (x ∷ xs) = at_test (p x) (filter_length p xs)
-  where
-    at_test : (b : Bool) → length (filter p xs) ≤ length xs → length (cond b (x ∷ filter p xs) (filter p xs)) ≤ suc (length xs)
-    at_test true h = omega (arith, h)
-    at_test false h = omega (arith, h)
 
 pub variables_few : (F : Cnf) (S : List ℕ) → length (variables_at F S) ≤ F.vars
 variables_few F S = omega (arith, filter_length (variable_occurs F S) (variables_to F.vars), length-range_with_len 1 F.vars)

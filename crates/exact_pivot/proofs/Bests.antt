@@ -1,7 +1,7 @@
 -- Some row leaves, where one may: the best of the rows, found one after another.
-use Rattle.std.proofs.Common.{◌≡◌, ℕ, zero, suc, ◌+◌, ◌-◌, ◌≤◌, inl, inr, Bool, true, false, ltb, [], get_or, ℤ, pos, ◌≤ℤ◌, ◌<ℤ◌, int_lt, Option, Some, None, refl, sym, ◌∙◌, subst, arith}
+use Rattle.std.proofs.Common.{◌≡◌, ℕ, zero, suc, ◌+◌, ◌-◌, ◌≤◌, inl, inr, Bool, true, false, ltb, [], get_or, ℤ, pos, ◌≤ℤ◌, ◌<ℤ◌, int_lt, Option, Some, None, refl, sym, subst, arith}
 use Rattle.std.proofs.Math.Nat.{eq-or-lt_of_le}
-use Rattle.std.proofs.lemmas.Bool.{ltb-true, ltb-false}
+use Rattle.std.proofs.lemmas.Bool.{ltb-true, ltb-false, both_ways}
 use Rattle.std.proofs.lemmas.Int.{ints}
 use Rattle.std.proofs.lemmas.List.{get_or_past}
 use Rattle.lk_model.specs.Linear.Rows.{TableauRows, entry, row_at, m_of, r_of, right_column}
@@ -14,9 +14,6 @@ use Rattle.exact_pivot.proofs.Finds.{find_says}
 use Rattle.exact_pivot.proofs.Leaving.{HasRights, leaves_self, new_best, found, keys}
 use Rattle.exact_pivot.proofs.Solutions.{cost_least}
 use Rattle.exact_pivot.proofs.Steps.{IsLeast}
-
-clash : (b : Bool) → b ≡ true → b ≡ false → ⊥
-clash b e f = let g : true ≡ false = sym e ∙ f in let h : ⊥ = cc in h
 
 -- with one more row that may not leave, or does not leave before the best
 kept_best : (t : TableauRows) (k n b : ℕ) → LeavesBelow t k (suc n) b → (may_leave t k (suc n) ≡ true → leaves_before t k b (suc n) ≡ false) → LeavesBelow t k (suc (suc n)) b
@@ -48,12 +45,12 @@ next_best t k rights n None none true e = (
     may = e;
     first = λ j h g m. elim (eq-or-lt_of_le (let most : j ≤ suc n = omega (arith, g) in most)) [
       | inl same ↦ subst (λ x. leaves_before t k (suc n) x ≡ false) (sym same) (leaves_self t k (suc n) (keys t k (suc n) rights e) (leaves_before t k (suc n) (suc n)) refl)
-      | inr less ↦ absurd (clash (may_leave t k j) m (none j h less))
+      | inr less ↦ absurd (both_ways (may_leave t k j) (none j h less) m)
     ];
-    over = λ j h g m. absurd (clash (may_leave t k j) m (none j h g));
+    over = λ j h g m. absurd (both_ways (may_leave t k j) (none j h g) m);
   },
 )
-next_best t k rights n (Some b) best false e = (Some b, kept_best t k n b best (λ m. absurd (clash (may_leave t k (suc n)) m e)))
+next_best t k rights n (Some b) best false e = (Some b, kept_best t k n b best (λ m. absurd (both_ways (may_leave t k (suc n)) e m)))
 next_best t k rights n (Some b) best true e = by_order (leaves_before t k b (suc n)) refl
   where
     by_order : (l : Bool) → leaves_before t k b (suc n) ≡ l → (next : Option ℕ) × IsBest t k (suc (suc n)) next

@@ -10,11 +10,12 @@ use Rattle.lk_model.specs.Linear.Arithmetic.{gcd, gcd_of, reduced, primitive}
 use Rattle.lk_model.specs.Linear.Rows.{entry}
 use Rattle.lk_model.specs.Linear.Pivot.{cleared, combined}
 use Rattle.lk_model.proofs.GcdLaws.{gcd_is_gcd}
+use Rattle.lk_model.proofs.Products.{mul_assoc}
 use Rattle.exact_rows.specs.Made.{mixed}
 use Rattle.exact_rows.proofs.Divisors.{gcd_of_some, gcd_of_comm}
 use Rattle.exact_rows.proofs.Wides.{length-mixed}
 use Rattle.exact_pivot.specs.Reached.{Columns}
-use Rattle.exact_pivot.proofs.Wholes.{one_mul, mul_assoc, cancel, cancel_zero, cancel_some}
+use Rattle.exact_pivot.proofs.Wholes.{one_mul, cancel, cancel_zero, cancel_some, none_of}
 use Rattle.exact_pivot.proofs.Divided.{quotient_back, primitive_divided}
 
 -- c times the new row is a times the old one less b times another
@@ -35,10 +36,10 @@ mixed_entry scale share (x ∷ xs) (y ∷ ys) zero e = refl
 mixed_entry scale share (x ∷ xs) (y ∷ ys) (suc i) e = mixed_entry scale share xs ys i (omega (arith, e))
 
 -- the gcd times a reduced number, from the left operand and from the right one
-reduced_back : (p f : ℤ) → gcd_of p f *ℤ reduced p f ≡ p
+pub reduced_back : (p f : ℤ) → gcd_of p f *ℤ reduced p f ≡ p
 reduced_back p f = quotient_back (gcd (unsigned_abs p) (unsigned_abs f)) p (gcd_is_gcd (unsigned_abs p) (unsigned_abs f)).0
 
-reduced_other : (p f : ℤ) → gcd_of p f *ℤ reduced f p ≡ f
+pub reduced_other : (p f : ℤ) → gcd_of p f *ℤ reduced f p ≡ f
 reduced_other p f = ap (λ g. g *ℤ reduced f p) (gcd_of_comm p f) ∙ reduced_back f p
 
 -- the multiples in which a row and the other are combined meet in the column
@@ -47,7 +48,7 @@ reduced_meet p f h = cancel (gcd_of p f) (reduced p f *ℤ f) (reduced f p *ℤ 
     (sym (mul_assoc (gcd_of p f) (reduced p f) f) ∙ ap (λ z. z *ℤ f) (reduced_back p f) ∙ *ℤ_comm p f
     ∙ ap (λ z. z *ℤ p) (sym (reduced_other p f)) ∙ mul_assoc (gcd_of p f) (reduced f p) p)
 
-reduced_some : (p f : ℤ) → pos 0 <ℤ p → pos 0 <ℤ reduced p f
+pub reduced_some : (p f : ℤ) → pos 0 <ℤ p → pos 0 <ℤ reduced p f
 reduced_some p f h = cancel_some (gcd_of p f) (reduced p f) (gcd_of_some p f h) (subst (λ z. pos 0 <ℤ z) (sym (reduced_back p f)) h)
 
 pub record IsCleared (by : List ℤ) (k : ℕ) (row new : List ℤ) : Type 0 where
@@ -61,9 +62,6 @@ no_less x y = omega (arith, ints)
 zero_is : (x : ℤ) → is_zero x ≡ true → x ≡ pos 0
 zero_is x e = grind (arith, ints)
 
-nothing : (x y : ℤ) → x ≡ y → x -ℤ y ≡ pos 0
-nothing x y e = omega (arith, ints, e)
-
 combined_clears : (by : List ℤ) (k : ℕ) (row : List ℤ) → length row ≡ length by → pos 0 <ℤ entry by k → IsCleared by k row (combined (entry by k) (entry row k) row by)
 unfolding combined
 combined_clears by k row l h =
@@ -74,7 +72,7 @@ combined_clears by k row l h =
     λ x. divided.1.at (x - 1) ∙ mixed_entry (reduced p f) (reduced f p) row by (x - 1) l in
     record {
       mixed = record { c = divided.0; a = reduced p f; b = reduced f p; c_some = divided.1.some; a_some = reduced_some p f h; at = at };
-      none = cancel_zero divided.0 _ divided.1.some (at k ∙ nothing (reduced p f *ℤ f) (reduced f p *ℤ p) (reduced_meet p f h));
+      none = cancel_zero divided.0 _ divided.1.some (at k ∙ none_of (reduced p f *ℤ f) (reduced f p *ℤ p) (reduced_meet p f h));
       width = length-map (mixed (reduced p f) (reduced f p) row by) _ ∙ length-mixed (reduced p f) (reduced f p) row by l;
     }
 

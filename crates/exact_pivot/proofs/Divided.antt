@@ -7,6 +7,7 @@ use Rattle.std.specs.Int.{◌∣◌}
 use Rattle.lk_model.specs.Linear.Arithmetic.{gcd, content, primitive}
 use Rattle.lk_model.proofs.GcdLaws.{gcd_is_gcd}
 use Rattle.exact_pivot.proofs.Wholes.{one_mul}
+use Rattle.exact_rows.proofs.Quotients.{none-abs}
 
 -- a number times the quotient by it, where it divides
 pub quotient_back : (g : ℕ) (x : ℤ) → g ∣ unsigned_abs x → pos g *ℤ int_div x (pos g) ≡ x
@@ -41,10 +42,6 @@ content_natural : (xs : List ℤ) → (n : ℕ) × (content xs ≡ pos n)
 content_natural [] = (0, refl)
 content_natural (x ∷ xs) = (gcd (unsigned_abs x) (unsigned_abs (content xs)), refl)
 
-abs_zero : (x : ℤ) → unsigned_abs x ≡ 0 → x ≡ pos 0
-abs_zero (pos n) e = ap pos e
-abs_zero (negsuc n) e = absurd (omega (arith, e))
-
 pub primitive_divided : (xs : List ℤ) → (c : ℤ) × IsDivided c (primitive xs) xs
 primitive_divided xs = let natural = content_natural xs in by_content natural.0 natural.1
   where
@@ -56,7 +53,7 @@ primitive_divided xs = let natural = content_natural xs in by_content natural.0 
 
     of_zeros : (i : ℕ) → content xs ≡ pos 0 → get_or (primitive xs) i (pos 0) ≡ get_or xs i (pos 0)
     of_zeros i e =
-        let none : get_or xs i (pos 0) ≡ pos 0 = abs_zero (get_or xs i (pos 0)) (eq-zero_of_zero-dvd (divides 0 i e)) in
+        let none : get_or xs i (pos 0) ≡ pos 0 = none-abs (get_or xs i (pos 0)) (eq-zero_of_zero-dvd (divides 0 i e)) in
         divided 0 i e ∙ ap (λ x. int_div x (pos 0)) none ∙ divided_zero (pos 0) ∙ sym none
 
     by_content : (n : ℕ) → content xs ≡ pos n → (c : ℤ) × IsDivided c (primitive xs) xs

@@ -3,7 +3,7 @@ use Rattle.std.proofs.Common.{◌≡◌, ℕ, zero, suc, ◌+◌, ◌-◌, ◌<�
 use Rattle.std.specs.List.{flat_map, range_with_len}
 use Rattle.std.specs.Option.{option_or, option_map_or}
 use Rattle.std.proofs.lemmas.List.{take_more, take_all}
-use Rattle.std.proofs.lemmas.List.FromFn.{get_or-range_with_len, length-range_with_len}
+use Rattle.std.proofs.lemmas.List.FromFn.{length-range_with_len}
 use Rattle.lk_model.specs.Lists.{up_to, is_nonzero}
 use Rattle.lk_model.specs.Linear.Arithmetic.{first_wide, made}
 use Rattle.lk_model.specs.Linear.Rows.{Row, TableauRows, entry, m_of, r_of, sign_at, artificial, right_column}
@@ -19,6 +19,7 @@ use Rattle.exact_pivot.specs.declared.stop.PivotStop.TheVariants.{Wide, OutOfMem
 use Rattle.exact_pivot.specs.Moves.{Gives}
 use Rattle.exact_pivot.specs.Placed.{sum_with, signed_of, placed_at, placed, common_of, made_in_common, duals_with, shares_with, duals_in, made_in_duals, unit_in, made_in_unit, made_in_unit_at, units_in, made_in_all}
 use Rattle.exact_pivot.proofs.Firsts.{flat_single, flat_at, flat_past, flat_end}
+use Rattle.exact_pivot.proofs.Stagings.{variable_at}
 
 -- the first wide result of two lists where the first list has one
 pub wide_first : (vs ws : List Operands) (w : Operands) → Some w ≡ first_wide vs → first_wide (vs ++ ws) ≡ Some w
@@ -135,10 +136,6 @@ pub units_end : (ps vars : List ℕ) (signs : List ℤ) (rows : List Row) (i : �
 units_end ps vars signs rows i us h e =
     e ∙ take_all i (units_in ps vars signs rows) (omega (arith, h, zip_long (λ j w. unit_in ps rows (length ps + j) (entry signs j) w) 1 vars))
 
--- the numbers of the variables count from 1
-place_at : (r i : ℕ) → i < r → 1 + i ≡ get_or (up_to r) i (1 + i)
-place_at r i h = sym (get_or-range_with_len 1 r i (1 + i) h)
-
 -- what the units make where this one stops
 pub units_stop : (m r : ℕ) (rows : List Row) (i k : ℕ) (there : Unit) (all : List Unit) (stop : PivotStop) → i < r → k ≡ m + i + 1
     → first_wide (made_in_all m r rows) ≡ first_wide (flat_map (made_in_unit_at m rows) (drop i (up_to r)))
@@ -146,7 +143,7 @@ pub units_stop : (m r : ℕ) (rows : List Row) (i k : ℕ) (there : Unit) (all :
 units_stop m r rows i k there all (Wide w) h col e g =
     let column : k ≡ m + (1 + i) = omega (arith, col) in
     let told : Some w ≡ first_wide (made_in_unit (m + (1 + i)) rows) = sym g ∙ ap (λ c. first_wide (made_in_unit c rows)) column in
-    sym (flat_at (made_in_unit_at m rows) (up_to r) i (1 + i) w (omega (arith, h, length-range_with_len 1 r)) (place_at r i h) e told)
+    sym (flat_at (made_in_unit_at m rows) (up_to r) i (1 + i) w (omega (arith, h, length-range_with_len 1 r)) (variable_at r i h) e told)
 units_stop m r rows i k there all OutOfMemory h col e g = tt
 
 -- what the units make where this one makes nothing wide
@@ -157,7 +154,7 @@ pub units_past : (m r : ℕ) (rows : List Row) (i k : ℕ) → i < r → k ≡ m
 units_past m r rows i k h col e g =
     let column : k ≡ m + (1 + i) = omega (arith, col) in
     let told : None ≡ first_wide (made_in_unit (m + (1 + i)) rows) = sym g ∙ ap (λ c. first_wide (made_in_unit c rows)) column in
-    flat_past (made_in_unit_at m rows) (up_to r) i (1 + i) (omega (arith, h, length-range_with_len 1 r)) (place_at r i h) e told
+    flat_past (made_in_unit_at m rows) (up_to r) i (1 + i) (omega (arith, h, length-range_with_len 1 r)) (variable_at r i h) e told
 
 -- what the units make where none of them makes anything wide
 pub units_none : (m r : ℕ) (rows : List Row) (i : ℕ) → r ≤ i

@@ -1,41 +1,18 @@
 -- Quotients in lowest terms, and the least common multiple of a column's denominators, row after row.
-use Rattle.std.proofs.Common.{◌≡◌, ℕ, zero, suc, ◌+◌, ◌*◌, ◌<◌, ◌≤◌, List, ◌∷◌, map, drop, length, get_or, Option, Some, None, Ok, Err, ℤ, pos, negsuc, ◌*ℤ◌, ◌<ℤ◌, unsigned_abs, refl, sym, ap, ◌∙◌, arith, drop-cons, subst}
-use Rattle.std.proofs.Math.Nat.{le_of_dvd}
-use Rattle.std.proofs.lemmas.Nat.{le-div}
+use Rattle.std.proofs.Common.{◌≡◌, ℕ, suc, ◌+◌, ◌<◌, ◌≤◌, List, ◌∷◌, map, drop, length, get_or, Option, Some, None, Ok, Err, ℤ, pos, ◌*ℤ◌, ◌<ℤ◌, refl, sym, ap, ◌∙◌, arith, drop-cons, subst}
 use Rattle.std.proofs.lemmas.List.{drop_all}
-use Rattle.std.proofs.lemmas.Int.{ints}
-use Rattle.lk_model.specs.Linear.Arithmetic.{first_wide, gcd, gcd_of, reduced}
+use Rattle.lk_model.specs.Linear.Arithmetic.{first_wide, gcd_of, reduced}
 use Rattle.lk_model.specs.Linear.Rows.{Row}
 use Rattle.lk_model.specs.Linear.Ends.{denominator, lcm_from, made_in_lcm}
 use Rattle.lk_model.specs.declared.wide.Op.TheVariants.{Product}
 use Rattle.lk_model.specs.declared.wide.Wide.{Wide}
-use Rattle.lk_model.proofs.GcdLaws.{gcd_is_gcd}
 use Rattle.exact_rows.specs.Made.{IsMade}
-use Rattle.exact_rows.proofs.Divisors.{gcd_of_some, gcd_of_comm, gcd_some}
+use Rattle.exact_rows.proofs.Divisors.{gcd_of_some, gcd_of_comm}
 use Rattle.exact_pivot.proofs.Firsts.{made-err, made-ok}
 
 -- the gcd is positive where one of the numbers is
 pub gcd_of_some_second : (x y : ℤ) → pos 0 <ℤ y → pos 0 <ℤ gcd_of x y
 gcd_of_some_second x y h = subst (λ g. pos 0 <ℤ g) (gcd_of_comm y x) (gcd_of_some y x h)
-
--- a positive number over a gcd of it is positive
-pub reduced_some : (x y : ℤ) → pos 0 <ℤ x → pos 0 <ℤ reduced x y
-reduced_some (pos zero) y h = absurd (omega (arith, ints, h))
-reduced_some (pos (suc a)) y h =
-    let some : 0 < suc a = omega arith in
-    let divisor = gcd_some (suc a) (unsigned_abs y) some in
-    let below = le_of_dvd some (gcd_is_gcd (suc a) (unsigned_abs y)).0 in
-    let one = le-div 1 (suc a) (gcd (suc a) (unsigned_abs y)) divisor (omega (arith, below)) in
-    omega (arith, ints, one)
-reduced_some (negsuc a) y h = absurd (omega (arith, ints, h))
-
--- a product of positive numbers is positive
-pub product_some : (x y : ℤ) → pos 0 <ℤ x → pos 0 <ℤ y → pos 0 <ℤ (x *ℤ y)
-product_some (pos zero) y h k = absurd (omega (arith, ints, h))
-product_some (negsuc a) y h k = absurd (omega (arith, ints, h))
-product_some (pos (suc a)) (pos zero) h k = absurd (omega (arith, ints, k))
-product_some (pos (suc a)) (negsuc b) h k = absurd (omega (arith, ints, k))
-product_some (pos (suc a)) (pos (suc b)) h k = (let some : 0 < suc a * suc b = omega arith in omega (arith, ints, some))
 
 -- a row's denominator is joined: what the least common multiple is from it on
 pub join_value : (k : ℕ) (rows : List Row) (i : ℕ) (d : Row) (l q z all : ℤ) → i < length rows → d ≡ get_or rows i d → q ≡ denominator k d

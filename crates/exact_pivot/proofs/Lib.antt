@@ -17,7 +17,6 @@ pub mod Pivots
 pub mod Positions
 pub mod Pivoting
 pub mod Pushes
-pub mod Occurring
 pub mod Beginnings
 pub mod Firsts
 pub mod Joins

@@ -1,24 +1,17 @@
 -- Lists that grow by one element after another.
 use Rattle.std.proofs.Common.{◌≡◌, ℕ, zero, suc, ◌+◌, ◌-◌, ◌<◌, ◌≤◌, Bool, true, false, ltb, unsigned_abs, List, [], ◌∷◌, ◌++◌, map, zip, take, length, get_or, ℤ, pos, refl, sym, ap, ◌∙◌, arith}
-use Rattle.std.proofs.lemmas.List.{append_assoc, get_or_past}
+use Rattle.std.proofs.lemmas.List.{append_assoc, get_or_past, map_more}
 use Rattle.std.proofs.lemmas.Bool.{ltb-true, ltb-false}
 use Rattle.std.specs.List.{range_with_len}
 use Rattle.lk_model.specs.Lists.{up_to}
 use Rattle.lk_model.specs.Linear.Rows.{entry}
 use Rattle.exact_pivot.specs.Small.{AreSmall}
 
-take_more : {X Y : Type 0} (f : X → Y) (xs : List X) (i : ℕ) (d : X) → i < length xs → map f (take (i + 1) xs) ≡ map f (take i xs) ++ f (get_or xs i d) ∷ []
-take_more f [] i d h = absurd (omega (arith, h))
-take_more f (x ∷ xs) zero d h = refl
-take_more f (x ∷ xs) (suc i) d h =
-    let more : suc i + 1 ≡ suc (i + 1) = omega arith in
-    rw more (ap (λ ys. f x ∷ ys) (take_more f xs i d (omega (arith, h))))
-
 -- one more of what a function gives along a list
 pub push_step : {X Y : Type 0} (f : X → Y) (xs : List X) (ys before : List Y) (i : ℕ) (y : Y) (d : X) → i < length xs → before ≡ ys ++ map f (take i xs) → y ≡ f (get_or xs i d)
     → before ++ y ∷ [] ≡ ys ++ map f (take (i + 1) xs)
 push_step f xs ys before i y d h e g =
-    (λ j. e j ++ g j ∷ []) ∙ append_assoc ys (map f (take i xs)) (f (get_or xs i d) ∷ []) ∙ ap (λ zs. ys ++ zs) (sym (take_more f xs i d h))
+    (λ j. e j ++ g j ∷ []) ∙ append_assoc ys (map f (take i xs)) (f (get_or xs i d) ∷ []) ∙ ap (λ zs. ys ++ zs) (sym (map_more f xs i d h))
 
 -- a list and two elements
 pub push_two : {X : Type 0} (xs : List X) (x y : X) → xs ++ x ∷ [] ++ y ∷ [] ≡ xs ++ x ∷ y ∷ []

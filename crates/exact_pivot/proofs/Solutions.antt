@@ -8,8 +8,9 @@ use Rattle.std.specs.List.{range_with_len}
 use Rattle.lk_model.specs.Lists.{up_to, sum_of}
 use Rattle.lk_model.specs.Linear.Rows.{TableauRows, entry, row_at, m_of, r_of, unit_column}
 use Rattle.lk_model.specs.Linear.Pivot.{in_first_phase}
+use Rattle.lk_model.proofs.Products.{mul_add, mul_assoc, times_least}
 use Rattle.exact_pivot.specs.Reached.{IsRowOf, artificial_cost, Columns, total, Solves, IsCombined, ReachedRows}
-use Rattle.exact_pivot.proofs.Wholes.{mul_assoc, mul_add, mul_sub, sub_mul, mixed_zero, times_some, times_least, cancel_least}
+use Rattle.exact_pivot.proofs.Wholes.{mul_sub, sub_mul, mixed_zero, times_some, cancel_least}
 use Rattle.exact_pivot.proofs.Steps.{total_mixed}
 
 -- AGAINST COMBINED ROWS

@@ -7,8 +7,9 @@ use Rattle.std.specs.List.{range_with_len}
 use Rattle.lk_model.specs.Lists.{sum_of, is_zero}
 use Rattle.lk_model.specs.Linear.Rows.{TableauRows, entry, row_at, m_of, r_of, unit_column, right_column}
 use Rattle.lk_model.specs.Linear.Pivot.{in_first_phase}
+use Rattle.lk_model.proofs.Products.{times_least}
 use Rattle.exact_pivot.specs.Reached.{IsRowOf, artificial_cost, total, Solves, ReachedRows}
-use Rattle.exact_pivot.proofs.Wholes.{mul_sub, sub_mul, cancel_zero, times_least}
+use Rattle.exact_pivot.proofs.Wholes.{mul_sub, sub_mul, cancel_zero}
 use Rattle.exact_pivot.proofs.Artificials.{art_middle, art_last}
 use Rattle.exact_pivot.proofs.Solutions.{total_cost, with_basic, total_with_basic, basic_solves, sum_none, sum_least, Numbers, numbers_for, number_least, artificial_least}
 

@@ -1,42 +1,25 @@
 -- What holds of the starting rows.
 use Rattle.std.proofs.Common.{◌≡◌, ◌≢◌, inl, ℕ, zero, suc, ◌+◌, ◌-◌, ◌<◌, ◌≤◌, ltb, Bool, true, false, cond, ◌==◌, List, [], ◌∷◌, ◌++◌, map, zip, replicate, length, get_or, ℤ, pos, negsuc, neg_ℤ, ◌+ℤ◌, ◌-ℤ◌, ◌*ℤ◌, ◌<ℤ◌, ◌≤ℤ◌, int_lt, refl, sym, ap, ◌∙◌, subst, eq-eqb, arith}
 use Rattle.std.proofs.Math.IntN.{zero-*ℤ}
-use Rattle.std.proofs.lemmas.Bool.{ne_eqb, eqb-true, ltb-true, ltb-false}
+use Rattle.std.proofs.lemmas.Bool.{ne_eqb, eqb-true, ltb-true, ltb-false, both_ways}
 use Rattle.std.proofs.lemmas.Int.{ints}
 use Rattle.std.proofs.lemmas.List.{get_or-map, get_or-replicate, length-map, length-append, length-replicate}
 use Rattle.std.proofs.lemmas.List.FromFn.{length-map-range_with_len, get_or-map-range_with_len}
 use Rattle.std.specs.List.{range_with_len}
-use Rattle.lk_model.specs.Lists.{up_to, sum_of, among}
+use Rattle.lk_model.specs.Lists.{up_to, sum_of}
 use Rattle.lk_model.specs.Formulas.Formula.{Cnf, clause_at, variables_at}
 use Rattle.lk_model.specs.Formulas.Balance.{incidence}
 use Rattle.lk_model.specs.Linear.Rows.{Row, entry, lack, sign_of, start_row, start_rows, less_column, start_cost, start_of}
-use Rattle.lk_model.proofs.Booleans.{or_left, or_right}
-use Rattle.lk_model.proofs.Counting.{Differ, more, Differ-filter, Differ-range}
+use Rattle.lk_model.proofs.Counting.{Differ, Differ-filter, Differ-range, same_place}
 use Rattle.exact_pivot.specs.Reached.{Columns, ReachedRows}
 use Rattle.exact_pivot.proofs.Wholes.{one_mul}
 use Rattle.exact_pivot.proofs.Artificials.{artificials, in_first, in_middle, in_last, art_first, art_middle, art_last}
 use Rattle.exact_pivot.proofs.Solutions.{sum_none, sum_one}
 
--- NUMBERS THAT DIFFER
-
-among_at : (xs : List ℕ) (i : ℕ) → i < length xs → among xs (get_or xs i 0) ≡ true
-among_at [] i h = absurd (omega (arith, h))
-among_at (x ∷ xs) zero h = or_left (x == x) (among xs x) (eq-eqb x x refl)
-among_at (x ∷ xs) (suc i) h = or_right (x == get_or xs i 0) (among xs (get_or xs i 0)) (among_at xs i (omega (arith, h)))
-
-clash : (b : Bool) → b ≡ true → b ≡ false → ⊥
-clash b e f = let g : true ≡ false = sym e ∙ f in let h : ⊥ = cc in h
-
-same_place : (xs : List ℕ) (i j : ℕ) → Differ xs → i < length xs → j < length xs → get_or xs i 0 ≡ get_or xs j 0 → i ≡ j
-same_place [] i j d h k e = absurd (omega (arith, h))
-same_place (x ∷ xs) zero zero d h k e = refl
-same_place (x ∷ xs) zero (suc j) (more _ _ apart d) h k e = absurd (clash (among xs x) (subst (λ y. among xs y ≡ true) (sym e) (among_at xs j (omega (arith, k)))) apart)
-same_place (x ∷ xs) (suc i) zero (more _ _ apart d) h k e = absurd (clash (among xs x) (subst (λ y. among xs y ≡ true) e (among_at xs i (omega (arith, h)))) apart)
-same_place (x ∷ xs) (suc i) (suc j) (more _ _ apart d) h k e = ap suc (same_place xs i j d (omega (arith, h)) (omega (arith, k)) e)
-
 -- A LIST BY ITS PLACES
 
-zip_at : {X : Type 0} (f : ℕ × ℕ → X) (vs : List ℕ) (a i : ℕ) (d : X) → i < length vs → get_or (map f (zip (range_with_len a (length vs)) vs)) i d ≡ f (a + i, get_or vs i 0)
+-- an image of a numbered element, by its place
+pub zip_at : {X : Type 0} (f : ℕ × ℕ → X) (vs : List ℕ) (a i : ℕ) (d : X) → i < length vs → get_or (map f (zip (range_with_len a (length vs)) vs)) i d ≡ f (a + i, get_or vs i 0)
 zip_at f [] a i d h = absurd (omega (arith, h))
 zip_at f (v ∷ vs) a zero d h = ap (λ n. f (n, v)) (let same : a ≡ a + 0 = omega arith in same)
 zip_at f (v ∷ vs) a (suc i) d h = zip_at f vs (a + 1) i d (omega (arith, h)) ∙ ap (λ n. f (n, get_or vs i 0)) (let same : a + 1 + i ≡ a + suc i = omega arith in same)
@@ -45,15 +28,17 @@ pub zip_length : {X : Type 0} (f : ℕ × ℕ → X) (vs : List ℕ) (a : ℕ) �
 zip_length f [] a = refl
 zip_length f (v ∷ vs) a = ap suc (zip_length f vs (a + 1))
 
-sum_same : (f g : ℕ → ℤ) (a n : ℕ) → ((j : ℕ) → a ≤ j → j < a + n → f j ≡ g j) → sum_of (map f (range_with_len a n)) ≡ sum_of (map g (range_with_len a n))
-sum_same f g a zero e = refl
-sum_same f g a (suc n) e = λ i. e a (omega arith) (omega arith) i +ℤ sum_same f g (a + 1) n (λ j h k. e j (omega (arith, h)) (omega (arith, k))) i
+-- sums over a range of the same terms
+pub range_same : (f g : ℕ → ℤ) (a n : ℕ) → ((j : ℕ) → a ≤ j → j < a + n → f j ≡ g j) → sum_of (map f (range_with_len a n)) ≡ sum_of (map g (range_with_len a n))
+range_same f g a zero e = refl
+range_same f g a (suc n) e = λ i. e a (omega arith) (omega arith) i +ℤ range_same f g (a + 1) n (λ j h k. e j (omega (arith, h)) (omega (arith, k))) i
 
-sum_places : {X : Type 0} (h : X → ℤ) (xs : List X) (d : X) (a : ℕ) → sum_of (map (λ j. h (get_or xs (j - a) d)) (range_with_len a (length xs))) ≡ sum_of (map h xs)
+-- a sum over a list, by its places
+pub sum_places : {X : Type 0} (h : X → ℤ) (xs : List X) (d : X) (a : ℕ) → sum_of (map (λ j. h (get_or xs (j - a) d)) (range_with_len a (length xs))) ≡ sum_of (map h xs)
 sum_places h [] d a = refl
 sum_places h (x ∷ xs) d a =
     let here : h (get_or (x ∷ xs) (a - a) d) ≡ h x = ap (λ n. h (get_or (x ∷ xs) n d)) (let zeroth : a - a ≡ 0 = omega arith in zeroth) in
-    let later = sum_same (λ j. h (get_or (x ∷ xs) (j - a) d)) (λ j. h (get_or xs (j - (a + 1)) d)) (a + 1) (length xs)
+    let later = range_same (λ j. h (get_or (x ∷ xs) (j - a) d)) (λ j. h (get_or xs (j - (a + 1)) d)) (a + 1) (length xs)
     (λ j g k. (let step : j - a ≡ suc (j - (a + 1)) = omega (arith, g) in rw step refl)) ∙ sum_places h xs d (a + 1) in
     λ i. here i +ℤ later i
 
@@ -143,7 +128,7 @@ module _ (F : Cnf) (S : List ℕ) where
       by_test : (b : Bool) → (j == i) ≡ b → cond (var_at j == var_at i) (pos 1) (pos 0) ≡ cond b (pos 1) (pos 0)
       by_test true e = let same : var_at j ≡ var_at i = ap var_at (eqb-true j i e) in rw (eq-eqb (var_at j) (var_at i) same) refl
       by_test false e = rw (ne_eqb (var_at j) (var_at i) (λ same. (let place = same_place vs (j - 1) (i - 1) differ (omega (arith, g, l)) (omega (arith, h, k)) same in
-          let equal : j ≡ i = omega (arith, place, g, h) in clash (j == i) (eq-eqb j i equal) e))) refl
+          let equal : j ≡ i = omega (arith, place, g, h) in both_ways (j == i) e (eq-eqb j i equal)))) refl
 
   -- the columns of the cost unit and of the right side
   last_at : (i p : ℕ) → 0 < i → i ≤ n → m + n ≤ p → get_or (at i).entries p (pos 0) ≡ get_or (last_of (var_at i)) (p - (m + n)) (pos 0)
@@ -286,7 +271,7 @@ module _ (F : Cnf) (S : List ℕ) where
   less_unit_combined : (k : ℕ) → less_unit k ≡ sum_of (map (λ j. less_unit (m + j) *ℤ entry (at j).entries k) (up_to n))
   unfolding column
   less_unit_combined k = less_unit_at k ∙ sym (sum_less (λ j. entry (at j).entries k) 1 n)
-      ∙ sum_same (λ j. negsuc 0 *ℤ entry (at j).entries k) (λ j. less_unit (m + j) *ℤ entry (at j).entries k) 1 n
+      ∙ range_same (λ j. negsuc 0 *ℤ entry (at j).entries k) (λ j. less_unit (m + j) *ℤ entry (at j).entries k) 1 n
       (λ j h l. ap (λ z. z *ℤ entry (at j).entries k) (sym (less_unit_at (m + j) ∙ ap neg_ℤ (column_middle (m + j - 1) (omega (arith, h)) (omega (arith, h, l))))))
 
 pub starting_rows : (F : Cnf) (S : List ℕ) → ReachedRows (start_of F S) (start_of F S)

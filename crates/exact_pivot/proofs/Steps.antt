@@ -1,14 +1,15 @@
 -- The rows after a pivot, and what of the rows before it they keep.
-use Rattle.std.proofs.Common.{◌≡◌, ◌≢◌, ℕ, zero, suc, ◌+◌, ◌-◌, ◌<◌, ◌≤◌, ◌⊎◌, inl, inr, Bool, true, false, cond, ◌==◌, List, map, length, get_or, ℤ, pos, negsuc, neg_ℤ, ◌-ℤ◌, ◌*ℤ◌, ◌<ℤ◌, ◌≤ℤ◌, int_lt, refl, sym, ap, ◌∙◌, subst, eq-eqb, arith}
+use Rattle.std.proofs.Common.{◌≡◌, ◌≢◌, ℕ, zero, suc, ◌+◌, ◌-◌, ◌<◌, ◌≤◌, ◌⊎◌, inl, inr, Bool, true, false, cond, List, map, length, get_or, ℤ, pos, negsuc, neg_ℤ, ◌-ℤ◌, ◌*ℤ◌, ◌<ℤ◌, ◌≤ℤ◌, int_lt, refl, sym, ap, ◌∙◌, subst, eq-eqb, arith}
 use Rattle.std.proofs.Math.IntN.{*ℤ_comm, *ℤ-zero, zero-*ℤ}
-use Rattle.std.proofs.lemmas.Bool.{ne_eqb, eqb-true}
+use Rattle.std.proofs.lemmas.Bool.{ne_eqb, cases_eq}
 use Rattle.std.proofs.lemmas.Int.{ints}
 use Rattle.std.proofs.lemmas.List.FromFn.{length-map-range_with_len, get_or-map-range_with_len}
 use Rattle.lk_model.specs.Lists.{up_to, sum_of, is_nonzero}
 use Rattle.lk_model.specs.Linear.Rows.{Row, TableauRows, entry, row_at, m_of, r_of, artificial, unit_column, right_column}
 use Rattle.lk_model.specs.Linear.Pivot.{in_first_phase, turned, cleared, row_after, pivoted}
+use Rattle.lk_model.proofs.Products.{mul_assoc, times_least}
 use Rattle.exact_pivot.specs.Reached.{IsRowOf, artificial_cost, Columns, total, Solves, IsCombined, ReachedRows, IsPivot}
-use Rattle.exact_pivot.proofs.Wholes.{one_mul, mul_assoc, mul_sub, cancel, cancel_least, mixed_sum, mixed_zero, mixed_first, mixed_some, mixed_back, times_least}
+use Rattle.exact_pivot.proofs.Wholes.{one_mul, mul_sub, cancel, cancel_least, mixed_sum, mixed_zero, mixed_first, mixed_some, mixed_back}
 use Rattle.exact_pivot.proofs.Clearing.{IsCleared, cleared_clears, IsTurned, turned_turns, turned_width}
 
 -- FACTS THAT A MIXED ROW KEEPS
@@ -140,13 +141,6 @@ not_turned t i k h = by_test (int_lt (entry (row_at t i).entries k) (pos 0)) ref
     by_test true e = absurd (omega (arith, ints, e, h))
     by_test false e = refl
 
-is_here : (i j : ℕ) → (j ≡ i) ⊎ (j ≢ i)
-is_here i j = by_test (j == i) refl
-  where
-    by_test : (b : Bool) → (j == i) ≡ b → (j ≡ i) ⊎ (j ≢ i)
-    by_test true e = inl (eqb-true j i e)
-    by_test false e = inr (λ s. let f = eq-eqb j i s in let g : true ≡ false = sym f ∙ e in let x : ⊥ = cc in x)
-
 module _ (s t : TableauRows) (i k : ℕ) (rows : List Row) (cost : List ℤ) (r : ReachedRows s t) (p : IsPivot t i k) (leaves : in_first_phase t ≡ true → IsLeast t i k)
     (stands : in_first_phase t ≡ false → entry (row_at t i).entries (right_column t) ≡ pos 0)
     (step : IsStep t i k rows cost) where
@@ -183,7 +177,7 @@ module _ (s t : TableauRows) (i k : ℕ) (rows : List Row) (cost : List ℤ) (r 
   each : (P : ℕ → Row → Type 0) → P i (record { entries = turned t i k; basic = k })
       → ((j : ℕ) → IsRowOf t j → j ≢ i → P j (record { entries = cleared (turned t i k) k (row_at t j).entries; basic = (row_at t j).basic }))
       → (j : ℕ) → IsRowOf t j → P j (row_at new j)
-  each P first others j h = elim (is_here i j) [
+  each P first others j h = elim (cases_eq j i) [
     | inl same ↦ subst (λ n. P n (row_at new n)) (sym same) (subst (P i) (sym step.here) first)
     | inr apart ↦ subst (P j) (sym (step.other j h apart)) (others j h apart)
   ]
@@ -267,7 +261,7 @@ module _ (s t : TableauRows) (i k : ℕ) (rows : List Row) (cost : List ℤ) (r 
       mixed_zero m.c m.a m.b _ (total us (row j)) (total us by) m.c_some (total_mixed us by (row j) (entry (cleared (turned t i k) k (row_at t j).entries)) m.c m.a m.b m.at) (old j h) none)
 
   solves_back : (us : List (ℕ × ℤ)) → Solves us new → Solves us t
-  solves_back us v j h = elim (is_here i j) [
+  solves_back us v j h = elim (cases_eq j i) [
     | inl same ↦ subst (λ n. total us (row n) ≡ pos 0) (sym same) (total_turned us (row i) by turns.sign turns.back none)
     | inr n ↦ (let m = (after j h).mixed in
         mixed_back m.c m.a m.b (total us (entry (cleared (turned t i k) k (row_at t j).entries))) (total us (row j)) (total us by) m.a_some

@@ -4,15 +4,9 @@ use Rattle.std.proofs.lemmas.Int.{ints}
 use Rattle.std.proofs.Math.IntN.{*ℤ_comm, *ℤ-zero}
 use borrow.Author.Differences.{up, down}
 use Rattle.lk_model.specs.Lists.{sum_of}
+use Rattle.lk_model.proofs.Products.{mul_add, mul_assoc}
 
 -- PRODUCTS
-
-pub mul_add : (a b c : ℤ) → a *ℤ (b +ℤ c) ≡ a *ℤ b +ℤ a *ℤ c
-mul_add a b c =
-    let e : up (b +ℤ c) + (down b + down c) ≡ down (b +ℤ c) + (up b + up c) = omega (arith, ints) in
-    let f = ap (λ n. up a * n) e in
-    let g = ap (λ n. down a * n) e in
-    omega (arith, ints, f, g)
 
 pub mul_sub : (a b c : ℤ) → a *ℤ (b -ℤ c) ≡ a *ℤ b -ℤ a *ℤ c
 mul_sub a b c =
@@ -21,25 +15,11 @@ mul_sub a b c =
     let g = ap (λ n. down a * n) e in
     omega (arith, ints, f, g)
 
-pub mul_assoc : (a b c : ℤ) → a *ℤ b *ℤ c ≡ a *ℤ (b *ℤ c)
-mul_assoc a b c =
-    let e : up (a *ℤ b) + (up a * down b + down a * up b) ≡ down (a *ℤ b) + (up a * up b + down a * down b) = omega (arith, ints) in
-    let f : up (b *ℤ c) + (up b * down c + down b * up c) ≡ down (b *ℤ c) + (up b * up c + down b * down c) = omega (arith, ints) in
-    let e1 = ap (λ n. up c * n) e in
-    let e2 = ap (λ n. down c * n) e in
-    let f1 = ap (λ n. up a * n) f in
-    let f2 = ap (λ n. down a * n) f in
-    omega (arith, ints, e1, e2, f1, f2)
-
 pub sub_mul : (a b c : ℤ) → (a -ℤ b) *ℤ c ≡ a *ℤ c -ℤ b *ℤ c
 sub_mul a b c = *ℤ_comm (a -ℤ b) c ∙ mul_sub c a b ∙ ap (λ z. z -ℤ c *ℤ b) (*ℤ_comm c a) ∙ ap (λ z. a *ℤ c -ℤ z) (*ℤ_comm c b)
 
 pub one_mul : (x : ℤ) → pos 1 *ℤ x ≡ x
 one_mul x = omega (arith, ints)
-
--- a factor moves past another one
-pub mul_swap : (a b c : ℤ) → a *ℤ (b *ℤ c) ≡ b *ℤ (a *ℤ c)
-mul_swap a b c = sym (mul_assoc a b c) ∙ ap (λ z. z *ℤ c) (*ℤ_comm a b) ∙ mul_assoc b a c
 
 -- SIGNS OF PRODUCTS
 
@@ -49,11 +29,6 @@ times_some (pos zero) x h k = absurd (omega (arith, ints, h))
 times_some (negsuc c) x h k = absurd (omega (arith, ints, h))
 times_some (pos (suc c)) (pos zero) h k = absurd (omega (arith, ints, k))
 times_some (pos (suc c)) (negsuc x) h k = absurd (omega (arith, ints, k))
-
-pub times_least : (c x : ℤ) → pos 0 ≤ℤ c → pos 0 ≤ℤ x → pos 0 ≤ℤ (c *ℤ x)
-times_least (pos c) (pos x) h k = omega (arith, ints)
-times_least (negsuc c) x h k = absurd (omega (arith, ints, h))
-times_least (pos c) (negsuc x) h k = absurd (omega (arith, ints, k))
 
 pub cancel_some : (c x : ℤ) → pos 0 <ℤ c → pos 0 <ℤ (c *ℤ x) → pos 0 <ℤ x
 cancel_some (pos (suc c)) (pos (suc x)) h k = omega (arith, ints)
@@ -78,7 +53,7 @@ cancel_zero (negsuc c) x h e = absurd (omega (arith, ints, h))
 same_of : (x y : ℤ) → x -ℤ y ≡ pos 0 → x ≡ y
 same_of x y e = omega (arith, ints, e)
 
-none_of : (x y : ℤ) → x ≡ y → x -ℤ y ≡ pos 0
+pub none_of : (x y : ℤ) → x ≡ y → x -ℤ y ≡ pos 0
 none_of x y e = omega (arith, ints, e)
 
 pub cancel : (c x y : ℤ) → pos 0 <ℤ c → c *ℤ x ≡ c *ℤ y → x ≡ y

@@ -1,4 +1,13 @@
 //! The numbers of a linear run that ends lean: a dual for each clause, and a unit for each variable.
+//!
+//! Either some weights of the variables have no balance below 0 and one above 0, or positive numbers of the clauses
+//! balance to 0 in each variable: of the two exactly one holds (Farkas, "Theorie der einfachen Ungleichungen", 1902,
+//! in the form of Stiemke, 1915). The duals are such numbers, so every weighting without a balance below 0 has only
+//! balances 0.
+//!
+//! Here a unit for each variable shows the rest: its shares balance to a number that is not 0 in that variable and to
+//! 0 in the others, so a weighting with only balances 0 is 0. Both are read off the rows in which a run ends, over the
+//! common denominator of a column.
 ghost use Rattle.std.specs.Prelude.{◌≡◌, ◌+◌, ◌<◌, ◌^◌, pos, negsuc, ◌<ℤ◌, ◌*ℤ◌, ◌⊎◌, int_div, length, map, IsTrue, IfOk, OnOk};
 ghost use Rattle.std.specs.List.{All, flat_map};
 ghost use Rattle.std.specs.Result.{result_err};

@@ -1,4 +1,11 @@
 //! The stage that stands where the run can't go on.
+//!
+//! The other case of Farkas' lemma (`ends`): the weights of the variables that the rows show where no solution is
+//! left. Their signs are a linear autarky of the clauses of the rows (Kullmann, "Investigations on Autark
+//! Assignments", 2000).
+//!
+//! Here such weights may also come from a row of the second phase, all whose balances are 0, and a formula is reduced
+//! by several stages one after another. An autarky is then given by the first of them that is not 0 on a variable.
 ghost use Rattle.std.specs.Prelude.{◌≡◌, ◌+◌, ◌<◌, ◌^◌, pos, negsuc, ◌⊎◌, length, map, IsTrue, IfOk, OnOk};
 ghost use Rattle.std.specs.List.{All, flat_map};
 ghost use Rattle.std.specs.Result.{result_err};

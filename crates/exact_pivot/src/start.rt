@@ -13,62 +13,8 @@ ghost use Rattle.exact_rows.specs.Made.{AreInRange};
 
 use crate::dense::DenseRow;
 use crate::equation::Equation;
-use crate::stop::PivotStop;
-use lk_model::{Formula, Lit, VarSet};
-use std::alloc::{AllocError, Global};
-
-/// The variables that occur in the clauses at the positions.
-pub fn occurring(alloc: Global, f: &Formula, kept: &[u32]) -> Result<Vec<u32>, PivotStop>
-    requires { IsTrue (rises_within 0 (length f.now.clauses) kept.now) }
-    ensures value { IfOk result (λ vars. vars.items ≡ variables_at f.now kept.now) }
-    ensures range { IfOk result (λ vars. All (λ v. v ≤ 1000000) vars.items) }
-    ensures limits { IsWithinLimits f.now }
-{
-    let n = f.vars();
-    let mut seen = match VarSet::new(alloc, n) {
-        Ok(seen) => seen,
-        Err(_) => return Err(PivotStop::OutOfMemory),
-    };
-    mark_all(&mut seen, f, kept);
-    let mut vars = Vec::new(alloc);
-    for v in 0..n {
-        push_if(&mut vars, seen.has(v + 1), v + 1)?;
-    }
-    Ok(vars)
-}
-
-// Appends the variable where it is wanted.
-fn push_if(vars: &mut Vec<u32>, wanted: bool, v: u32) -> Result<(), PivotStop>
-    ensures { OnOk result (vars.new.items ≡ vars.old.items ++ cond wanted (v ∷ []) []) }
-{
-    if wanted {
-        vars.push(v)?;
-    }
-    Ok(())
-}
-
-// Adds the variables of the clauses at the positions.
-fn mark_all(seen: &mut VarSet, f: &Formula, kept: &[u32])
-    requires kept { IsTrue (rises_within 0 (length f.now.clauses) kept.now) }
-    requires size { length seen.old ≡ f.now.vars }
-    ensures size { length seen.new ≡ length seen.old }
-    ensures value { (v : ℕ) → is_in seen.new v ≡ (is_in seen.old v || variable_occurs f.now kept.now v) }
-{
-    for p in kept {
-        mark(seen, f.clause(*p));
-    }
-}
-
-// Adds the variables of a clause.
-fn mark(seen: &mut VarSet, clause: &[Lit])
-    requires { IsTrue (is_clause (length seen.old) clause.now) }
-    ensures size { length seen.new ≡ length seen.old }
-    ensures value { (v : ℕ) → is_in seen.new v ≡ (is_in seen.old v || mentions clause.now v) }
-{
-    for l in clause {
-        seen.add(l.var());
-    }
-}
+use lk_model::{Formula, Lit, OutOfMemory};
+use std::alloc::Global;
 
 // 1 where the clause holds the variable alone, -1 where it holds its complement alone, else 0.
 fn incidence(clause: &[Lit], v: u32) -> i128
@@ -110,7 +56,7 @@ pub fn start_signs(
     f: &Formula,
     kept: &[u32],
     vars: &[u32],
-) -> Result<Vec<i128>, AllocError>
+) -> Result<Vec<i128>, OutOfMemory>
     requires kept { IsTrue (rises_within 0 (length f.now.clauses) kept.now) }
     requires vars { All (λ v. v ≤ 1000000) vars.now }
     ensures { IfOk result (λ signs. signs.items ≡ map (sign_of f.now kept.now) vars.now) }
@@ -128,7 +74,7 @@ pub fn start_rows(
     f: &Formula,
     kept: &[u32],
     vars: &[u32],
-) -> Result<Vec<Equation>, PivotStop>
+) -> Result<Vec<Equation>, OutOfMemory>
     requires kept { IsTrue (rises_within 0 (length f.now.clauses) kept.now) }
     requires vars { vars.now ≡ variables_at f.now kept.now }
     requires range { All (λ v. v ≤ 1000000) vars.now }
@@ -149,7 +95,7 @@ fn start_entries(
     kept: &[u32],
     vars: &[u32],
     v: u32,
-) -> Result<DenseRow, PivotStop>
+) -> Result<DenseRow, OutOfMemory>
     requires kept { IsTrue (rises_within 0 (length f.now.clauses) kept.now) }
     requires vars { vars.now ≡ variables_at f.now kept.now }
     requires v { v ≤ 1000000 }
@@ -191,7 +137,7 @@ fn push_clauses(
     kept: &[u32],
     v: u32,
     sign: i128,
-) -> Result<(), PivotStop>
+) -> Result<(), OutOfMemory>
     requires kept { IsTrue (rises_within 0 (length f.now.clauses) kept.now) }
     requires v { v ≤ 1000000 }
     requires sign { unsigned_abs sign ≡ 1 }
@@ -206,7 +152,7 @@ fn push_clauses(
 }
 
 // Appends 1 at the variable, and 0 at each other.
-fn push_units(entries: &mut Vec<i128>, vars: &[u32], v: u32) -> Result<(), PivotStop>
+fn push_units(entries: &mut Vec<i128>, vars: &[u32], v: u32) -> Result<(), OutOfMemory>
     requires range { AreInRange entries.old.items }
     ensures value { OnOk result (entries.new.items ≡ entries.old.items ++ map (λ w. cond (w == v) (pos 1) (pos 0)) vars.now) }
     ensures range { AreInRange entries.new.items }
@@ -218,7 +164,7 @@ fn push_units(entries: &mut Vec<i128>, vars: &[u32], v: u32) -> Result<(), Pivot
 }
 
 /// The cost row, for so many clauses.
-pub fn start_cost(alloc: Global, m: u32, rows: &[Equation]) -> Result<DenseRow, PivotStop>
+pub fn start_cost(alloc: Global, m: u32, rows: &[Equation]) -> Result<DenseRow, OutOfMemory>
     requires size { m + length rows.now + 2 < 2 ^ 32 }
     requires small { All (λ (row : Row). AreSmall row.entries) rows.now }
     ensures { IfOk result (λ cost. cost ≡ cost_of m rows.now) }
@@ -233,7 +179,7 @@ pub fn start_cost(alloc: Global, m: u32, rows: &[Equation]) -> Result<DenseRow, 
 }
 
 // Appends less the sum of each column of a clause.
-fn push_columns(cost: &mut Vec<i128>, m: u32, rows: &[Equation]) -> Result<(), PivotStop>
+fn push_columns(cost: &mut Vec<i128>, m: u32, rows: &[Equation]) -> Result<(), OutOfMemory>
     requires size { m + length rows.now + 2 < 2 ^ 32 }
     requires small { All (λ (row : Row). AreSmall row.entries) rows.now }
     requires range { AreInRange cost.old.items }
@@ -247,7 +193,7 @@ fn push_columns(cost: &mut Vec<i128>, m: u32, rows: &[Equation]) -> Result<(), P
 }
 
 // Appends so many times 0.
-fn push_none(cost: &mut Vec<i128>, r: u32) -> Result<(), PivotStop>
+fn push_none(cost: &mut Vec<i128>, r: u32) -> Result<(), OutOfMemory>
     requires range { AreInRange cost.old.items }
     ensures value { OnOk result (cost.new.items ≡ cost.old.items ++ replicate r (pos 0)) }
     ensures range { AreInRange cost.new.items }

@@ -1,4 +1,12 @@
 //! The rows of the linear run at one moment.
+//!
+//! The first phase of the simplex method for numbers of the clauses that are at least 1 and whose balance is 0 in each
+//! variable. The least column enters, and of equal quotients the row with the least basic column leaves (Bland, "New
+//! Finite Pivoting Rules for the Simplex Method", 1977).
+//!
+//! Here all numbers are whole: a row is multiplied, not divided by the pivot, and then divided by its content. The
+//! cost row has a column of its own for the factor by which it was multiplied, the cost unit. A result that does not
+//! fit ends the call with its operands, and nothing is rounded.
 ghost use Rattle.std.specs.Prelude.{◌≡◌, ℕ, pos, ◌+◌, ◌<◌, ◌≤◌, ◌^◌, ◌≤ℤ◌, length, IsTrue, IfOk};
 ghost use Rattle.lk_model.specs.Lists.{rises_within};
 ghost use Rattle.lk_model.specs.Linear.Rows.{start_of, entry, row_at, m_of, r_of, right_column};
@@ -13,7 +21,7 @@ use crate::dense::DenseRow;
 use crate::ends::{duals, units};
 use crate::equation::{Equation, clear_all};
 use crate::stages::{artificial_row, basic_of, entry_of, stage};
-use crate::start::{occurring, start_cost, start_rows, start_signs};
+use crate::start::{start_cost, start_rows, start_signs};
 use crate::stop::{Next, PivotStop};
 use exact_rows::compare_ratio;
 use lk_model::{Dual, Formula, List, OutOfMemory, Stage, Unit};
@@ -53,19 +61,9 @@ impl Tableau {
         requires { IsTrue (rises_within 0 (length f.now.clauses) kept.now) }
         ensures { IfOk result (λ t. t ≡ start_of f.now kept.now) }
     {
-        match Tableau::start(alloc, f, kept) {
-            Ok(tableau) => Ok(tableau),
-            Err(_) => Err(OutOfMemory),
-        }
-    }
-
-    fn start(alloc: Global, f: &Formula, kept: &[u32]) -> Result<Tableau, PivotStop>
-        requires { IsTrue (rises_within 0 (length f.now.clauses) kept.now) }
-        ensures { IfOk result (λ t. t ≡ start_of f.now kept.now) }
-    {
         let mut positions = Vec::with_capacity(alloc, kept.len())?;
         positions.extend_from_slice(kept)?;
-        let vars = occurring(alloc, f, kept)?;
+        let vars = f.occurring(alloc, kept)?.into_vec();
         let signs = start_signs(alloc, f, kept, &vars)?;
         let rows = start_rows(alloc, f, kept, &vars)?;
         let cost = start_cost(alloc, kept.len() as u32, &rows)?;

@@ -1,11 +1,13 @@
 //! Comparison of fractions.
+//!
+//! By continued fractions, as in Euclid's algorithm: whole parts first, and then what is left, the other way up.
 ghost use Rattle.std.specs.Prelude.{◌≡◌, ◌*◌, ◌<◌, pos, ◌*ℤ◌, ◌≤ℤ◌, ◌<ℤ◌};
 ghost use Rattle.std.specs.Ordering.{nat_cmp, int_cmp};
 
 use std::cmp::Ordering;
 
-/// The order of the fractions a/b and c/d. It is exact for all numbers that fit: the whole parts are compared
-/// first, and no product is formed.
+/// The order of the fractions a/b and c/d, where a and c are not below 0 and b and d are above 0. It is exact for all
+/// numbers that fit: the whole parts are compared first, and no product is formed.
 pub fn compare_ratio(a: i128, b: i128, c: i128, d: i128) -> Ordering
     requires a { pos 0 ≤ℤ a }
     requires b { pos 0 <ℤ b }

@@ -1,4 +1,10 @@
 //! Rows of whole numbers.
+//!
+//! A combination of two rows in whole numbers, as in elimination without fractions: the factors are divided by their
+//! greatest common divisor first, and the result by its content, so that numbers stay as small as this allows.
+//!
+//! Here all results are tried before the first entry changes. So a row is as it was where one of them does not fit,
+//! the first one is told with its operands, and no copy of the row is made.
 ghost use Rattle.std.specs.Prelude.{◌≡◌, ◌≢◌, pos, ◌<ℤ◌, ◌*ℤ◌, ◌-ℤ◌, int_div, length, IsTrue, OnOk, OnErr, None};
 ghost use Rattle.std.specs.Result.{result_err};
 ghost use Rattle.lk_model.specs.Limits.{is_in_range};

@@ -1,4 +1,7 @@
 //! Signs of sums.
+//!
+//! Nothing wider than the numbers themselves is needed: the sum so far is kept between the least and the greatest
+//! number, by adding next a number of the other sign.
 ghost use Rattle.std.specs.Prelude.{◌≡◌, pos, int_lt};
 ghost use Rattle.std.specs.List.{list_any};
 ghost use Rattle.std.specs.Ordering.{int_cmp};

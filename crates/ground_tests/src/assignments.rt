@@ -1,33 +1,58 @@
 //! Partial assignments.
 ghost use Rattle.std.specs.Prelude.{◌≡◌, length, IfOk};
 
-use crate::parts::{number_in, part};
+use crate::parts::{Parts, number_of};
+use lk_model::Lit;
 use lk_samples::{formula_of_text, literals_of_text, makes_clause};
 use partial_assign::Partial;
-use std::alloc::Global;
+use std::alloc::{AllocError, Global};
 use std::test::Fail;
 
-/// The assignment of the variables from 1 to n that makes these literals true, and no more.
-fn assignment_of(alloc: Global, n: u32, literals: &str) -> Result<Partial, Fail>
+/// Makes literals on unset variables from 1 to n true: whether they are such.
+fn sets(assignment: &mut Partial, n: u32, lits: &[Lit]) -> bool
+    requires { length assignment.old ≡ n }
+    ensures { length assignment.new ≡ n }
+{
+    for l in lits {
+        if l.var() > n || assignment.value(l.var()).is_some() {
+            return false;
+        }
+        assignment.put(*l);
+    }
+    true
+}
+
+/// The assignment of the variables from 1 to n without a value.
+fn unset(alloc: Global, n: u32) -> Result<Partial, Fail>
     ensures { IfOk result (λ p. length p ≡ n) }
 {
     if n > 1_000_000 {
         return Err(Fail::from("too many variables"));
     }
-    let mut assignment = Partial::new(alloc, n)?;
-    for l in literals_of_text(alloc, literals)?.as_slice() {
-        if l.var() > n || assignment.value(l.var()).is_some() {
-            return Err(Fail::from("not unset"));
-        }
-        assignment.put(*l);
+    Ok(Partial::new(alloc, n)?)
+}
+
+/// The assignment of the variables from 1 to n that makes these literals true, and no more.
+fn assignment_of(alloc: Global, n: u32, literals: &str) -> Result<Partial, Fail>
+    ensures { IfOk result (λ p. length p ≡ n) }
+{
+    let lits = literals_of_text(alloc, literals)?;
+    let mut assignment = unset(alloc, n)?;
+    if !sets(&mut assignment, n, lits.as_slice()) {
+        return Err(Fail::from("not unset"));
     }
     Ok(assignment)
 }
 
 /// `values N | LITERALS`: how many variables the assignment has, and the values of all.
-pub(crate) fn put_values(alloc: Global, parts: &[&str], out: &mut String) -> Result<(), Fail> {
-    let assignment = assignment_of(alloc, number_in(parts, 0)?, part(parts, 1))?;
+pub(crate) fn put_values(alloc: Global, parts: Parts, out: &mut String) -> Result<(), Fail> {
+    let assignment = assignment_of(alloc, number_of(parts.first), parts.second)?;
     write!(out, " {}:", assignment.vars())?;
+    put_each(&assignment, out)?;
+    Ok(())
+}
+
+fn put_each(assignment: &Partial, out: &mut String) -> Result<(), AllocError> {
     for v in 0..assignment.vars() {
         write!(out, " {:?}", assignment.value(v + 1))?;
     }
@@ -35,24 +60,39 @@ pub(crate) fn put_values(alloc: Global, parts: &[&str], out: &mut String) -> Res
 }
 
 /// `clause N | LITERALS | CLAUSE`: whether the assignment touches and satisfies the clause.
-pub(crate) fn put_clause(alloc: Global, parts: &[&str], out: &mut String) -> Result<(), Fail> {
-    let n = number_in(parts, 0)?;
-    let assignment = assignment_of(alloc, n, part(parts, 1))?;
-    let clause = literals_of_text(alloc, part(parts, 2))?;
-    if makes_clause(n, clause.as_slice()) {
-        let touches = assignment.touches(clause.as_slice());
-        let satisfies = assignment.satisfies(clause.as_slice());
-        write!(out, " {touches} {satisfies}")?;
-    }
+pub(crate) fn put_clause(alloc: Global, parts: Parts, out: &mut String) -> Result<(), Fail> {
+    let n = number_of(parts.first);
+    let clause = literals_of_text(alloc, parts.third)?;
+    let assignment = assignment_of(alloc, n, parts.second)?;
+    put_tests(&assignment, n, clause.as_slice(), out)?;
     Ok(())
 }
 
+fn put_tests(
+    assignment: &Partial,
+    n: u32,
+    clause: &[Lit],
+    out: &mut String,
+) -> Result<(), AllocError>
+    requires { length assignment.now ≡ n }
+{
+    if !makes_clause(n, clause) {
+        return Ok(());
+    }
+    let touches = assignment.touches(clause);
+    let satisfies = assignment.satisfies(clause);
+    write!(out, " {touches} {satisfies}")
+}
+
 /// `first N | LITERALS | CLAUSES`: the first position whose clause is touched and not satisfied.
-pub(crate) fn put_first(alloc: Global, parts: &[&str], out: &mut String) -> Result<(), Fail> {
-    let n = number_in(parts, 0)?;
-    let assignment = assignment_of(alloc, n, part(parts, 1))?;
-    let f = formula_of_text(alloc, n, part(parts, 2))?;
-    let first = assignment.first_unsatisfied_touched(&f);
+pub(crate) fn put_first(alloc: Global, parts: Parts, out: &mut String) -> Result<(), Fail> {
+    let first = first_of(alloc, number_of(parts.first), parts)?;
     write!(out, " {first:?}")?;
     Ok(())
+}
+
+fn first_of(alloc: Global, n: u32, parts: Parts) -> Result<Option<u32>, Fail> {
+    let assignment = assignment_of(alloc, n, parts.second)?;
+    let f = formula_of_text(alloc, n, parts.third)?;
+    Ok(assignment.first_unsatisfied_touched(&f))
 }

@@ -2,31 +2,36 @@
 ghost use Rattle.std.specs.Prelude.{IsTrue};
 ghost use Rattle.lk_text.specs.Cutting.{is_one_line};
 
-use crate::parts::{number_in, part, text_of};
+use crate::parts::{Parts, number_of, text_of};
 use lk_text::{next_line, next_word};
-use std::alloc::Global;
-use std::test::Fail;
+use std::alloc::{AllocError, Global};
 
 /// `line FROM | TEXT`: where the next line lies.
-pub(crate) fn put_line(alloc: Global, parts: &[&str], out: &mut String) -> Result<(), Fail> {
-    let text = text_of(alloc, part(parts, 1))?;
-    let from = number_in(parts, 0)? as usize;
-    if from <= text.len() {
-        let cut = next_line(text.as_bytes(), from);
-        write!(out, " {cut:?}")?;
+pub(crate) fn put_line(alloc: Global, parts: Parts, out: &mut String) -> Result<(), AllocError> {
+    let text = text_of(alloc, parts.second)?;
+    put_next_line(text.as_bytes(), number_of(parts.first) as usize, out)
+}
+
+fn put_next_line(text: &[u8], from: usize, out: &mut String) -> Result<(), AllocError> {
+    if from > text.len() {
+        return Ok(());
     }
-    Ok(())
+    let cut = next_line(text, from);
+    write!(out, " {cut:?}")
 }
 
 /// `word FROM | LINE`: where the next word lies.
-pub(crate) fn put_word(alloc: Global, parts: &[&str], out: &mut String) -> Result<(), Fail> {
-    let text = text_of(alloc, part(parts, 1))?;
-    let from = number_in(parts, 0)? as usize;
-    if from <= text.len() && is_line(text.as_bytes()) {
-        let cut = next_word(text.as_bytes(), from);
-        write!(out, " {cut:?}")?;
+pub(crate) fn put_word(alloc: Global, parts: Parts, out: &mut String) -> Result<(), AllocError> {
+    let text = text_of(alloc, parts.second)?;
+    put_next_word(text.as_bytes(), number_of(parts.first) as usize, out)
+}
+
+fn put_next_word(line: &[u8], from: usize, out: &mut String) -> Result<(), AllocError> {
+    if from > line.len() || !is_line(line) {
+        return Ok(());
     }
-    Ok(())
+    let cut = next_word(line, from);
+    write!(out, " {cut:?}")
 }
 
 /// Whether no line ends in these bytes.

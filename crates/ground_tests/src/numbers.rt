@@ -1,23 +1,22 @@
 //! Numbers and their words.
-use crate::parts::part;
+use crate::parts::{Parts, put_bytes};
 use lk_text::{classify, put_i128, read_natural, read_plain};
-use std::alloc::Global;
+use std::alloc::{AllocError, Global};
 use std::test::Fail;
 
 /// `number WORD`: what number the word is, what digits it has, and what number it spells shortest.
-pub(crate) fn put_number(parts: &[&str], out: &mut String) -> Result<(), Fail> {
-    let word = part(parts, 0).as_bytes();
+pub(crate) fn put_number(parts: Parts, out: &mut String) -> Result<(), AllocError> {
+    let word = parts.first.as_bytes();
     let kind = classify(word);
     let natural = read_natural(word);
     let plain = read_plain(word);
-    write!(out, " {kind:?} {natural:?} {plain:?}")?;
-    Ok(())
+    write!(out, " {kind:?} {natural:?} {plain:?}")
 }
 
 /// `spell NUMBER`: its spelling.
-pub(crate) fn put_spelling(alloc: Global, parts: &[&str], out: &mut String) -> Result<(), Fail> {
+pub(crate) fn put_spelling(alloc: Global, parts: Parts, out: &mut String) -> Result<(), Fail> {
     let mut text = Vec::new(alloc);
-    put_i128(&mut text, part(parts, 0).parse()?)?;
-    write!(out, " {}", text.as_slice().escape_ascii())?;
+    put_i128(&mut text, parts.first.parse().unwrap_or(0))?;
+    put_bytes(text.as_slice(), out)?;
     Ok(())
 }

@@ -8,7 +8,8 @@ use Rattle.lk_model.specs.Formulas.Literal.{variable, complement, contains, ment
 use Rattle.lk_model.specs.Formulas.Assignment.{assignment_of, makes_true}
 use Rattle.lk_model.proofs.Booleans.{or_true}
 use Rattle.lk_model.proofs.Rising.{rises, bounded}
-use Rattle.kernel_laws.proofs.Clauses.{same_int, mentions_of, mentioned_among}
+use Rattle.lk_model.proofs.Literals.{same_int}
+use Rattle.kernel_laws.proofs.Clauses.{mentions_of, mentioned_among}
 
 -- the variable of each literal is not that of a later one
 abbrev pub AreApart : List ℤ → Type 0

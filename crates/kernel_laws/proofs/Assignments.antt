@@ -3,7 +3,8 @@ use Rattle.std.proofs.Common.{◌≡◌, ◌≢◌, zero, suc, Bool, true, false
 use Rattle.std.proofs.lemmas.Bool.{both_ways, cases_Bool}
 use Rattle.lk_model.specs.Formulas.Literal.{variable, complement, contains}
 use Rattle.lk_model.specs.Formulas.Assignment.{Assignment, makes_true, touches, satisfies}
-use Rattle.lk_model.proofs.Variables.{any_literal, literal_passing}
+use Rattle.lk_model.proofs.Variables.{literal_passing}
+use Rattle.lk_model.proofs.ListTests.{passes_one}
 
 -- a true literal's variable is set
 pub set_where_true : (φ : Assignment) (l : ℤ) → makes_true φ l ≡ true → is_some (φ (variable l)) ≡ true
@@ -36,7 +37,7 @@ not_both_true φ (negsuc k) n e f = at_value (φ (suc k)) e f
 
 -- a clause with a literal on a variable that is set is touched
 pub touched_at : (φ : Assignment) (c : List ℤ) (l : ℤ) → contains c l ≡ true → is_some (φ (variable l)) ≡ true → touches φ c ≡ true
-touched_at φ c l m e = any_literal (λ k. is_some (φ (variable k))) c l m e
+touched_at φ c l m e = passes_one (λ k. is_some (φ (variable k))) c l m e
 
 -- and a literal that shows it
 pub touching : (φ : Assignment) (c : List ℤ) → touches φ c ≡ true → (l : ℤ) × (contains c l ≡ true) × (is_some (φ (variable l)) ≡ true)
@@ -44,7 +45,7 @@ touching φ c e = literal_passing (λ k. is_some (φ (variable k))) c e
 
 -- a clause with a true literal is satisfied
 pub satisfied_at : (φ : Assignment) (c : List ℤ) (l : ℤ) → contains c l ≡ true → makes_true φ l ≡ true → satisfies φ c ≡ true
-satisfied_at φ c l m e = any_literal (makes_true φ) c l m e
+satisfied_at φ c l m e = passes_one (makes_true φ) c l m e
 
 -- and a literal that shows it
 pub satisfying : (φ : Assignment) (c : List ℤ) → satisfies φ c ≡ true → (l : ℤ) × (contains c l ≡ true) × (makes_true φ l ≡ true)

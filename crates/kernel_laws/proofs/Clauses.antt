@@ -1,30 +1,17 @@
 -- Clauses as sets of literals.
-use Rattle.std.proofs.Common.{◌≡◌, ℕ, zero, suc, Bool, true, false, not, ◌&&◌, ◌||◌, ◌==◌, List, [], ◌∷◌, ◌++◌, map, refl, sym, ◌∙◌, ap, ℤ, pos, negsuc, ◌⊎◌, inl, inr, filter, neg_ℤ}
+use Rattle.std.proofs.Common.{◌≡◌, ℕ, Bool, true, false, not, ◌||◌, ◌==◌, List, [], ◌∷◌, ◌++◌, map, refl, sym, ◌∙◌, ap, ℤ, pos, negsuc, ◌⊎◌, inl, inr, filter, neg_ℤ}
 use Rattle.std.specs.Ordering.{int_eq}
 use Rattle.std.specs.Cmp.{signed_Decides}
 use Rattle.std.proofs.lemmas.Bool.{not_from_false, eq-eqb}
 use Rattle.std.proofs.lemmas.Bool.Decides.{Decides-eqb, same_from_decides}
 use Rattle.std.proofs.lemmas.List.Folds.{list_any-append}
-use Rattle.std.proofs.lemmas.Map.Views.{any-filter_same}
 use Rattle.lk_model.specs.Lists.{among}
-use Rattle.lk_model.specs.Formulas.Literal.{variable, complement, contains, mentions, is_within, is_same_set}
+use Rattle.lk_model.specs.Formulas.Literal.{variable, contains, mentions, is_within, is_same_set}
 use Rattle.lk_model.specs.Chains.Chain.{without}
 use Rattle.lk_model.proofs.Booleans.{and_true, or_true, or_left, or_right}
-use Rattle.lk_model.proofs.ListTests.{passes_each}
-use Rattle.lk_model.proofs.Variables.{any_literal}
+use Rattle.lk_model.proofs.ListTests.{passes_each, passes_one}
+use Rattle.lk_model.proofs.Literals.{same_int, contains_filter, variable_complement}
 use Rattle.kernel_laws.proofs.Tests.{any_same, any_or}
-
--- literals that pass the test are equal
-pub same_int : (a b : ℤ) → int_eq a b ≡ true → a ≡ b
-same_int a b e = (signed_Decides a b).0 e
-
--- a literal passes it with itself
-pub int_self : (a : ℤ) → int_eq a a ≡ true
-int_self a = (signed_Decides a a).1 refl
-
--- a literal that stands in a filtered clause passes the test and stands in the clause
-pub contains_filter : (t : ℤ → Bool) (c : List ℤ) (l : ℤ) → contains (filter t c) l ≡ (t l && contains c l)
-contains_filter t c l = any-filter_same (int_eq l) t (t l) (λ k e. ap t (sym (same_int l k e))) c
 
 -- what passes and stands in the clause stands in the filtered one
 pub in_filtered : (t : ℤ → Bool) (c : List ℤ) (l : ℤ) → t l ≡ true → contains c l ≡ true → contains (filter t c) l ≡ true
@@ -65,15 +52,9 @@ of_same c d l e h = passes_each (contains d) c l ((and_true (is_within c d) (is_
 pub same_of : (c d : List ℤ) (l : ℤ) → is_same_set c d ≡ true → contains d l ≡ true → contains c l ≡ true
 same_of c d l e h = passes_each (contains c) d l ((and_true (is_within c d) (is_within d c) e).1) h
 
--- a literal and its complement are on one variable
-pub variable_complement : (l : ℤ) → variable (complement l) ≡ variable l
-variable_complement (pos zero) = refl
-variable_complement (pos (suc k)) = refl
-variable_complement (negsuc k) = refl
-
 -- a literal of the list is on a variable that the list mentions
 pub mentions_of : (ls : List ℤ) (l : ℤ) → contains ls l ≡ true → mentions ls (variable l) ≡ true
-mentions_of ls l m = any_literal (λ k. variable k == variable l) ls l m (eq-eqb (variable l) (variable l) refl)
+mentions_of ls l m = passes_one (λ k. variable k == variable l) ls l m (eq-eqb (variable l) (variable l) refl)
 
 -- so that it is among the variables of the list
 pub mentioned_among : (ls : List ℤ) (v : ℕ) → mentions ls v ≡ true → among (map variable ls) v ≡ true

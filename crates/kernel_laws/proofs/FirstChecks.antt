@@ -17,7 +17,7 @@ use Rattle.lk_model.specs.Checks.RoundChecks.{every_clause}
 use Rattle.lk_model.specs.declared.document.DoneDocument.{DoneDocument}
 use Rattle.lk_model.specs.declared.document.OpenDocument.{OpenDocument}
 use Rattle.lk_model.proofs.Founds.{none_found, line_of, same_itself, is_position}
-use Rattle.kernel_laws.specs.ClauseLines.{clauses_at}
+use Rattle.lk_model.specs.Formulas.Formula.{clauses_at}
 use Rattle.kernel_laws.proofs.Tests.{follows}
 
 -- the numbers are the formula's

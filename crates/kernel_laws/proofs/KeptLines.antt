@@ -1,40 +1,17 @@
 -- The clauses at rising positions are clauses of the formula, and no more than all.
-use Rattle.std.proofs.Common.{◌≡◌, ℕ, zero, suc, ◌+◌, ◌<◌, ◌≤◌, ◌∙◌, true, List, [], ◌∷◌, length, map, drop, get_or, refl, ap, arith, ℤ, sum_by}
+use Rattle.std.proofs.Common.{◌≡◌, ℕ, true, List, length, map, refl, arith, sum_by}
 use Rattle.std.specs.Prelude.{◌==◌, nat_le}
 use Rattle.std.specs.List.{list_all}
 use Rattle.std.proofs.lemmas.Bool.{le-leb, eq-eqb, and_from}
 use Rattle.std.proofs.lemmas.List.{length-map}
-use Rattle.std.proofs.lemmas.List.Sums.{sum_by-cons, sum_by-take-drop}
-use Rattle.std.proofs.Math.Seq.{drop-cons}
-use Rattle.lk_model.specs.Lists.{rises_within}
 use Rattle.lk_model.specs.Limits.{max_literals}
 use Rattle.lk_model.specs.Formulas.Literal.{is_clause}
-use Rattle.lk_model.specs.Formulas.Formula.{Cnf, clause_at, is_formula, literal_count, IsWithinLimits}
+use Rattle.lk_model.specs.Formulas.Formula.{Cnf, clause_at, clauses_at, is_formula, literal_count, IsWithinLimits}
 use Rattle.lk_model.specs.Formulas.Lean.{are_positions}
 use Rattle.lk_model.specs.Documents.Form.{are_clause_lines}
 use Rattle.lk_model.proofs.Clauses.{form_at}
-use Rattle.lk_model.proofs.Rising.{rises}
 use Rattle.lk_model.proofs.Founds.{all_pass}
-use Rattle.kernel_laws.specs.ClauseLines.{clauses_at}
-
--- a later rest has no more literals
-rest_le : (low k : ℕ) (cs : List (List ℤ)) → low ≤ k → sum_by length (drop k cs) ≤ sum_by length (drop low cs)
-rest_le zero k cs h = omega (arith, sum_by-take-drop length cs k)
-rest_le (suc low) zero cs h = absurd (omega (arith, h))
-rest_le (suc low) (suc k) [] h = omega arith
-rest_le (suc low) (suc k) (c ∷ cs) h = rest_le low k cs (omega (arith, h))
-
--- the literals of the clauses at rising positions are among those that lie behind the first bound
-pub kept_le : (F : Cnf) (low : ℕ) (ps : List ℕ) → rises_within low (length F.clauses) ps ≡ true → sum_by length (map (clause_at F) ps) ≤ sum_by length (drop low F.clauses)
-kept_le F low [] h = omega arith
-kept_le F low (zero ∷ ps) h = let r = rises low (length F.clauses) zero ps h in absurd (omega (arith, r.above))
-kept_le F low (suc k ∷ ps) h =
-    let r = rises low (length F.clauses) (suc k) ps h in
-    let before : low ≤ k = omega (arith, r.above) in
-    let inside : k < length F.clauses = omega (arith, r.within) in
-    let here : sum_by length (drop k F.clauses) ≡ length (get_or F.clauses k []) + sum_by length (drop (suc k) F.clauses) =
-    ap (sum_by length) (drop-cons F.clauses k [] inside) ∙ sum_by-cons length (get_or F.clauses k []) (drop (suc k) F.clauses) in
-    omega (arith, rest_le low k F.clauses before, here, kept_le F (suc k) ps r.more, sum_by-cons length (clause_at F (suc k)) (map (clause_at F) ps))
+use Rattle.lk_model.proofs.ClausesAt.{kept_le}
 
 -- the clause lines of the kept positions are in form
 pub lines_form : (F : Cnf) (kept : List ℕ) → is_formula F ≡ true → IsWithinLimits F → are_positions F kept ≡ true

@@ -9,8 +9,8 @@ use Rattle.lk_model.specs.Lists.{among, rises_within}
 use Rattle.lk_model.specs.Formulas.Lean.{IsLean, Kernel, are_positions, all_of}
 use Rattle.lk_model.proofs.Booleans.{or_true}
 use Rattle.lk_model.proofs.Rising.{rises, bounded}
+use Rattle.lk_model.proofs.Lists.{among_here, among_later}
 use Rattle.kernel_laws.proofs.Autarkies.{untouched_by}
-use Rattle.kernel_laws.proofs.Tests.{among_here, among_later}
 
 Includes : ℕ → ℕ → List ℕ → List ℕ → Type 0
 Includes low high ps qs = (p : ℕ) → low < p → p ≤ high → among ps p ≡ true → among qs p ≡ true

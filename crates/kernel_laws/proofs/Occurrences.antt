@@ -5,10 +5,11 @@ use Rattle.lk_model.specs.Lists.{among, is_between}
 use Rattle.lk_model.specs.Formulas.Literal.{variable, contains, mentions}
 use Rattle.lk_model.specs.Formulas.Formula.{Cnf, clause_at, is_formula, positions_of, variables_to, variable_occurs}
 use Rattle.lk_model.specs.Formulas.Lean.{are_positions, all_of}
-use Rattle.lk_model.proofs.Booleans.{and_true, or_true, or_left, or_right}
+use Rattle.lk_model.proofs.Booleans.{and_true, or_true}
 use Rattle.lk_model.proofs.Rising.{bounded}
 use Rattle.lk_model.proofs.Counting.{among-range}
-use Rattle.lk_model.proofs.Variables.{any_literal, occurs, variable_bound, in_variables}
+use Rattle.lk_model.proofs.Variables.{occurs, variable_bound, in_variables, position_with}
+use Rattle.lk_model.proofs.ListTests.{passes_one}
 
 -- each position is one of the list of them
 pub in_positions : (F : Cnf) (p : ℕ) → all_of F p ≡ true → among (positions_of F) p ≡ true
@@ -34,15 +35,7 @@ occurring F (p ∷ kept) v form e = elim (or_true (mentions (clause_at F p) v) (
 -- a literal of a clause at these positions is on a variable that occurs there
 pub occurs_here : (F : Cnf) (P : List ℕ) (p : ℕ) (l : ℤ) → among P p ≡ true → contains (clause_at F p) l ≡ true → variable_occurs F P (variable l) ≡ true
 occurs_here F P p l m held =
-    occurs F P p (variable l) m (any_literal (λ k. variable k == variable l) (clause_at F p) l held (eq-eqb (variable l) (variable l) refl))
-
--- where a variable occurs, and so it occurs at more positions
-pub position_with : (F : Cnf) (xs : List ℕ) (v : ℕ) → variable_occurs F xs v ≡ true → (p : ℕ) × (among xs p ≡ true) × (mentions (clause_at F p) v ≡ true)
-position_with F [] v e = absurd (let f : ⊥ = cc in f)
-position_with F (p ∷ xs) v e = elim (or_true (mentions (clause_at F p) v) (variable_occurs F xs v) e) [
-  | inl here ↦ (p, or_left (p == p) (among xs p) (eq-eqb p p refl), here)
-  | inr later ↦ (let w = position_with F xs v later in (w.0, or_right (p == w.0) (among xs w.0) w.1, w.2))
-]
+    occurs F P p (variable l) m (passes_one (λ k. variable k == variable l) (clause_at F p) l held (eq-eqb (variable l) (variable l) refl))
 
 -- a variable that occurs at some positions occurs at more
 pub occurs_more : (F : Cnf) (ps qs : List ℕ) (v : ℕ) → ((p : ℕ) → among ps p ≡ true → among qs p ≡ true) → variable_occurs F ps v ≡ true → variable_occurs F qs v ≡ true

@@ -1,9 +1,9 @@
 -- Two tests together, and tests over lists.
-use Rattle.std.proofs.Common.{◌≡◌, ℕ, Bool, true, false, not, ◌&&◌, ◌||◌, ◌==◌, List, [], ◌∷◌, refl, ap, inl, inr}
-use Rattle.std.specs.List.{list_any, list_all}
-use Rattle.std.proofs.lemmas.Bool.{eq-eqb, not-false}
+use Rattle.std.proofs.Common.{◌≡◌, ℕ, Bool, true, false, not, ◌&&◌, ◌||◌, cond, List, [], ◌∷◌, filter, refl, ap, ◌∙◌}
+use Rattle.std.specs.List.{list_any}
+use Rattle.std.proofs.lemmas.Bool.{not-false}
 use Rattle.lk_model.specs.Lists.{among}
-use Rattle.lk_model.proofs.Booleans.{and_true, or_true, or_left, or_right}
+use Rattle.lk_model.proofs.Lists.{among_here, among_later}
 
 -- where the first of two tests passes and not both, the second fails
 pub second_fails : (a b : Bool) → a ≡ true → (a && b) ≡ false → b ≡ false
@@ -36,23 +36,9 @@ any_or s t (x ∷ xs) = rw (any_or s t xs) (swap (s x) (t x) (list_any s xs) (li
     swap false false true d = refl
     swap false false false d = refl
 
--- what passes one test at each element passes a weaker one
-pub all_weaker : {X : Type 0} (p q : X → Bool) → ((x : X) → p x ≡ true → q x ≡ true) → (xs : List X) → list_all p xs ≡ true → list_all q xs ≡ true
-all_weaker p q h [] e = refl
-all_weaker p q h (x ∷ xs) e = let b = and_true (p x) (list_all p xs) e in rw (h x b.0, all_weaker p q h xs b.1) refl
-
--- the first number of a list stands there
-pub among_here : (n : ℕ) (ns : List ℕ) → among (n ∷ ns) n ≡ true
-among_here n ns = or_left (n == n) (among ns n) (eq-eqb n n refl)
-
--- and so does a later one
-pub among_later : (n k : ℕ) (ns : List ℕ) → among ns k ≡ true → among (n ∷ ns) k ≡ true
-among_later n k ns e = or_right (n == k) (among ns k) e
-
--- a number of the list that passes
-pub passing : (t : ℕ → Bool) (ps : List ℕ) → list_any t ps ≡ true → (p : ℕ) × (among ps p ≡ true) × (t p ≡ true)
-passing t [] e = absurd (let f : ⊥ = cc in f)
-passing t (p ∷ ps) e = elim (or_true (t p) (list_any t ps) e) [
-  | inl here ↦ (p, among_here p ps, here)
-  | inr later ↦ (let w = passing t ps later in (w.0, among_later p w.0 ps w.1, w.2))
-]
+-- tests that agree on the numbers of a list leave the same ones
+pub filter_same : (t u : ℕ → Bool) (ns : List ℕ) → ((n : ℕ) → among ns n ≡ true → t n ≡ u n) → filter t ns ≡ filter u ns
+filter_same t u [] h = refl
+filter_same t u (n ∷ ns) h =
+    ap (λ (b : Bool). cond b (n ∷ filter t ns) (filter t ns)) (h n (among_here n ns))
+    ∙ ap (λ (ks : List ℕ). cond (u n) (n ∷ ks) ks) (filter_same t u ns (λ k m. h k (among_later n k ns m)))

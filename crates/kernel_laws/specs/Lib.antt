@@ -1,7 +1,6 @@
 -- Of every class.
 pub mod OneKernel
 pub mod Accepted
-pub mod ClauseLines
 -- Of one class.
 pub mod Pure
 pub mod Matching

@@ -1,10 +1,11 @@
 //! Formulas and parts from texts.
-ghost use Rattle.std.specs.Prelude.{IfSome, IsTrue};
+ghost use Rattle.std.specs.Prelude.{IfOk, IsTrue};
 ghost use Rattle.lk_model.specs.Formulas.Lean.{are_positions};
 
 use lk_model::{Formula, Lit};
-use lk_samples::{has_part, makes_clause, positions};
+use lk_samples::{has_part, positions};
 use std::alloc::{AllocError, Global};
+use std::test::Fail;
 
 /// The number behind another one, or before it where that is negative.
 fn next(number: i32) -> i32 {
@@ -36,63 +37,88 @@ fn numbers_of(alloc: Global, text: &str) -> Result<Vec<i32>, AllocError> {
     Ok(numbers)
 }
 
-/// Appends the clause of the numbers other than 0, and tells whether they make one.
-pub(crate) fn push(alloc: Global, f: &mut Formula, numbers: &[i32]) -> bool {
-    let lits = numbers.iter().filter_map(|number| Lit::new(*number));
-    match lits.collect::<Vec<Lit>>(alloc) {
-        Ok(lits) => makes_clause(f.vars(), lits.as_slice())
-            && f.push_clause(lits.as_slice()).is_ok(),
-        Err(_) => false,
+/// The literals of the numbers other than 0.
+fn literals_of(alloc: Global, numbers: &[i32]) -> Result<Vec<Lit>, AllocError> {
+    let mut lits = Vec::new(alloc);
+    for number in numbers {
+        if let Some(l) = Lit::new(*number) {
+            lits.push(l)?;
+        }
+    }
+    Ok(lits)
+}
+
+/// Appends the clause of the numbers other than 0.
+pub(crate) fn push(alloc: Global, f: &mut Formula, numbers: &[i32]) -> Result<(), Fail> {
+    let lits = literals_of(alloc, numbers)?;
+    lk_samples::push(f, lits.as_slice())
+}
+
+/// Goes on to the numbers behind these.
+fn advance(numbers: &mut [i32]) {
+    for number in numbers.iter_mut() {
+        *number = next(*number);
     }
 }
 
-/// Appends the clauses of a text, and tells whether they are clauses.
-fn push_clauses(alloc: Global, f: &mut Formula, text: &str) -> bool {
-    let (clause, count) = text.split_once("*").unwrap_or((text, "1"));
-    let Ok(mut numbers) = numbers_of(alloc, clause) else {
-        return false;
-    };
-    for _ in 0..count.trim().parse().unwrap_or(0) {
-        if !push(alloc, f, numbers.as_slice()) {
-            return false;
-        }
-        for number in numbers.iter_mut() {
-            *number = next(*number);
-        }
+/// Appends so many clauses, each over the variables behind those of the one before.
+fn push_row(alloc: Global, f: &mut Formula, numbers: &mut [i32], count: u32) -> Result<(), Fail> {
+    for _ in 0..count {
+        push(alloc, f, numbers)?;
+        advance(numbers);
     }
-    true
+    Ok(())
+}
+
+/// Appends the clauses that a text writes.
+fn push_clauses(alloc: Global, f: &mut Formula, text: &str) -> Result<(), Fail> {
+    let (clause, count) = text.split_once("*").unwrap_or((text, "1"));
+    let mut numbers = numbers_of(alloc, clause)?;
+    push_row(
+        alloc,
+        f,
+        numbers.as_mut_slice(),
+        count.trim().parse().unwrap_or(0),
+    )
+}
+
+/// Appends the clauses of a text, none where it is blank.
+fn push_all(alloc: Global, f: &mut Formula, text: &str) -> Result<(), Fail> {
+    if text.trim().is_empty() {
+        return Ok(());
+    }
+    for clauses in text.split(",") {
+        push_clauses(alloc, f, clauses)?;
+    }
+    Ok(())
 }
 
 /// The formula over the variables from 1 to n with the clauses of a text.
-pub(crate) fn formula_of(alloc: Global, n: u32, text: &str) -> Option<Formula> {
-    let mut f = Formula::new(alloc, n).ok()?;
-    if text.trim().is_empty() {
-        return Some(f);
-    }
-    if text
-        .split(",")
-        .all(|clause| push_clauses(alloc, &mut f, clause))
-    {
-        Some(f)
-    } else {
-        None
-    }
+pub(crate) fn formula_of(alloc: Global, n: u32, text: &str) -> Result<Formula, Fail> {
+    let mut f = Formula::new(alloc, n)?;
+    push_all(alloc, &mut f, text)?;
+    Ok(f)
 }
 
-/// The positions of a text, or all where it has none.
-pub(crate) fn part_of(alloc: Global, f: &Formula, text: &str) -> Option<Vec<u32>>
-    ensures { IfSome result (λ part. IsTrue (are_positions f.now part.items)) }
+/// The positions of a text.
+fn positions_of(alloc: Global, text: &str) -> Result<Vec<u32>, AllocError> {
+    let mut part = Vec::new(alloc);
+    for word in text.split_whitespace() {
+        part.push(word.parse().unwrap_or(0))?;
+    }
+    Ok(part)
+}
+
+/// The part that a text has, or all positions where it is blank.
+pub(crate) fn part_of(alloc: Global, f: &Formula, text: &str) -> Result<Vec<u32>, Fail>
+    ensures { IfOk result (λ part. IsTrue (are_positions f.now part.items)) }
 {
-    let words = text
-        .split_whitespace()
-        .map(|word| word.parse().unwrap_or(0));
-    let part: Vec<u32> = words.collect(alloc).ok()?;
-    if part.is_empty() {
-        return positions(alloc, f).ok();
+    if text.trim().is_empty() {
+        return Ok(positions(alloc, f)?);
     }
-    if has_part(f, part.as_slice()) {
-        Some(part)
-    } else {
-        None
+    let part = positions_of(alloc, text)?;
+    if !has_part(f, part.as_slice()) {
+        return Err(Fail::from("no part"));
     }
+    Ok(part)
 }

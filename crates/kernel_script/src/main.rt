@@ -33,8 +33,8 @@ use crate::formulas::{formula_of, part_of};
 use crate::matchings::{tell_kernel, tell_matching};
 use crate::pure::{tell_drawn, tell_pure};
 use crate::small::tell_small;
-use lk_model::Formula;
-use std::alloc::{AllocError, Global};
+use lk_model::{Formula, OutOfMemory};
+use std::alloc::Global;
 use std::test::Fail;
 
 /// Writes what is found of a part of a formula.
@@ -44,7 +44,7 @@ fn tell_of(
     f: &Formula,
     part: &[u32],
     out: &mut String,
-) -> Result<(), AllocError>
+) -> Result<(), OutOfMemory>
     requires { IsTrue (are_positions f.now part.now) }
 {
     match word {
@@ -62,21 +62,17 @@ fn tell_part(
     f: &Formula,
     part: &str,
     out: &mut String,
-) -> Result<(), AllocError> {
-    match part_of(alloc, f, part) {
-        Some(part) => tell_of(alloc, word, f, part.as_slice(), out),
-        None => writeln!(out, "= no part"),
-    }
+) -> Result<(), Fail> {
+    let part = part_of(alloc, f, part)?;
+    Ok(tell_of(alloc, word, f, part.as_slice(), out)?)
 }
 
 /// Writes what is found of the formula that a text has.
-fn tell_over(alloc: Global, word: &str, text: &str, out: &mut String) -> Result<(), AllocError> {
+fn tell_over(alloc: Global, word: &str, text: &str, out: &mut String) -> Result<(), Fail> {
     let (vars, text) = text.split_once(";").unwrap_or((text, ""));
     let (clauses, part) = text.split_once(";").unwrap_or((text, ""));
-    match formula_of(alloc, vars.parse().unwrap_or(0), clauses) {
-        Some(f) => tell_part(alloc, word, &f, part, out),
-        None => writeln!(out, "= no formula"),
-    }
+    let f = formula_of(alloc, vars.parse().unwrap_or(0), clauses)?;
+    tell_part(alloc, word, &f, part, out)
 }
 
 /// Writes what the command of a line answers.
@@ -85,8 +81,8 @@ fn tell(alloc: Global, line: &str, out: &mut String) -> Result<(), Fail> {
     match word {
         "#" => Ok(()),
         "drawn" => tell_drawn(alloc, text.parse().unwrap_or(0), out),
-        "small" => Ok(tell_small(alloc, out)?),
-        _ => Ok(tell_over(alloc, word, text, out)?),
+        "small" => tell_small(alloc, out),
+        _ => tell_over(alloc, word, text, out),
     }
 }
 

@@ -4,33 +4,45 @@ ghost use Rattle.lk_model.specs.Formulas.Lean.{are_positions};
 ghost use Rattle.bipartite_match.specs.Matchings.{IsMaximum};
 
 use bipartite_match::{Matching, Reached, maximum, reach};
-use lk_model::{Formula, MatchRow, MatchingResult};
+use lk_model::{Formula, MatchRow, MatchingResult, OutOfMemory, Own};
 use matching_kernel::matching_kernel;
 use std::alloc::{AllocError, Global};
 
 /// How many clauses have a variable.
 pub(crate) fn pairs(m: &Matching) -> usize {
-    m.of_clause.as_slice().iter().filter(|v| **v != 0).count()
+    let mut count = 0usize;
+    for v in m.of_clause.as_slice() {
+        if *v != 0 {
+            count = count.saturating_add(1);
+        }
+    }
+    count
+}
+
+fn put_matching(of_clause: &[u32], of_var: &[u32], out: &mut String) -> Result<(), AllocError> {
+    writeln!(out, "= variables {of_clause:?}; positions {of_var:?}")
+}
+
+fn put_walks(
+    kept: &[u32],
+    escape: &[u32],
+    rank: &[u32],
+    out: &mut String,
+) -> Result<(), AllocError> {
+    writeln!(out, "= kept {kept:?}; escapes {escape:?}; ranks {rank:?}")
+}
+
+fn put_pairs(pairs: usize, kept: &[u32], out: &mut String) -> Result<(), AllocError> {
+    writeln!(out, "= {pairs} pairs; kept {kept:?}")
 }
 
 /// Writes a matching, or what alternating walks reach.
 fn put_reached(word: &str, m: &Matching, r: &Reached, out: &mut String) -> Result<(), AllocError> {
     let kept = r.kept.as_slice();
     match word {
-        "matching" => {
-            let of_var = m.of_var.as_slice();
-            writeln!(
-                out,
-                "= variables {:?}; positions {of_var:?}",
-                m.of_clause.as_slice()
-            )
-        }
-        "walks" => {
-            let escape = r.escape.as_slice();
-            let rank = r.rank.as_slice();
-            writeln!(out, "= kept {kept:?}; escapes {escape:?}; ranks {rank:?}")
-        }
-        _ => writeln!(out, "= {} pairs; kept {kept:?}", pairs(m)),
+        "matching" => put_matching(m.of_clause.as_slice(), m.of_var.as_slice(), out),
+        "walks" => put_walks(kept, r.escape.as_slice(), r.rank.as_slice(), out),
+        _ => put_pairs(pairs(m), kept, out),
     }
 }
 
@@ -41,14 +53,12 @@ fn tell_reached(
     part: &[u32],
     m: &Matching,
     out: &mut String,
-) -> Result<(), AllocError>
+) -> Result<(), OutOfMemory>
     requires positions { IsTrue (are_positions f.now part.now) }
     requires maximum { IsMaximum f.now part.now m.now }
 {
-    match reach(alloc, f, part, m) {
-        Ok(r) => put_reached(word, m, &r, out),
-        Err(_) => writeln!(out, "= out of memory"),
-    }
+    let r = reach(alloc, f, part, m)?;
+    Ok(put_reached(word, m, &r, out)?)
 }
 
 /// Writes a maximum matching of a part, or what alternating walks reach.
@@ -58,42 +68,44 @@ pub(crate) fn tell_matching(
     f: &Formula,
     part: &[u32],
     out: &mut String,
-) -> Result<(), AllocError>
+) -> Result<(), OutOfMemory>
     requires { IsTrue (are_positions f.now part.now) }
 {
-    match maximum(alloc, f, part) {
-        Ok(m) => tell_reached(alloc, word, f, part, &m, out),
-        Err(_) => writeln!(out, "= out of memory"),
-    }
+    let m = maximum(alloc, f, part)?;
+    tell_reached(alloc, word, f, part, &m, out)
 }
 
-/// Writes the rows, each with its two positions ascending.
+/// Writes a row with its two positions ascending.
+fn put_row(row: &MatchRow, out: &mut String) -> Result<(), AllocError> {
+    let low = row.own.min(row.escape);
+    let high = row.own.max(row.escape);
+    writeln!(
+        out,
+        "= {} at {low} and {high} with rank {}",
+        row.var, row.rank
+    )
+}
+
 fn put_rows(rows: &[MatchRow], out: &mut String) -> Result<(), AllocError> {
     for row in rows {
-        let low = row.own.min(row.escape);
-        let high = row.own.max(row.escape);
-        writeln!(
-            out,
-            "= {} at {low} and {high} with rank {}",
-            row.var, row.rank
-        )?;
+        put_row(row, out)?;
     }
     Ok(())
+}
+
+fn put_owners(own: &[Own], out: &mut String) -> Result<(), AllocError> {
+    writeln!(out, "= {own:?}")
+}
+
+fn put_kept(kept: &[u32], owners: usize, rows: usize, out: &mut String) -> Result<(), AllocError> {
+    writeln!(out, "= kept {kept:?}; {owners} owners; {rows} rows")
 }
 
 fn put_kernel(word: &str, k: &MatchingResult, out: &mut String) -> Result<(), AllocError> {
     match word {
         "rows" => put_rows(k.rows.as_slice(), out),
-        "owners" => writeln!(out, "= {:?}", k.own.as_slice()),
-        _ => {
-            let kept = k.kept.as_slice();
-            writeln!(
-                out,
-                "= kept {kept:?}; {} owners; {} rows",
-                k.own.len(),
-                k.rows.len()
-            )
-        }
+        "owners" => put_owners(k.own.as_slice(), out),
+        _ => put_kept(k.kept.as_slice(), k.own.len(), k.rows.len(), out),
     }
 }
 
@@ -104,11 +116,9 @@ pub(crate) fn tell_kernel(
     f: &Formula,
     part: &[u32],
     out: &mut String,
-) -> Result<(), AllocError>
+) -> Result<(), OutOfMemory>
     requires { IsTrue (are_positions f.now part.now) }
 {
-    match matching_kernel(alloc, f, part) {
-        Ok(k) => put_kernel(word, &k, out),
-        Err(_) => writeln!(out, "= out of memory"),
-    }
+    let k = matching_kernel(alloc, f, part)?;
+    Ok(put_kernel(word, &k, out)?)
 }

@@ -26,14 +26,24 @@ fn holds(set: u32, v: u32) -> bool {
 
 /// Whether the sets have a variable together.
 fn meet(a: u32, b: u32) -> bool {
-    (1..4).any(|v| holds(a, v) && holds(b, v))
+    (holds(a, 1) && holds(b, 1)) || (holds(a, 2) && holds(b, 2)) || (holds(a, 3) && holds(b, 3))
+}
+
+/// Whether no clause before an index is given the variable.
+fn is_free(way: u32, v: u32, index: u32) -> bool {
+    for k in 0..index {
+        if given(way, k) == v {
+            return false;
+        }
+    }
+    true
 }
 
 /// Whether a variable that the way gives to the clause at an index is one of the clause that no earlier
 /// clause has.
 fn is_own(way: u32, clause: u32, index: u32) -> bool {
     let v = given(way, index);
-    holds(clause, v) && (0..index).all(|k| given(way, k) != v)
+    holds(clause, v) && is_free(way, v, index)
 }
 
 /// Whether the way gives the clause at an index a variable of its own or none.
@@ -46,12 +56,23 @@ fn is_given_well(way: u32, clauses: &[u32], index: u32) -> bool {
 
 /// Whether the way is a matching of the clauses.
 fn is_matching(way: u32, clauses: &[u32]) -> bool {
-    (0..4).all(|index| is_given_well(way, clauses, index))
+    for index in 0..4 {
+        if !is_given_well(way, clauses, index) {
+            return false;
+        }
+    }
+    true
 }
 
 /// How many clauses it gives a variable.
 fn pairs_of(way: u32) -> usize {
-    (0..4u32).filter(|index| given(way, *index) != 0).count()
+    let mut count = 0usize;
+    for index in 0..4 {
+        if given(way, index) != 0 {
+            count = count.saturating_add(1);
+        }
+    }
+    count
 }
 
 /// The most pairs of a matching.
@@ -69,9 +90,12 @@ pub(crate) fn most_pairs(clauses: &[u32]) -> usize {
 /// reach just these clauses.
 pub(crate) fn may_be_left(clauses: &[u32], index: u32) -> bool {
     let most = most_pairs(clauses);
-    (0..WAYS).any(|way| {
-        is_matching(way, clauses) && pairs_of(way) == most && given(way, index) == 0
-    })
+    for way in 0..WAYS {
+        if given(way, index) == 0 && is_matching(way, clauses) && pairs_of(way) == most {
+            return true;
+        }
+    }
+    false
 }
 
 /// Whether the clause at an index has a variable exactly where it meets the chosen set, and then one of
@@ -85,16 +109,36 @@ fn is_chosen_well(chosen: u32, way: u32, clauses: &[u32], index: u32) -> bool {
     }
 }
 
+/// Whether this is so at each index.
+fn are_chosen_well(chosen: u32, way: u32, clauses: &[u32]) -> bool {
+    for index in 0..4 {
+        if !is_chosen_well(chosen, way, clauses, index) {
+            return false;
+        }
+    }
+    true
+}
+
 /// Whether the chosen variables are those of a matching autarky: the clauses that they touch can have
 /// different ones of them.
 fn is_autarky(chosen: u32, clauses: &[u32]) -> bool {
-    (0..WAYS).any(|way| (0..4).all(|index| is_chosen_well(chosen, way, clauses, index)))
+    for way in 0..WAYS {
+        if are_chosen_well(chosen, way, clauses) {
+            return true;
+        }
+    }
+    false
 }
 
 /// Whether no matching autarky touches the clause at an index.
 pub(crate) fn is_kept(clauses: &[u32], index: u32) -> bool {
-    match clauses.get(index as usize) {
-        Some(clause) => (0..8).all(|chosen| !meet(*clause, chosen) || !is_autarky(chosen, clauses)),
-        None => false,
+    let Some(clause) = clauses.get(index as usize) else {
+        return false;
+    };
+    for chosen in 0..8 {
+        if meet(*clause, chosen) && is_autarky(chosen, clauses) {
+            return false;
+        }
     }
+    true
 }

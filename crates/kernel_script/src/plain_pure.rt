@@ -52,9 +52,12 @@ fn least_with(f: &Formula, order: &[Lit], l: Lit) -> Option<u32> {
 
 /// Whether a variable of the order occurs in the clause.
 fn touches(order: &[Lit], clause: &[Lit]) -> bool {
-    clause
-        .iter()
-        .any(|l| order.contains(l) || order.contains(&l.negated()))
+    for l in clause {
+        if order.contains(l) || order.contains(&l.negated()) {
+            return true;
+        }
+    }
+    false
 }
 
 /// The positions that the order does not touch.

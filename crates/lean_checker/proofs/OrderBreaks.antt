@@ -1,38 +1,28 @@
 -- The first place at which an order is bad, by the places of its literals.
-use Rattle.std.proofs.Common.{◌≡◌, ◌∙◌, ℕ, zero, suc, ◌+◌, ◌-◌, ◌<◌, ◌≤◌, Bool, true, false, not, ◌&&◌, List, [], ◌∷◌, length, get_or, take, map, refl, sym, ap, subst, arith, ℤ, pos, negsuc, inl, inr}
+use Rattle.std.proofs.Common.{◌≡◌, ◌∙◌, ℕ, ◌+◌, ◌-◌, ◌<◌, ◌≤◌, Bool, true, false, not, ◌&&◌, List, [], ◌∷◌, length, get_or, take, map, refl, sym, ap, subst, arith, ℤ, pos, inl, inr}
 use Rattle.std.specs.Prelude.{nat_le}
 use Rattle.std.specs.Ordering.{int_eq}
 use Rattle.std.specs.List.{list_any}
-use Rattle.std.proofs.lemmas.Bool.{cases_Bool, cond-true, cond-false, leb-true, le-leb}
+use Rattle.std.proofs.lemmas.Bool.{cases_Bool, cond-true, cond-false, leb-true, le-leb, not-true}
 use Rattle.std.proofs.lemmas.Bool.Decides.{Decides-int_eq}
 use Rattle.lk_model.specs.Formulas.Literal.{complement, contains}
-use Rattle.lk_model.proofs.Booleans.{and_true, or_true, or_left, or_right}
+use Rattle.lk_model.proofs.Booleans.{and_true, or_true, or_left, or_right, same_tests}
 use Rattle.lean_checker.specs.Order.{place_in, least_place, broken_place, first_broken}
 use Rattle.lean_checker.proofs.OrderPlaces.{place_bounds, place_early, early_place, place_at, read_place, least_below, least_held}
 use Rattle.lk_model.proofs.ListTests.{passes_one}
+use Rattle.lk_model.proofs.Literals.{complement_twice}
 
 -- the clause holds the complement of the literal, and none of these
 abbrev pub breaks : List ℤ → ℤ → List ℤ → Bool
 breaks earlier l c = contains c (complement l) && not (list_any (contains c) earlier)
 
-twice : (l : ℤ) → complement (complement l) ≡ l
-twice (pos zero) = refl
-twice (pos (suc k)) = refl
-twice (negsuc k) = refl
-
--- two tests that hold together are one
-same_test : (a b : Bool) → (a ≡ true → b ≡ true) → (b ≡ true → a ≡ true) → a ≡ b
-same_test true b f g = sym (f refl)
-same_test false true f g = absurd (let e = g refl in let h : ⊥ = cc in h)
-same_test false false f g = refl
-
 -- a literal is among the complements where its complement is among the literals
 contains_complement : (c : List ℤ) (l : ℤ) → contains (map complement c) l ≡ contains c (complement l)
 contains_complement [] l = refl
 contains_complement (k ∷ c) l =
-    let here : int_eq l (complement k) ≡ int_eq (complement l) k = same_test (int_eq l (complement k)) (int_eq (complement l) k)
-    (λ e. (Decides-int_eq (complement l) k).1 (ap complement ((Decides-int_eq l (complement k)).0 e) ∙ twice k))
-    (λ e. (Decides-int_eq l (complement k)).1 (sym (twice l) ∙ ap complement ((Decides-int_eq (complement l) k).0 e))) in
+    let here : int_eq l (complement k) ≡ int_eq (complement l) k = same_tests (int_eq l (complement k)) (int_eq (complement l) k)
+    (λ e. (Decides-int_eq (complement l) k).1 (ap complement ((Decides-int_eq l (complement k)).0 e) ∙ complement_twice k))
+    (λ e. (Decides-int_eq l (complement k)).1 (sym (complement_twice l) ∙ ap complement ((Decides-int_eq (complement l) k).0 e))) in
     rw (here, contains_complement c l) refl
 
 -- one of the earlier literals that a clause holds
@@ -42,10 +32,6 @@ holds_one c (k ∷ earlier) e = elim (or_true (contains c k) (list_any (contains
   | inl here ↦ (k, or_left (int_eq k k) (contains earlier k) ((Decides-int_eq k k).1 refl), here)
   | inr later ↦ (let w = holds_one c earlier later in (w.0, or_right (int_eq w.0 k) (contains earlier w.0) w.1, w.2))
 ]
-
-not_false : (b : Bool) → not b ≡ true → b ≡ false
-not_false true e = absurd (let f : ⊥ = cc in f)
-not_false false e = refl
 
 -- a clause that breaks the order at a place has its first break there or before
 broken_before : (order c : List ℤ) (j : ℕ) → j < length order → breaks (take j order) (get_or order j (pos 0)) c ≡ true → broken_place order c ≤ j + 1
@@ -61,7 +47,7 @@ broken_before order c j lt h =
           let less : a ≤ j = grind (arith, le-leb (j + 1) a) in
           let w = least_held order c (omega (arith, less, lt)) in
           let early : contains (take j order) w.literal ≡ true = early_place order j w.literal (omega (arith, w.least, less)) (omega (arith, lt)) in
-          absurd (let e : list_any (contains c) (take j order) ≡ true = passes_one (contains c) (take j order) w.literal early w.held in let n = not_false _ both.1 in let f : ⊥ = cc in f)
+          absurd (let e : list_any (contains c) (take j order) ≡ true = passes_one (contains c) (take j order) w.literal early w.held in let n = not-true _ both.1 in let f : ⊥ = cc in f)
     ] in
     let is = cond-true (nat_le b a) b (length order + 1) (le-leb b a (omega (arith, against, with_it))) in
     omega (arith, is, against)

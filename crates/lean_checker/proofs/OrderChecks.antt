@@ -1,5 +1,5 @@
 -- What is found of an order is the first place at which it is bad.
-use Rattle.std.proofs.Common.{◌≡◌, ◌∙◌, ℕ, zero, suc, ◌+◌, ◌-◌, ◌<◌, ◌≤◌, Bool, true, false, cond, not, ◌||◌, List, length, get_or, take, refl, sym, ap, subst, arith, ℤ, pos, inl, inr, Some, None, length-take}
+use Rattle.std.proofs.Common.{◌≡◌, ◌∙◌, ℕ, zero, suc, ◌+◌, ◌-◌, ◌<◌, ◌≤◌, Bool, true, false, not, ◌||◌, List, length, get_or, take, refl, sym, ap, subst, arith, ℤ, pos, inl, inr, Some, None, length-take}
 use Rattle.std.specs.Prelude.{find, ◌==◌}
 use Rattle.std.specs.List.{list_any, list_all, range_with_len}
 use Rattle.std.proofs.Math.Seq.{take-take}
@@ -11,6 +11,7 @@ use Rattle.lk_model.specs.Formulas.Formula.{Cnf}
 use Rattle.lk_model.specs.Checks.PureChecks.{breaks_order, bad_order}
 use Rattle.lk_model.specs.declared.document.DoneDocument.{DoneDocument}
 use Rattle.lk_model.proofs.Founds.{none_found, up_to_bounds}
+use Rattle.kernel_laws.proofs.Pure.Orders.{is_bad_place}
 use Rattle.lean_checker.specs.Order.{first_broken, is_unsound, IsSoundCount}
 use Rattle.lean_checker.proofs.OrderBreaks.{breaks, first_before, first_breaks}
 
@@ -29,16 +30,12 @@ found_at t n r low high here before = found_in t 1 n r low (omega (arith, high))
 
 -- THE TEST OF THE CHECK
 
--- the order is bad at the place
-abbrev pub is_bad : Cnf → List ℤ → List ℤ → ℕ → Bool
-is_bad F set order i = cond (i == length order + 1) (not (list_all (contains order) set)) (breaks_order F set (take (i - 1) order) (get_or order (i - 1) (pos 0)))
-
-bad_order_is : (F : Cnf) (d : DoneDocument) (order : List ℤ) → (bad_order F d order).place ≡ find (is_bad F d.set order) (up_to (length order + 1))
+bad_order_is : (F : Cnf) (d : DoneDocument) (order : List ℤ) → (bad_order F d order).place ≡ find (is_bad_place F d.set order) (up_to (length order + 1))
 unfolding bad_order
 bad_order_is F d order = refl
 
 -- at a literal's place
-bad_literal : (F : Cnf) (set order : List ℤ) (j : ℕ) → j < length order → is_bad F set order (j + 1) ≡ breaks_order F set (take j order) (get_or order j (pos 0))
+bad_literal : (F : Cnf) (set order : List ℤ) (j : ℕ) → j < length order → is_bad_place F set order (j + 1) ≡ breaks_order F set (take j order) (get_or order j (pos 0))
 bad_literal F set order j lt =
     let at : (j + 1) - 1 ≡ j = omega arith in
     cond-false (j + 1 == length order + 1) _ _ (ne_eqb (j + 1) (length order + 1) (λ e. absurd (omega (arith, e, lt))))
@@ -46,7 +43,7 @@ bad_literal F set order j lt =
 
 -- where a literal is new and in the set line, it is bad where a clause breaks the order
 sound_literal : (F : Cnf) (set order : List ℤ) (j : ℕ) → j < length order → is_unsound set (take j order) (get_or order j (pos 0)) ≡ false
-    → is_bad F set order (j + 1) ≡ list_any (breaks (take j order) (get_or order j (pos 0))) F.clauses
+    → is_bad_place F set order (j + 1) ≡ list_any (breaks (take j order) (get_or order j (pos 0))) F.clauses
 sound_literal F set order j lt sound =
     bad_literal F set order j lt ∙ ap (λ (b : Bool). b || list_any (breaks (take j order) (get_or order j (pos 0))) F.clauses) sound
 
@@ -61,15 +58,15 @@ front_length : (order : List ℤ) (k : ℕ) → k ≤ length order → length (t
 front_length order k le = length-take k order ∙ omega (arith, le)
 
 -- so no place before the first break of the first ones is bad
-good_before : (F : Cnf) (set order : List ℤ) (k i : ℕ) → IsSoundCount set order k → 1 ≤ i → i ≤ k → i < first_broken (take k order) F.clauses → is_bad F set order i ≡ false
-good_before F set order k i s low high less = elim (cases_Bool (is_bad F set order i)) [
+good_before : (F : Cnf) (set order : List ℤ) (k i : ℕ) → IsSoundCount set order k → 1 ≤ i → i ≤ k → i < first_broken (take k order) F.clauses → is_bad_place F set order i ≡ false
+good_before F set order k i s low high less = elim (cases_Bool (is_bad_place F set order i)) [
   | inr good ↦ good
   | inl bad ↦
       let j : ℕ = i - 1 in
       let inside : j < k = omega (arith, low, high) in
       let at : j + 1 ≡ i = omega (arith, low) in
       let some : list_any (breaks (take j (take k order)) (get_or (take k order) j (pos 0))) F.clauses ≡ true =
-      front F order k j inside ∙ sym (sound_literal F set order j (omega (arith, inside, s.within)) (s.sound j inside)) ∙ ap (is_bad F set order) at ∙ bad in
+      front F order k j inside ∙ sym (sound_literal F set order j (omega (arith, inside, s.within)) (s.sound j inside)) ∙ ap (is_bad_place F set order) at ∙ bad in
       let before = first_before (take k order) F.clauses j (omega (arith, inside, front_length order k s.within)) some in
       absurd (omega (arith, before, less, at))
 ]
@@ -82,21 +79,21 @@ broken_found F d order k r s is le =
     let j : ℕ = r - 1 in
     let inside : j < k = omega (arith, first, le) in
     let at : j + 1 ≡ r = omega (arith, first) in
-    let here : is_bad F d.set order r ≡ true =
-    ap (is_bad F d.set order) (sym at) ∙ sound_literal F d.set order j (omega (arith, inside, s.within)) (s.sound j inside) ∙ sym (front F order k j inside)
+    let here : is_bad_place F d.set order r ≡ true =
+    ap (is_bad_place F d.set order) (sym at) ∙ sound_literal F d.set order j (omega (arith, inside, s.within)) (s.sound j inside) ∙ sym (front F order k j inside)
     ∙ subst (λ (n : ℕ). list_any (breaks (take (n - 1) (take k order)) (get_or (take k order) (n - 1) (pos 0))) F.clauses ≡ true) (sym is) w.here in
-    found_at (is_bad F d.set order) (length order + 1) r first (omega (arith, le, s.within)) here (λ i low lt. good_before F d.set order k i s low (omega (arith, lt, le)) (omega (arith, lt, is)))
+    found_at (is_bad_place F d.set order) (length order + 1) r first (omega (arith, le, s.within)) here (λ i low lt. good_before F d.set order k i s low (omega (arith, lt, le)) (omega (arith, lt, is)))
     ∙ sym (bad_order_is F d order)
 
 -- where none of the first ones breaks, the place behind them is bad where it has a literal
 pub unsound_found : (F : Cnf) (d : DoneDocument) (order : List ℤ) (k : ℕ) → IsSoundCount d.set order k → k < first_broken (take k order) F.clauses → k < length order → Some (k + 1) ≡ (bad_order F d order).place
 unsound_found F d order k s less lt =
-    let here : is_bad F d.set order (k + 1) ≡ true = bad_literal F d.set order k lt ∙ ap (λ (b : Bool). b || list_any (breaks (take k order) (get_or order k (pos 0))) F.clauses) (s.stops lt) in
-    found_at (is_bad F d.set order) (length order + 1) (k + 1) (omega arith) (omega (arith, lt)) here (λ i low l. good_before F d.set order k i s low (omega (arith, l)) (omega (arith, l, less)))
+    let here : is_bad_place F d.set order (k + 1) ≡ true = bad_literal F d.set order k lt ∙ ap (λ (b : Bool). b || list_any (breaks (take k order) (get_or order k (pos 0))) F.clauses) (s.stops lt) in
+    found_at (is_bad_place F d.set order) (length order + 1) (k + 1) (omega arith) (omega (arith, lt)) here (λ i low l. good_before F d.set order k i s low (omega (arith, l)) (omega (arith, l, less)))
     ∙ sym (bad_order_is F d order)
 
 -- the place behind the last literal
-behind_last : (F : Cnf) (set order : List ℤ) (i : ℕ) → i ≡ length order + 1 → is_bad F set order i ≡ not (list_all (contains order) set)
+behind_last : (F : Cnf) (set order : List ℤ) (i : ℕ) → i ≡ length order + 1 → is_bad_place F set order i ≡ not (list_all (contains order) set)
 behind_last F set order i e = cond-true (i == length order + 1) _ _ (eq-eqb i (length order + 1) e)
 
 -- and it is bad where a literal of the set line is missing
@@ -104,15 +101,15 @@ pub missing_found : (F : Cnf) (d : DoneDocument) (order : List ℤ) (k : ℕ) �
     → Some (k + 1) ≡ (bad_order F d order).place
 missing_found F d order k s less all missing =
     let last : k + 1 ≡ length order + 1 = omega (arith, all, s.within) in
-    let here : is_bad F d.set order (k + 1) ≡ true = behind_last F d.set order (k + 1) last ∙ ap not missing in
-    found_at (is_bad F d.set order) (length order + 1) (k + 1) (omega arith) (omega (arith, last)) here (λ i low l. good_before F d.set order k i s low (omega (arith, l)) (omega (arith, l, less)))
+    let here : is_bad_place F d.set order (k + 1) ≡ true = behind_last F d.set order (k + 1) last ∙ ap not missing in
+    found_at (is_bad_place F d.set order) (length order + 1) (k + 1) (omega arith) (omega (arith, last)) here (λ i low l. good_before F d.set order k i s low (omega (arith, l)) (omega (arith, l, less)))
     ∙ sym (bad_order_is F d order)
 
 -- else no place is bad
 pub none_bad : (F : Cnf) (d : DoneDocument) (order : List ℤ) (k : ℕ) → IsSoundCount d.set order k → k < first_broken (take k order) F.clauses → length order ≤ k → list_all (contains order) d.set ≡ true
     → None ≡ (bad_order F d order).place
 none_bad F d order k s less all there =
-    sym (bad_order_is F d order ∙ none_found (is_bad F d.set order) (up_to (length order + 1)) (λ i among.
+    sym (bad_order_is F d order ∙ none_found (is_bad_place F d.set order) (up_to (length order + 1)) (λ i among.
     let b = up_to_bounds (length order + 1) i among in
     elim (cases_eq i (length order + 1)) [
       | inl last ↦ behind_last F d.set order i last ∙ ap not there

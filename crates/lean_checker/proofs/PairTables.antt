@@ -1,11 +1,12 @@
 -- The positions that pairs name, and what kept clauses show of them.
 use Rattle.std.proofs.Common.{◌≡◌, ◌≢◌, ◌∙◌, ℕ, zero, suc, ◌+◌, ◌*◌, ◌<◌, ◌≤◌, Bool, true, false, cond, not, ◌&&◌, ◌||◌, List, [], ◌∷◌, ◌++◌, length, get_or, take, map, refl, sym, ap, subst, arith, ℤ, pos, negsuc, Option, Some, None, inl, inr, get_or-set_same, get_or-set_other}
-use Rattle.std.specs.Prelude.{find, slice_set, ◌==◌, nat_le}
+use Rattle.std.specs.Prelude.{find, slice_set, ◌==◌, nat_le, neg_ℤ}
 use Rattle.std.specs.List.{list_any, list_all}
 use Rattle.std.specs.Option.{option_map_or}
 use Rattle.std.proofs.lemmas.Bool.{cases_Bool, cases_eq, eq-eqb, ne_eqb, leb-true, le-leb, cond-true, cond-false}
 use Rattle.std.proofs.lemmas.List.{length-set, take_more, get_or-map, length-map}
 use Rattle.std.proofs.lemmas.List.Folds.{find-append}
+use Rattle.std.proofs.Math.Bool.{or_assoc}
 use Rattle.lk_model.specs.Lists.{among, rises_within}
 use Rattle.lk_model.specs.Formulas.Literal.{variable, complement, contains, is_literal, is_positive, rank_of}
 use Rattle.lk_model.specs.Formulas.Formula.{Cnf, clause_at, variable_occurs, variables_to}
@@ -30,6 +31,11 @@ pair_bounds n pairs i d up lt =
     let b = rising_bounds 0 n (map (λ (q : Pair). q.var) pairs) i up (omega (arith, lt, length-map pairs (λ (q : Pair). q.var))) in
     let at = get_or-map (λ (q : Pair). q.var) pairs i d 0 lt in
     (omega (arith, b.0, at), omega (arith, b.1, at))
+
+-- the rank of its complement
+pub rank_against : (v : ℕ) → 1 ≤ v → rank_of (neg_ℤ (pos v)) ≡ 2 * v + 1
+rank_against zero low = absurd (omega (arith, low))
+rank_against (suc k) low = refl
 
 -- and no earlier pair has it
 none_earlier : (low n : ℕ) (pairs : List Pair) (i v : ℕ) (d : Pair) → rises_within low n (map (λ (q : Pair). q.var) pairs) ≡ true → i < length pairs → v ≡ (get_or pairs i d).var → pair_of (take i pairs) v ≡ None
@@ -126,10 +132,6 @@ pair_passes s (p ∷ pairs) v q all e =
       | inl y ↦ (let same : p ≡ q = cc (rw y at e) in ap s (sym same) ∙ both.0)
       | inr n ↦ pair_passes s pairs v q both.1 (rw n at e)
     ]
-
-or_assoc : (a b c : Bool) → ((a || b) || c) ≡ (a || (b || c))
-or_assoc true b c = refl
-or_assoc false b c = refl
 
 -- the pair of a variable is bad by the check
 abbrev pub is_bad_pair : Cnf → List ℕ → List Pair → ℕ → Bool

@@ -12,6 +12,7 @@ use Rattle.lk_model.specs.Formulas.Assignment.{assignment_of}
 use Rattle.lk_model.proofs.Booleans.{or_true}
 use Rattle.lk_model.proofs.Rising.{rises, rising_bounds}
 use Rattle.lk_model.proofs.Flags.{contains-push, or_no, or_yes, same_false}
+use Rattle.lk_model.proofs.Literals.{variable_negative}
 
 -- two functions that agree everywhere are one
 same_values : {X : Type 0} (f g : ℕ → X) → ((v : ℕ) → f v ≡ g v) → f ≡ g
@@ -58,10 +59,6 @@ new_variable n ls i l k up lt is same = elim (cases_Bool (contains (take i ls) k
   | inl there ↦ (let less : variable k < variable l = rw is (below 0 n ls i k l up lt there) in absurd (omega (arith, less, same)))
   | inr not_there ↦ not_there
 ]
-
-variable_negative : (v : ℕ) → variable (neg_ℤ (pos v)) ≡ v
-variable_negative zero = refl
-variable_negative (suc k) = refl
 
 -- so its variable is unset
 pub still_unset : (n : ℕ) (ls : List ℤ) (i : ℕ) (l : ℤ) → rises_within 0 n (map variable ls) ≡ true → i < length ls → l ≡ get_or ls i l → assignment_of (take i ls) (variable l) ≡ None

@@ -29,8 +29,8 @@ use std::thread::Threads;
 /// overridden by the set line, satisfies the formula (Handbook of Satisfiability, Kleine Büning and
 /// Kullmann).
 ///
-/// The work grows with the formula and the document, with no scan of the one for parts of the other.
-/// `rt`, `gate` and `workers` have no effect yet.
+/// The work is meant to grow with the formula and the document, with no scan of the one for parts of the
+/// other; no clause says so. `rt`, `gate` and `workers` have no effect yet.
 pub fn check<R: Threads + Sync, G: Gate>(
     rt: &R,
     alloc: Global,

@@ -4,14 +4,14 @@ ghost use Rattle.std.specs.List.{list_all};
 ghost use Rattle.lk_model.specs.Formulas.Literal.{is_literal, rank_of};
 ghost use Rattle.lean_checker.specs.LiteralSets.{has_literal, with_literal, IsSetOf};
 
-use lk_model::{Lit, OutOfMemory};
+use lk_model::{Lit, LitTable, OutOfMemory};
 use std::alloc::Global;
 use std::marker::Model;
 
-/// A set of literals over the variables from 1 to a number, by a flag at the rank of each literal.
+/// A set of literals over the variables from 1 to a number, by a flag for each literal.
 #[derive(Drop)]
 pub(crate) struct LiteralSet {
-    flags: Vec<bool>,
+    flags: LitTable<bool>,
 }
 
 impl Model for LiteralSet {
@@ -19,7 +19,7 @@ impl Model for LiteralSet {
 
     ghost Value = { List Bool };
 
-    ghost view = { λ s. s.flags.items };
+    ghost view = { λ s. s.flags };
 }
 
 impl LiteralSet {
@@ -29,7 +29,7 @@ impl LiteralSet {
         ensures { IfOk result (IsSetOf n []) }
     {
         Ok(LiteralSet {
-            flags: vec![in alloc; false; 2 * n as usize + 2]?,
+            flags: LitTable::new(alloc, n, false)?,
         })
     }
 
@@ -51,7 +51,7 @@ impl LiteralSet {
         requires { rank_of l < length self.old }
         ensures { self.new ≡ with_literal self.old l }
     {
-        self.flags[l.rank()] = true;
+        self.flags[l] = true;
     }
 
     /// Whether it has a literal.
@@ -59,7 +59,7 @@ impl LiteralSet {
         requires { rank_of l < length self.now }
         ensures { result ≡ has_literal self.now l }
     {
-        self.flags[l.rank()]
+        self.flags[l]
     }
 
     /// Whether it has each of these literals.

@@ -7,7 +7,7 @@ ghost use Rattle.lean_checker.specs.LiteralSets.{IsSetOf};
 ghost use Rattle.lean_checker.specs.Order.{broken_place, first_broken, IsSoundCount, ArePlaces};
 
 use crate::literal_set::LiteralSet;
-use lk_model::{DoneDocument, Formula, Lit, OutOfMemory};
+use lk_model::{DoneDocument, Formula, Lit, LitTable, OutOfMemory};
 use std::alloc::Global;
 
 /// The first index in the order, counted from 1, at which it is bad: the literal stands earlier, or is
@@ -28,7 +28,7 @@ pub(crate) fn bad_order(
     let set = d.set.as_slice();
     let sound = sound_count(alloc, f.vars(), set, order)?;
     let places = places_of(alloc, f.vars(), &order[..sound])?;
-    let broken = first_broken(f, &order[..sound], places.as_slice());
+    let broken = first_broken(f, &order[..sound], &places);
     if broken <= sound {
         return Ok(Some(broken));
     }
@@ -68,21 +68,21 @@ fn has_all(alloc: Global, n: u32, order: &[Lit], set: &[Lit]) -> Result<bool, Ou
     Ok(literals.has_all(set))
 }
 
-/// The place of each literal in the order, at its rank; the place after the last where it has none.
-fn places_of(alloc: Global, n: u32, order: &[Lit]) -> Result<Vec<usize>, OutOfMemory>
+/// The place of each literal in the order; the place after the last where it has none.
+fn places_of(alloc: Global, n: u32, order: &[Lit]) -> Result<LitTable<usize>, OutOfMemory>
     requires small { n ≤ 1000000 }
     requires order { IsTrue (list_all (is_literal n) order.now) }
-    ensures { IfOk result (λ places. ArePlaces n order.now places.items) }
+    ensures { IfOk result (λ places. ArePlaces n order.now places) }
 {
-    let mut places = vec![in alloc; order.len() + 1; 2 * n as usize + 2]?;
+    let mut places = LitTable::new(alloc, n, order.len() + 1)?;
     for i in (0..order.len()).rev() {
-        places[order[i].rank()] = i + 1;
+        places[order[i]] = i + 1;
     }
     Ok(places)
 }
 
 /// The least place at which a clause breaks the order, or the place after the last.
-fn first_broken(f: &Formula, order: &[Lit], places: &[usize]) -> usize
+fn first_broken(f: &Formula, order: &[Lit], places: &LitTable<usize>) -> usize
     requires { ArePlaces f.now.vars order.now places.now }
     ensures { result ≡ first_broken order.now f.now.clauses }
 {
@@ -95,7 +95,7 @@ fn first_broken(f: &Formula, order: &[Lit], places: &[usize]) -> usize
 
 /// The place at which a clause breaks the order: that of the first literal whose complement it holds,
 /// where none of its own literals stands earlier; or else the place after the last.
-fn broken_place(n: u32, clause: &[Lit], order: &[Lit], places: &[usize]) -> usize
+fn broken_place(n: u32, clause: &[Lit], order: &[Lit], places: &LitTable<usize>) -> usize
     requires clause { IsTrue (list_all (is_literal n) clause.now) }
     requires places { ArePlaces n order.now places.now }
     ensures { result ≡ broken_place order.now clause.now }
@@ -103,8 +103,8 @@ fn broken_place(n: u32, clause: &[Lit], order: &[Lit], places: &[usize]) -> usiz
     let mut with = order.len() + 1;
     let mut against = order.len() + 1;
     for l in clause {
-        with = with.min(places[l.rank()]);
-        against = against.min(places[l.negated().rank()]);
+        with = with.min(places[*l]);
+        against = against.min(places[l.negated()]);
     }
     if against <= with {
         against

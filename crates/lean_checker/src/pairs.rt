@@ -11,7 +11,7 @@ ghost use Rattle.lk_model.specs.declared.document.Pair.{Pair};
 ghost use Rattle.lean_checker.specs.Pairs.{AreNamed, AreOccurring, AreShown, NotesVariables, NotesLiterals, is_bad_at};
 
 use crate::literal_set::LiteralSet;
-use lk_model::{DoneDocument, Formula, Lit, OutOfMemory, Pair, VarSet};
+use lk_model::{DoneDocument, Formula, Lit, LitTable, OutOfMemory, Pair, VarSet};
 use std::alloc::Global;
 
 /// What the kept clauses hold: the variables that occur in them, and the literals whose named position
@@ -38,27 +38,31 @@ pub(crate) fn bad_pair(
     ensures { IfOk result (λ place. place ≡ (bad_pair no_variable f.now d.now pairs.now).place) }
 {
     let named = named_positions(alloc, f.vars(), pairs)?;
-    let seen = seen_at(alloc, f, d.kept.as_slice(), named.as_slice())?;
-    Ok((1..f.vars() + 1).find(|v| is_bad(*v, named.as_slice(), &seen)))
+    let seen = seen_at(alloc, f, d.kept.as_slice(), &named)?;
+    Ok((1..f.vars() + 1).find(|v| is_bad(*v, &named, &seen)))
 }
 
-/// At the rank of each literal the position that the pair of its variable names for it, or 0.
-fn named_positions(alloc: Global, n: u32, pairs: &[Pair]) -> Result<Vec<u32>, OutOfMemory>
+/// For each literal the position that the pair of its variable names for it, or 0.
+fn named_positions(alloc: Global, n: u32, pairs: &[Pair]) -> Result<LitTable<u32>, OutOfMemory>
     requires small { n ≤ 1000000 }
     requires rising { IsTrue (rises_within 0 n (map (λ (q : Pair). q.var) pairs.now)) }
-    ensures { IfOk result (λ named. AreNamed n pairs.now named.items) }
+    ensures { IfOk result (λ named. AreNamed n pairs.now named) }
 {
-    let mut named = vec![in alloc; 0u32; 2 * n as usize + 2]?;
+    let mut named = LitTable::new(alloc, n, 0u32)?;
     for pair in pairs {
-        let rank = 2 * pair.var as usize;
-        named[rank] = pair.with;
-        named[rank + 1] = pair.against;
+        named[Lit::from_var(pair.var, true)] = pair.with;
+        named[Lit::from_var(pair.var, false)] = pair.against;
     }
     Ok(named)
 }
 
 /// What the clauses at these positions hold.
-fn seen_at(alloc: Global, f: &Formula, kept: &[u32], named: &[u32]) -> Result<Seen, OutOfMemory>
+fn seen_at(
+    alloc: Global,
+    f: &Formula,
+    kept: &[u32],
+    named: &LitTable<u32>,
+) -> Result<Seen, OutOfMemory>
     requires kept { IsTrue (are_positions f.now kept.now) }
     requires named { length named.now ≡ 2 * f.now.vars + 2 }
     ensures occurring { IfOk result (λ seen. AreOccurring f.now kept.now seen.occurring) }
@@ -76,7 +80,7 @@ fn seen_at(alloc: Global, f: &Formula, kept: &[u32], named: &[u32]) -> Result<Se
 
 impl Seen {
     /// Notes what the clause at a position holds.
-    fn note(&mut self, n: u32, clause: &[Lit], position: u32, named: &[u32])
+    fn note(&mut self, n: u32, clause: &[Lit], position: u32, named: &LitTable<u32>)
         requires clause { IsTrue (list_all (is_literal n) clause.now) }
         requires occurring { length self.old.occurring ≡ n }
         requires shown { length self.old.shown ≡ 2 * n + 2 }
@@ -86,7 +90,7 @@ impl Seen {
     {
         for l in clause {
             self.occurring.add(l.var());
-            if named[l.rank()] == position {
+            if named[*l] == position {
                 self.shown.add(*l);
             }
         }
@@ -94,7 +98,7 @@ impl Seen {
 }
 
 /// Whether the pair of a variable is missing, not wanted or not borne out.
-fn is_bad(v: u32, named: &[u32], seen: &Seen) -> bool
+fn is_bad(v: u32, named: &LitTable<u32>, seen: &Seen) -> bool
     requires first { 0 < v }
     requires last { v ≤ 1000000 }
     requires occurring { v ≤ length seen.now.occurring }
@@ -103,7 +107,7 @@ fn is_bad(v: u32, named: &[u32], seen: &Seen) -> bool
     ensures { result ≡ is_bad_at named.now seen.now.occurring seen.now.shown v }
 {
     let l = Lit::from_var(v, true);
-    if named[l.rank()] == 0 {
+    if named[l] == 0 {
         seen.occurring.has(v)
     } else {
         !seen.occurring.has(v) || !seen.shown.has(l) || !seen.shown.has(l.negated())

@@ -7,10 +7,10 @@ use std::env;
 use std::io::ErrorKind;
 use std::process::ExitCode;
 
-/// The status where a word of the command line is no text.
+/// The status where a word of the command line is no text. No line tells of it.
 const WORDS: u8 = 1;
 
-/// The status where there is no memory for the words.
+/// The status where there is no memory for the words. No line tells of it.
 const MEMORY: u8 = 9;
 
 fn main(rt: HostRuntime) -> ExitCode {

@@ -27,15 +27,14 @@ use Rattle.lk_model.proofs.Counting.{in_filter, among-filter}
 use Rattle.lk_model.proofs.Founds.{filtered_rise}
 use Rattle.lk_model.proofs.Keys.{key_found, key_missing, none_passes, each_passes, first_in, later_in}
 use Rattle.lk_model.proofs.Variables.{occurs}
+use Rattle.lk_model.proofs.Lists.{among_at, place_of}
 use Rattle.exact_pivot.specs.Reached.{ReachedRows}
+use Rattle.exact_pivot.proofs.Starts.{range_same}
 use Rattle.kernel_laws.proofs.Linear.Sums.{sum_zero}
 use Rattle.kernel_laws.proofs.Lines.{in_map}
-use Rattle.kernel_laws.proofs.Linear.LinearLean.{among_in}
+use Rattle.kernel_laws.proofs.Linear.LinearLean.{among_in, incidence_absent}
 use Rattle.kernel_laws.proofs.Tests.{follows}
-use Rattle.linear_laws.proofs.StartRows.{among_at}
 use Rattle.linear_laws.proofs.RunRows.{rows_with}
-use Rattle.linear_laws.proofs.Places.{range_same}
-use Rattle.linear_laws.proofs.Weights.{place_of, incidence_absent}
 use Rattle.linear_laws.proofs.RunDuals.{duals_balance, duals_some, balance_of_duals}
 use Rattle.linear_laws.proofs.RunUnits.{shares_itself, shares_other, unit_some, unit_at, balance_of_shares}
 use Rattle.linear_laws.proofs.EndRanges.{dual_in_range, common_in_range, share_in_range}

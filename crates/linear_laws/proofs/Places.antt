@@ -1,5 +1,5 @@
 -- Sums over the places of lists.
-use Rattle.std.proofs.Common.{◌≡◌, ◌≢◌, ℕ, zero, suc, ◌+◌, ◌-◌, ◌<◌, ◌≤◌, Bool, true, false, cond, ◌==◌, List, [], ◌∷◌, map, zip, filter, length, get_or, ℤ, pos, ◌+ℤ◌, ◌*ℤ◌, None, refl, sym, ap, ◌∙◌, subst, arith, inl, inr, eq-eqb}
+use Rattle.std.proofs.Common.{◌≡◌, ◌≢◌, ℕ, suc, ◌+◌, ◌-◌, ◌<◌, ◌≤◌, Bool, true, false, cond, ◌==◌, List, [], ◌∷◌, map, zip, filter, length, get_or, ℤ, pos, ◌+ℤ◌, ◌*ℤ◌, None, refl, sym, ap, ◌∙◌, subst, arith, inl, inr, eq-eqb}
 use Rattle.std.specs.Prelude.{find}
 use Rattle.std.specs.List.{range_with_len}
 use Rattle.std.specs.Option.{option_map_or}
@@ -12,20 +12,7 @@ use Rattle.lk_model.proofs.Booleans.{or_left, or_right}
 use Rattle.lk_model.proofs.Counting.{Differ, more, Differ-range, among-range}
 use Rattle.lk_model.proofs.Keys.{key_missing}
 use Rattle.kernel_laws.proofs.Linear.Sums.{add_mul, sum_plus, sum_one}
-
--- sums over a range of the same terms
-pub range_same : (f g : ℕ → ℤ) (a n : ℕ) → ((j : ℕ) → a ≤ j → j < a + n → f j ≡ g j) → sum_of (map f (range_with_len a n)) ≡ sum_of (map g (range_with_len a n))
-range_same f g a zero e = refl
-range_same f g a (suc n) e = λ i. e a (omega arith) (omega arith) i +ℤ range_same f g (a + 1) n (λ j h k. e j (omega (arith, h)) (omega (arith, k))) i
-
--- a sum over a list, by its places
-pub sum_places : {X : Type 0} (h : X → ℤ) (xs : List X) (d : X) (a : ℕ) → sum_of (map (λ j. h (get_or xs (j - a) d)) (range_with_len a (length xs))) ≡ sum_of (map h xs)
-sum_places h [] d a = refl
-sum_places h (x ∷ xs) d a =
-    let here : h (get_or (x ∷ xs) (a - a) d) ≡ h x = ap (λ n. h (get_or (x ∷ xs) n d)) (let zeroth : a - a ≡ 0 = omega arith in zeroth) in
-    let later = range_same (λ j. h (get_or (x ∷ xs) (j - a) d)) (λ j. h (get_or xs (j - (a + 1)) d)) (a + 1) (length xs)
-    (λ j g k. (let step : j - a ≡ suc (j - (a + 1)) = omega (arith, g) in rw step refl)) ∙ sum_places h xs d (a + 1) in
-    λ i. here i +ℤ later i
+use Rattle.exact_pivot.proofs.Starts.{range_same}
 
 -- a sum over the numbered elements of a list, by their numbers
 pub sum_numbered : {X : Type 0} (f : ℕ → X → ℤ) (xs : List X) (d : X) (a : ℕ)

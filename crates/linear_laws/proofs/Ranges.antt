@@ -1,5 +1,5 @@
 -- Numbers of a run that is not too wide are in range.
-use Rattle.std.proofs.Common.{◌≡◌, inl, inr, ◌⊎◌, ℕ, zero, suc, ◌+◌, ◌-◌, ◌*◌, ◌^◌, ◌<◌, ◌≤◌, Bool, true, false, cond, not, ◌==◌, nat_lt, List, [], ◌∷◌, ◌++◌, map, filter, length, get_or, ℤ, pos, negsuc, neg_ℤ, ◌*ℤ◌, ◌<ℤ◌, int_lt, unsigned_abs, refl, sym, ap, ◌∙◌, subst, arith, Some, None, Contains, eq-eqb}
+use Rattle.std.proofs.Common.{◌≡◌, inl, inr, ◌⊎◌, ℕ, zero, suc, ◌+◌, ◌-◌, ◌*◌, ◌^◌, ◌<◌, ◌≤◌, Bool, true, false, cond, not, ◌==◌, nat_lt, List, [], ◌∷◌, map, filter, length, get_or, ℤ, pos, negsuc, neg_ℤ, ◌*ℤ◌, ◌<ℤ◌, int_lt, unsigned_abs, refl, sym, ap, ◌∙◌, subst, arith, Some, None, Contains, eq-eqb}
 use Rattle.std.specs.Prelude.{find}
 use Rattle.std.specs.List.{flat_map, range_with_len}
 use Rattle.std.proofs.lemmas.Bool.{cases_eq, leb-true, le-leb, ne_eqb}
@@ -7,7 +7,7 @@ use Rattle.std.proofs.lemmas.Bool.Decides.{nat_tests}
 use Rattle.std.proofs.lemmas.Int.{ints, unsigned_abs-mul}
 use Rattle.std.proofs.lemmas.List.FromFn.{get_or-map-range_with_len}
 use Rattle.std.proofs.lemmas.List.{get_or_past}
-use Rattle.std.proofs.lemmas.List.Elements.{All-get_or}
+use Rattle.std.proofs.lemmas.List.Elements.{All-get_or, Contains-append_left, Contains-append_right}
 use Rattle.lk_model.specs.Lists.{up_to, is_zero}
 use Rattle.lk_model.specs.Limits.{is_in_range}
 use Rattle.lk_model.specs.Formulas.Formula.{Cnf, variables_at}
@@ -27,22 +27,11 @@ use Rattle.exact_pivot.proofs.Starts.{zip_length}
 
 -- WHAT STANDS IN LISTS
 
--- what stands in either of two lists stands in both together
-pub left_in : {X : Type 0} (xs ys : List X) (x : X) → Contains xs x → Contains (xs ++ ys) x
-left_in [] ys x (k, lt, e) = absurd (omega (arith, lt))
-left_in (z ∷ xs) ys x (zero, lt, e) = subst (λ w. Contains (z ∷ (xs ++ ys)) w) e (first_in z (xs ++ ys))
-left_in (z ∷ xs) ys x (suc k, lt, e) = later_in z (xs ++ ys) x (left_in xs ys x (k, omega (arith, lt), e))
-
--- so does what stands in the second
-pub right_in : {X : Type 0} (xs ys : List X) (x : X) → Contains ys x → Contains (xs ++ ys) x
-right_in [] ys x i = i
-right_in (z ∷ xs) ys x i = later_in z (xs ++ ys) x (right_in xs ys x i)
-
 -- what stands in the list of one of them stands in all lists joined
 pub flat_in : {X Y : Type 0} (f : X → List Y) (xs : List X) (x : X) (y : Y) → Contains xs x → Contains (f x) y → Contains (flat_map f xs) y
 flat_in f [] x y (k, lt, e) i = absurd (omega (arith, lt))
-flat_in f (z ∷ xs) x y (zero, lt, e) i = left_in (f z) (flat_map f xs) y (subst (λ w. Contains (f w) y) (sym e) i)
-flat_in f (z ∷ xs) x y (suc k, lt, e) i = right_in (f z) (flat_map f xs) y (flat_in f xs x y (k, omega (arith, lt), e) i)
+flat_in f (z ∷ xs) x y (zero, lt, e) i = Contains-append_left (f z) (flat_map f xs) y (subst (λ w. Contains (f w) y) (sym e) i)
+flat_in f (z ∷ xs) x y (suc k, lt, e) i = Contains-append_right (f z) (flat_map f xs) y (flat_in f xs x y (k, omega (arith, lt), e) i)
 
 -- a number of a range
 pub range_in : (a n j : ℕ) → a ≤ j → j < a + n → Contains (range_with_len a n) j
@@ -171,7 +160,7 @@ unfolding made_in_pivot pivoted
 pivot_in_range t i k within h e j there = subst (λ (row : Row). InRange row.entries) (sym (rows_at j there)) (elim (cases_eq j i) [
   | inl same ↦ rw (eq-eqb j i same) (turned_in_range (int_lt (entry (row_at t i).entries k) (pos 0)) (row_at t i).entries (h i within))
   | inr other ↦ rw (ne_eqb j i other) (cleared_in_range (turned t i k) k (row_at t j).entries (h j there)
-      (part_in_range _ (made_to_clear (turned t i k) k (row_at t j).entries) e (λ w inside. left_in _ _ w
+      (part_in_range _ (made_to_clear (turned t i k) k (row_at t j).entries) e (λ w inside. Contains-append_left _ _ w
       (flat_in (λ j. made_to_clear (turned t i k) k (row_at t j).entries) (filter (λ j. not (j == i)) (up_to (r_of t))) j w
       (filter_in (λ j. not (j == i)) (up_to (r_of t)) j (range_in 1 (r_of t) j there.0 (omega (arith, there))) (ap not (ne_eqb j i other))) inside))))
 ])

@@ -12,11 +12,13 @@ use Rattle.lk_model.specs.Linear.Rows.{Row, TableauRows, entry, start_of, lack, 
 use Rattle.lk_model.specs.Linear.Phases.{EndsLean, next}
 use Rattle.lk_model.specs.Linear.Ends.{common, multiple, dual_number, dual_at_end}
 use Rattle.lk_model.specs.declared.document.Dual.{Dual}
+use Rattle.lk_model.proofs.Products.{mul_add, mul_assoc, times_least}
 use Rattle.exact_pivot.specs.Reached.{ReachedRows}
-use Rattle.exact_pivot.proofs.Wholes.{mul_assoc, cancel_least, times_least}
-use Rattle.kernel_laws.proofs.Linear.Sums.{mul_add, add_mul, sum_times, sum_plus}
+use Rattle.exact_pivot.proofs.Wholes.{cancel_least}
+use Rattle.exact_pivot.proofs.Starts.{sum_places, range_same}
+use Rattle.kernel_laws.proofs.Linear.Sums.{add_mul, sum_times, sum_plus}
 use Rattle.kernel_laws.proofs.Lines.{found_in}
-use Rattle.linear_laws.proofs.Places.{range_same, sum_places, sum_numbered, sum_images, placed}
+use Rattle.linear_laws.proofs.Places.{sum_numbered, sum_images, placed}
 use Rattle.linear_laws.proofs.StartRows.{sign, sign_one, var_at, right_entry}
 use Rattle.linear_laws.proofs.RunRows.{rows_with, at_clause}
 use Rattle.linear_laws.proofs.Multiples.{common_some, multiple_is}

@@ -1,12 +1,12 @@
 -- A run that ends lean: what the multiples of a column sum to against the clauses.
-use Rattle.std.proofs.Common.{◌≡◌, inl, inr, ℕ, zero, suc, ◌+◌, ◌-◌, ◌<◌, ◌≤◌, Bool, true, false, cond, nat_lt, List, [], ◌∷◌, map, length, get_or, ℤ, pos, neg_ℤ, ◌+ℤ◌, ◌-ℤ◌, ◌*ℤ◌, ◌<ℤ◌, refl, sym, ap, ◌∙◌, subst, arith, Option, Some, None, unwrap_or, Contains}
+use Rattle.std.proofs.Common.{◌≡◌, inl, inr, ℕ, suc, ◌+◌, ◌-◌, ◌<◌, ◌≤◌, Bool, true, false, cond, nat_lt, List, [], ◌∷◌, map, length, get_or, ℤ, pos, neg_ℤ, ◌+ℤ◌, ◌-ℤ◌, ◌*ℤ◌, ◌<ℤ◌, refl, sym, ap, ◌∙◌, subst, arith, Option, Some, None, unwrap_or, Contains}
 use Rattle.std.specs.Option.{option_map_or}
 use Rattle.std.proofs.Math.IntN.{*ℤ_comm, *ℤ-zero}
 use Rattle.std.proofs.Math.ListN.{get_or-map}
 use Rattle.std.proofs.lemmas.Bool.{cases_eq}
 use Rattle.std.proofs.lemmas.Bool.Decides.{nat_tests}
 use Rattle.std.proofs.lemmas.Int.{ints}
-use Rattle.std.proofs.lemmas.List.{length-map}
+use Rattle.std.proofs.lemmas.List.{length-map, get_or_default}
 use Rattle.lk_model.specs.Lists.{up_to, sum_of, among}
 use Rattle.lk_model.specs.Formulas.Formula.{Cnf, variables_at}
 use Rattle.lk_model.specs.Linear.Rows.{Row, TableauRows, entry, row_at, start_of}
@@ -15,20 +15,16 @@ use Rattle.lk_model.specs.Linear.Phases.{PivotOn, StageStands, EndsLean, next, e
 use Rattle.lk_model.specs.Linear.Ends.{common, multiple}
 use Rattle.lk_model.proofs.Counting.{Differ, none, more}
 use Rattle.lk_model.proofs.Founds.{none_to}
+use Rattle.lk_model.proofs.Products.{mul_assoc}
+use Rattle.lk_model.proofs.Lists.{place_of}
 use Rattle.exact_pivot.specs.Reached.{IsRowOf, ReachedRows}
-use Rattle.exact_pivot.proofs.Wholes.{mul_assoc, mul_sub}
+use Rattle.exact_pivot.proofs.Wholes.{mul_sub}
+use Rattle.exact_pivot.proofs.Starts.{sum_places, range_same}
 use Rattle.kernel_laws.proofs.Linear.Sums.{sum_times}
-use Rattle.linear_laws.proofs.Places.{range_same, sum_places, placed, sum_placed}
+use Rattle.linear_laws.proofs.Places.{placed, sum_placed}
 use Rattle.linear_laws.proofs.StartRows.{at, sign, clause_entry}
 use Rattle.linear_laws.proofs.RunRows.{rows_with, at_clause, start_solved}
 use Rattle.linear_laws.proofs.Multiples.{AreBasic, multiple_is}
-use Rattle.linear_laws.proofs.Weights.{place_of}
-
--- what is read past no end does not depend on the default
-read_same : {X : Type 0} (xs : List X) (i : ℕ) (d e : X) → i < length xs → get_or xs i d ≡ get_or xs i e
-read_same [] i d e h = absurd (omega (arith, h))
-read_same (x ∷ xs) zero d e h = refl
-read_same (x ∷ xs) (suc i) d e h = read_same xs i d e (omega (arith, h))
 
 -- numbers at different places that are not the same differ
 differ_by_places : (xs : List ℕ) → ((i j : ℕ) → i < length xs → j < length xs → get_or xs i 0 ≡ get_or xs j 0 → i ≡ j) → Differ xs
@@ -59,11 +55,11 @@ module _ (F : Cnf) (S : List ℕ) (rows : List Row) (cost : List ℤ) (r : Reach
   row_numbered row (k, lt, e) =
       let count = r.rows in
       let step : k + 1 - 1 ≡ k = omega arith in
-      (k + 1, (omega arith, omega (arith, lt, count)), ap (λ i. get_or rows i (record { entries = []; basic = 0 })) step ∙ read_same rows k _ row lt ∙ e)
+      (k + 1, (omega arith, omega (arith, lt, count)), ap (λ i. get_or rows i (record { entries = []; basic = 0 })) step ∙ get_or_default rows k _ row lt ∙ e)
 
   -- and one of the rows by its number is one of the list
   pub row_there : (i : ℕ) → IsRowOf t i → Contains rows (row_at t i)
-  row_there i h = let count = r.rows in (i - 1, omega (arith, h, count), read_same rows (i - 1) _ _ (omega (arith, h, count)))
+  row_there i h = let count = r.rows in (i - 1, omega (arith, h, count), get_or_default rows (i - 1) _ _ (omega (arith, h, count)))
 
   -- each row is positive in its basic column
   pub are_basic : AreBasic rows

@@ -16,6 +16,7 @@ use Rattle.lk_model.specs.Linear.Ends.{dual_at_end, units_at_end, made_in_dual, 
 use Rattle.lk_model.specs.Linear.LinearRun.{LinearEnd, RunDone, RunWide, RunBudget, Moment, Moved, Later, Ended, after_pivot, after_stage, at_end, moved, run_from, linear_run}
 use Rattle.lk_model.specs.declared.wide.Wide.{Wide}
 use Rattle.lk_model.proofs.Booleans.{or_true}
+use Rattle.lk_model.proofs.Lists.{filter_length}
 use Rattle.exact_pivot.specs.Reached.{AtStart, ByPivot}
 use Rattle.linear_laws.specs.MovesLaw.{room, first_moment, IsWithin, IsPassed, AtFirst, ByMove, MovesLaw}
 use Rattle.linear_laws.proofs.RunStages.{stage_law}
@@ -23,20 +24,11 @@ use Rattle.linear_laws.proofs.RunMoments.{positions_are}
 
 -- FILTERS
 
--- a filter keeps no more than there are
-filter_most : (q : ℕ → Bool) (xs : List ℕ) → length (filter q xs) ≤ length xs
-filter_most q [] = omega arith
-filter_most q (x ∷ xs) = by_test (q x) (filter_most q xs)
-  where
-    by_test : (b : Bool) → length (filter q xs) ≤ length xs → length (cond b (x ∷ filter q xs) (filter q xs)) ≤ suc (length xs)
-    by_test true h = omega (arith, h)
-    by_test false h = omega (arith, h)
-
 -- fewer where one that is there is left out
 filter_fewer : (q : ℕ → Bool) (xs : List ℕ) (p : ℕ) → among xs p ≡ true → q p ≡ false → length (filter q xs) < length xs
 filter_fewer q [] p there out = absurd (let f : ⊥ = cc in f)
 filter_fewer q (x ∷ xs) p there out = elim (or_true (x == p) (among xs p) there) [
-  | inl here ↦ (let most = filter_most q xs in rw (ap q (eqb-true x p here) ∙ out) (omega (arith, most)))
+  | inl here ↦ (let most = filter_length q xs in rw (ap q (eqb-true x p here) ∙ out) (omega (arith, most)))
   | inr later ↦ by_test (q x) (filter_fewer q xs p later out)
 ]
   where

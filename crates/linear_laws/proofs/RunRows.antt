@@ -9,7 +9,7 @@ use Rattle.lk_model.specs.Linear.Rows.{Row, TableauRows, entry, row_at, sign_of,
 use Rattle.exact_pivot.specs.Reached.{IsRowOf, artificial_cost, ReachedRows}
 use Rattle.exact_pivot.proofs.Artificials.{art_first, art_middle, art_last}
 use Rattle.exact_pivot.proofs.Solutions.{with_basic, total_with_basic, basic_solves}
-use Rattle.linear_laws.proofs.Places.{range_same}
+use Rattle.exact_pivot.proofs.Starts.{range_same}
 use Rattle.linear_laws.proofs.StartRows.{at, var_at, sign, clause_entry, right_entry}
 
 -- the rows for the positions S with these rows and this cost row

@@ -17,20 +17,22 @@ use Rattle.lk_model.specs.Linear.Pivot.{in_first_phase}
 use Rattle.lk_model.specs.Linear.Phases.{PivotOn, StageStands, EndsLean, next, entering, leaving, artificial_row, replacing, stage_entry, stage_of}
 use Rattle.lk_model.proofs.Counting.{from_filter, among-range}
 use Rattle.lk_model.proofs.Founds.{none_to, up_to_bounds}
-use Rattle.lk_model.proofs.ListTests.{passes_among}
+use Rattle.lk_model.proofs.ListTests.{passes_among, passing}
 use Rattle.lk_model.proofs.Variables.{any_mono}
+use Rattle.lk_model.proofs.Products.{mul_assoc, mul_swap}
+use Rattle.lk_model.proofs.Lists.{among_at, place_of}
 use Rattle.exact_pivot.specs.Reached.{IsRowOf, ReachedRows}
-use Rattle.exact_pivot.proofs.Wholes.{mul_assoc, mul_swap, cancel_least}
+use Rattle.exact_pivot.proofs.Wholes.{cancel_least}
 use Rattle.exact_pivot.proofs.Divided.{IsDivided, primitive_divided}
 use Rattle.exact_pivot.proofs.Finds.{find_says}
 use Rattle.exact_pivot.proofs.ReachedRows.{reached_rows}
+use Rattle.exact_pivot.proofs.Starts.{range_same}
 use Rattle.kernel_laws.proofs.Linear.Balances.{zero_is}
 use Rattle.kernel_laws.proofs.Linear.Sums.{cancel_zero, sum_zero, sum_times}
 use Rattle.linear_laws.specs.RunLaw.{StageLaw}
-use Rattle.linear_laws.proofs.Places.{range_same}
-use Rattle.linear_laws.proofs.StartRows.{var_at, sign, sign_one, sign_entry, variables_differ, among_at}
+use Rattle.linear_laws.proofs.StartRows.{var_at, sign, sign_one, sign_entry, variables_differ}
 use Rattle.linear_laws.proofs.RunRows.{rows_with, shaped, at_clause, row_clause, difference, cost_clause, cost_right}
-use Rattle.linear_laws.proofs.Weights.{weight_at, balance_by_places, number_passing, place_of}
+use Rattle.linear_laws.proofs.Weights.{weight_at, balance_by_places}
 
 module _ (F : Cnf) (S : List ℕ) (rows : List Row) (cost : List ℤ) where
   abbrev pub t : TableauRows
@@ -193,7 +195,7 @@ module _ (F : Cnf) (S : List ℕ) (rows : List Row) (cost : List ℤ) where
   -- so a variable has a weight
   some_weight : ReachedRows (start_of F S) t → next t ≡ StageStands → (j : ℕ) × (0 < j) × (j ≤ n) × (is_nonzero (weight (var_at F S j)) ≡ true)
   some_weight r e = elim (cases_Bool (list_any (λ j. is_nonzero (weight (var_at F S j))) (up_to n))) [
-    | inl y ↦ (let w = number_passing (λ j. is_nonzero (weight (var_at F S j))) (up_to n) y in let b = up_to_bounds n w.0 w.1 in (w.0, b.0, b.1, w.2))
+    | inl y ↦ (let w = passing (λ j. is_nonzero (weight (var_at F S j))) (up_to n) y in let b = up_to_bounds n w.0 w.1 in (w.0, b.0, b.1, w.2))
     | inr none ↦ absurd (some_number r e (λ j h l. no_number j h l (zero_is (weight (var_at F S j)) (fails j h l none))))
   ]
     where
@@ -212,7 +214,7 @@ module _ (F : Cnf) (S : List ℕ) (rows : List Row) (cost : List ℤ) where
       let most = w.2 in
       let v = var_at F S w.0 in
       let there : variable_occurs F S v ≡ true = (from_filter (variable_occurs F S) (variables_to F.vars) v (among_at (variables_at F S) (w.0 - 1) (omega (arith, low, most)))).0 in
-      let p = number_passing (λ p. mentions (clause_at F p) v) S there in
+      let p = passing (λ p. mentions (clause_at F p) v) S there in
       (p.0, p.1, any_mono (λ l. variable l == v) (λ l. is_nonzero (weight (variable l))) (clause_at F p.0) (λ l s. subst (λ k. is_nonzero (weight k) ≡ true) (sym (eqb-true (variable l) v s)) w.3) p.2)
 
 -- THE LAW

@@ -14,11 +14,12 @@ use Rattle.lk_model.specs.Linear.Phases.{EndsLean, next}
 use Rattle.lk_model.specs.Linear.Ends.{common, multiple, share_number, shares_of}
 use Rattle.lk_model.specs.declared.document.Share.{Share}
 use Rattle.lk_model.specs.declared.document.Unit.{Unit}
+use Rattle.lk_model.proofs.Products.{mul_assoc}
 use Rattle.exact_pivot.specs.Reached.{ReachedRows}
-use Rattle.exact_pivot.proofs.Wholes.{mul_assoc}
+use Rattle.exact_pivot.proofs.Starts.{range_same}
 use Rattle.kernel_laws.proofs.Linear.Balances.{zero_is}
 use Rattle.kernel_laws.proofs.Linear.Sums.{sum_times}
-use Rattle.linear_laws.proofs.Places.{range_same, sum_filtered, sum_numbered, sum_images, placed}
+use Rattle.linear_laws.proofs.Places.{sum_filtered, sum_numbered, sum_images, placed}
 use Rattle.linear_laws.proofs.StartRows.{at, sign, sign_one, sign_entry, var_at, unit_entry}
 use Rattle.linear_laws.proofs.RunRows.{rows_with, at_clause}
 use Rattle.linear_laws.proofs.Multiples.{common_some}

@@ -1,10 +1,8 @@
 -- The set line of stages: the literals with the signs of the variables.
-use Rattle.std.proofs.Common.{◌≡◌, ℕ, zero, suc, ◌+◌, ◌<◌, ◌≤◌, ◌∙◌, Bool, true, false, ◌||◌, List, [], ◌∷◌, map, refl, sym, ap, arith, ℤ, pos, neg_ℤ, Option, Some, None, inl, inr}
-use Rattle.std.specs.Prelude.{◌==◌, nat_lt, nat_le, option_map}
-use Rattle.std.specs.List.{cons_option, filter_map, range_with_len, list_all}
-use Rattle.std.specs.Ordering.{int_eq}
-use Rattle.std.proofs.lemmas.Bool.{cases_Bool, eqb-true, lt-ltb, le-leb, false_from_ne_true}
-use Rattle.std.proofs.lemmas.Bool.Decides.{Decides-int_eq}
+use Rattle.std.proofs.Common.{◌≡◌, ℕ, zero, suc, ◌∙◌, Bool, true, false, List, map, refl, sym, ap, arith, ℤ, pos, neg_ℤ, Option, Some, None, inl, inr}
+use Rattle.std.specs.Prelude.{option_map}
+use Rattle.std.specs.List.{list_all}
+use Rattle.std.proofs.lemmas.Bool.{cases_Bool, false_from_ne_true}
 use Rattle.lk_model.specs.Lists.{among, rises_within}
 use Rattle.lk_model.specs.Formulas.Literal.{variable, literal_of, contains}
 use Rattle.lk_model.specs.Formulas.Formula.{Cnf, variables_to}
@@ -13,57 +11,10 @@ use Rattle.lk_model.specs.Formulas.Autarky.{first_sign}
 use Rattle.lk_model.specs.Documents.Documents.{weighting_of}
 use Rattle.lk_model.specs.Documents.Form.{is_stage}
 use Rattle.lk_model.specs.declared.document.Stage.{Stage}
-use Rattle.lk_model.proofs.Booleans.{or_true, or_left, or_right}
 use Rattle.lk_model.proofs.Founds.{up_to_bounds}
 use Rattle.kernel_laws.proofs.Linear.Stages.{unset_outside, no_sign}
+use Rattle.kernel_laws.proofs.Matching.SetLines.{from_chosen, in_chosen, chosen_rise}
 use Rattle.linear_laws.specs.RunLaw.{sign_literal, sign_line}
-
--- LISTS OF CHOSEN LITERALS
-
--- a literal of a list of chosen ones was chosen
-from_chosen : (h : ℕ → Option ℤ) (vs : List ℕ) (l : ℤ) → contains (filter_map h vs) l ≡ true → (v : ℕ) × (h v ≡ Some l)
-from_chosen h [] l e = absurd (let f : ⊥ = cc in f)
-from_chosen h (v ∷ vs) l e = at_choice (h v) refl e (from_chosen h vs l)
-  where
-    at_choice : (o : Option ℤ) → h v ≡ o → contains (cons_option o (filter_map h vs)) l ≡ true
-        → (contains (filter_map h vs) l ≡ true → (w : ℕ) × (h w ≡ Some l)) → (w : ℕ) × (h w ≡ Some l)
-    at_choice None is e rest = rest e
-    at_choice (Some k) is e rest = elim (or_true (int_eq l k) (contains (filter_map h vs) l) e) [
-      | inl here ↦ (v, is ∙ ap Some (sym ((Decides-int_eq l k).0 here)))
-      | inr later ↦ rest later
-    ]
-
--- one that was chosen stands there
-in_chosen : (h : ℕ → Option ℤ) (vs : List ℕ) (v : ℕ) (l : ℤ) → among vs v ≡ true → h v ≡ Some l → contains (filter_map h vs) l ≡ true
-in_chosen h [] v l m e = absurd (let f : ⊥ = cc in f)
-in_chosen h (w ∷ vs) v l m e = elim (cases_Bool (w == v)) [
-  | inl y ↦ rw (ap h (eqb-true w v y) ∙ e) (or_left (int_eq l l) _ ((Decides-int_eq l l).1 refl))
-  | inr y ↦ at_choice (h w) (in_chosen h vs v l (sym (ap (λ (b : Bool). b || among vs v) y) ∙ m) e)
-]
-  where
-    at_choice : (o : Option ℤ) → contains (filter_map h vs) l ≡ true → contains (cons_option o (filter_map h vs)) l ≡ true
-    at_choice None there = there
-    at_choice (Some k) there = or_right (int_eq l k) _ there
-
--- chosen literals on the numbers of a range rise
-chosen_rise : (h : ℕ → Option ℤ) (low a n high : ℕ) → ((v : ℕ) (l : ℤ) → h v ≡ Some l → variable l ≡ v) → low < a → a + n ≤ high + 1
-    → rises_within low high (map variable (filter_map h (range_with_len a n))) ≡ true
-chosen_rise h low a zero high on above within = refl
-chosen_rise h low a (suc n) high on above within = at_choice (h a) refl
-    (λ low l. chosen_rise h low (a + 1) n high on l (omega (arith, within)))
-  where
-    later : List ℤ
-    later = filter_map h (range_with_len (a + 1) n)
-
-    at_choice : (o : Option ℤ) → h a ≡ o → ((low : ℕ) → low < a + 1 → rises_within low high (map variable later) ≡ true)
-        → rises_within low high (map variable (cons_option o later)) ≡ true
-    at_choice None is rest = rest low (omega (arith, above))
-    at_choice (Some k) is rest =
-        let e = on a k is in
-        let more : rises_within (variable k) high (map variable later) ≡ true = rest (variable k) (omega (arith, e)) in
-        let first : nat_lt low (variable k) ≡ true = lt-ltb low (variable k) (omega (arith, e, above)) in
-        let most : nat_le (variable k) high ≡ true = le-leb (variable k) high (omega (arith, e, within)) in
-        rw (first, most, more) refl
 
 -- SIGNS
 

@@ -1,35 +1,13 @@
 -- The entries of the starting rows.
-use Rattle.std.proofs.Common.{◌≡◌, inl, inr, ◌⊎◌, ℕ, zero, suc, ◌+◌, ◌-◌, ◌<◌, ◌≤◌, Bool, true, false, cond, ◌==◌, List, [], ◌∷◌, ◌++◌, map, zip, length, get_or, ℤ, pos, negsuc, ◌*ℤ◌, int_lt, refl, sym, ap, ◌∙◌, subst, eq-eqb, arith}
+use Rattle.std.proofs.Common.{◌≡◌, inl, inr, ◌⊎◌, ℕ, ◌+◌, ◌-◌, ◌<◌, ◌≤◌, Bool, true, false, cond, ◌==◌, List, [], ◌∷◌, ◌++◌, map, length, get_or, ℤ, pos, negsuc, ◌*ℤ◌, int_lt, refl, ap, ◌∙◌, eq-eqb, arith}
 use Rattle.std.proofs.lemmas.Bool.{ne_eqb, eqb-true, both_ways}
 use Rattle.std.proofs.lemmas.List.{get_or-map, length-map}
-use Rattle.std.specs.List.{range_with_len}
-use Rattle.lk_model.specs.Lists.{among}
 use Rattle.lk_model.specs.Formulas.Formula.{Cnf, clause_at, variables_at}
 use Rattle.lk_model.specs.Formulas.Balance.{incidence}
 use Rattle.lk_model.specs.Linear.Rows.{Row, entry, lack, sign_of, start_row, start_rows}
-use Rattle.lk_model.proofs.Booleans.{or_left, or_right}
-use Rattle.lk_model.proofs.Counting.{Differ, more, Differ-filter, Differ-range}
+use Rattle.lk_model.proofs.Counting.{Differ, Differ-filter, Differ-range, same_place}
 use Rattle.exact_pivot.proofs.Artificials.{in_first, in_middle, in_last}
-
--- what is read at a place is among the numbers
-pub among_at : (xs : List ℕ) (i : ℕ) → i < length xs → among xs (get_or xs i 0) ≡ true
-among_at [] i h = absurd (omega (arith, h))
-among_at (x ∷ xs) zero h = or_left (x == x) (among xs x) (eq-eqb x x refl)
-among_at (x ∷ xs) (suc i) h = or_right (x == get_or xs i 0) (among xs (get_or xs i 0)) (among_at xs i (omega (arith, h)))
-
--- numbers that differ have one place each
-pub same_place : (xs : List ℕ) (i j : ℕ) → Differ xs → i < length xs → j < length xs → get_or xs i 0 ≡ get_or xs j 0 → i ≡ j
-same_place [] i j d h k e = absurd (omega (arith, h))
-same_place (x ∷ xs) zero zero d h k e = refl
-same_place (x ∷ xs) zero (suc j) (more _ _ apart d) h k e = absurd (both_ways (among xs x) apart (subst (λ y. among xs y ≡ true) (sym e) (among_at xs j (omega (arith, k)))))
-same_place (x ∷ xs) (suc i) zero (more _ _ apart d) h k e = absurd (both_ways (among xs x) apart (subst (λ y. among xs y ≡ true) e (among_at xs i (omega (arith, h)))))
-same_place (x ∷ xs) (suc i) (suc j) (more _ _ apart d) h k e = ap suc (same_place xs i j d (omega (arith, h)) (omega (arith, k)) e)
-
--- an image of a numbered element, by its place
-zip_at : {X : Type 0} (f : ℕ × ℕ → X) (vs : List ℕ) (a i : ℕ) (d : X) → i < length vs → get_or (map f (zip (range_with_len a (length vs)) vs)) i d ≡ f (a + i, get_or vs i 0)
-zip_at f [] a i d h = absurd (omega (arith, h))
-zip_at f (v ∷ vs) a zero d h = ap (λ n. f (n, v)) (let same : a ≡ a + 0 = omega arith in same)
-zip_at f (v ∷ vs) a (suc i) d h = zip_at f vs (a + 1) i d (omega (arith, h)) ∙ ap (λ n. f (n, get_or vs i 0)) (let same : a + 1 + i ≡ a + suc i = omega arith in same)
+use Rattle.exact_pivot.proofs.Starts.{zip_at}
 
 -- the variables differ
 pub variables_differ : (F : Cnf) (S : List ℕ) → Differ (variables_at F S)

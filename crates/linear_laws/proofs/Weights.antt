@@ -1,33 +1,23 @@
 -- The weights of a stage, and the balances that they make in the clauses of the rows.
-use Rattle.std.proofs.Common.{◌≡◌, inl, inr, ℕ, zero, suc, ◌-◌, ◌<◌, Bool, true, false, ◌==◌, List, [], ◌∷◌, map, zip, filter, length, get_or, ℤ, pos, ◌*ℤ◌, refl, sym, ap, ◌∙◌, subst, arith}
+use Rattle.std.proofs.Common.{◌≡◌, inl, inr, ℕ, zero, suc, ◌-◌, ◌<◌, true, false, ◌==◌, List, [], ◌∷◌, map, zip, filter, length, get_or, ℤ, pos, ◌*ℤ◌, refl, sym, ap, ◌∙◌, subst, arith}
 use Rattle.std.specs.Prelude.{find}
-use Rattle.std.specs.List.{list_any}
 use Rattle.std.specs.Option.{option_map_or}
 use Rattle.std.proofs.Math.IntN.{*ℤ-zero}
 use Rattle.std.proofs.lemmas.Bool.{cases_Bool, eqb-true, eq-eqb, both_ways, false_from_ne_true}
 use Rattle.lk_model.specs.Lists.{up_to, sum_of, among, is_nonzero}
-use Rattle.lk_model.specs.Formulas.Literal.{variable, mentions, contains, complement}
+use Rattle.lk_model.specs.Formulas.Literal.{mentions}
 use Rattle.lk_model.specs.Formulas.Formula.{Cnf, clause_at, is_formula, variables_to, variables_at, variable_occurs}
 use Rattle.lk_model.specs.Formulas.Balance.{Weighting, balance, incidence}
 use Rattle.lk_model.specs.declared.document.Weight.{Weight}
-use Rattle.lk_model.proofs.Booleans.{or_false, or_true, or_left, or_right}
+use Rattle.lk_model.proofs.Booleans.{or_false}
 use Rattle.lk_model.proofs.Counting.{Differ, more}
-use Rattle.lk_model.proofs.Variables.{occurs, any_literal}
-use Rattle.kernel_laws.proofs.Clauses.{variable_complement}
+use Rattle.lk_model.proofs.Variables.{occurs}
 use Rattle.kernel_laws.proofs.Linear.Balances.{clause_balance, zero_is}
+use Rattle.kernel_laws.proofs.Linear.LinearLean.{incidence_absent}
 use Rattle.lk_model.proofs.Clauses.{form_at}
-use Rattle.linear_laws.proofs.Places.{sum_places, sum_filtered}
-use Rattle.linear_laws.proofs.StartRows.{among_at}
-
--- a clause without the variable has no incidence in it
-pub incidence_absent : (c : List ℤ) (v : ℕ) → mentions c v ≡ false → incidence c v ≡ pos 0
-incidence_absent c v e =
-    let first : contains c (pos v) ≡ false = absent (pos v) refl in
-    let second : contains c (complement (pos v)) ≡ false = absent (complement (pos v)) (variable_complement (pos v)) in
-    rw (first, second) refl
-  where
-    absent : (l : ℤ) → variable l ≡ v → contains c l ≡ false
-    absent l s = false_from_ne_true (contains c l) (λ t. both_ways (mentions c v) e (any_literal (λ k. variable k == v) c l t (eq-eqb (variable l) v s)))
+use Rattle.lk_model.proofs.Lists.{among_at}
+use Rattle.linear_laws.proofs.Places.{sum_filtered}
+use Rattle.exact_pivot.proofs.Starts.{sum_places}
 
 -- THE WEIGHTS
 
@@ -86,19 +76,3 @@ balance_by_places F S x p form there =
     none v out =
         let absent : mentions (clause_at F p) v ≡ false = false_from_ne_true (mentions (clause_at F p) v) (λ t. both_ways (variable_occurs F S v) out (occurs F S p v there t)) in
         ap (λ z. x v *ℤ z) (incidence_absent (clause_at F p) v absent) ∙ *ℤ-zero (x v)
-
--- a number that passes
-pub number_passing : (t : ℕ → Bool) (xs : List ℕ) → list_any t xs ≡ true → (x : ℕ) × (among xs x ≡ true) × (t x ≡ true)
-number_passing t [] e = absurd (let f : ⊥ = cc in f)
-number_passing t (x ∷ xs) e = elim (or_true (t x) (list_any t xs) e) [
-  | inl here ↦ (x, or_left (x == x) (among xs x) (eq-eqb x x refl), here)
-  | inr later ↦ (let w = number_passing t xs later in (w.0, or_right (x == w.0) (among xs w.0) w.1, w.2))
-]
-
--- a number that is among others has a place
-pub place_of : (xs : List ℕ) (x : ℕ) → among xs x ≡ true → (i : ℕ) × (i < length xs) × (get_or xs i 0 ≡ x)
-place_of [] x e = absurd (let f : ⊥ = cc in f)
-place_of (y ∷ xs) x e = elim (or_true (y == x) (among xs x) e) [
-  | inl here ↦ (0, omega arith, eqb-true y x here)
-  | inr later ↦ (let w = place_of xs x later in let inside = w.1 in (suc w.0, omega (arith, inside), w.2))
-]

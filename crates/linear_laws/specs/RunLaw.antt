@@ -16,7 +16,7 @@ use Rattle.lk_model.specs.declared.document.Stage.{Stage}
 use Rattle.lk_model.specs.declared.document.Body.TheVariants.{Linear}
 use Rattle.lk_model.specs.declared.document.DoneDocument.{DoneDocument}
 use Rattle.lk_model.specs.declared.result.LinearResult.{LinearResult}
-use Rattle.kernel_laws.specs.ClauseLines.{clauses_at}
+use Rattle.lk_model.specs.Formulas.Formula.{clauses_at}
 use Rattle.exact_pivot.specs.Reached.{IsReached}
 
 -- STAGES

@@ -2,7 +2,6 @@
 use Rattle.std.proofs.Common.{◌≡◌, ℕ, zero, suc, ◌+◌, ◌<◌, ◌≤◌, Bool, true, false, not, ◌&&◌, ◌∙◌, List, [], ◌∷◌, length, take, get_or, map, refl, sym, ap, inl, inr, arith, ℤ, sum_by}
 use Rattle.std.specs.List.{list_all}
 use Rattle.std.specs.Ordering.{int_eq}
-use Rattle.std.specs.Cmp.{signed_Decides}
 use Rattle.std.proofs.lemmas.Bool.{cases_Bool, and_from}
 use Rattle.std.proofs.lemmas.Bool.Decides.{Decides-int_eq}
 use Rattle.std.proofs.lemmas.List.Sums.{sum_by-cons}
@@ -11,6 +10,7 @@ use Rattle.lk_model.specs.Formulas.Literal.{variable, contains, is_literal, is_d
 use Rattle.lk_model.specs.Formulas.Formula.{Cnf, is_formula, literal_count}
 use Rattle.lk_model.specs.Formulas.Crossed.{Variables, crossed_out, formula_without}
 use Rattle.lk_model.proofs.Booleans.{and_true}
+use Rattle.lk_model.proofs.ListTests.{all_left}
 
 -- the literals left are those outside P
 pub contains_crossed : (P : Variables) (c : List ℤ) (l : ℤ) → contains (crossed_out P c) l ≡ (not (P (variable l)) && contains c l)
@@ -19,15 +19,9 @@ contains_crossed P c l = any-filter_same (int_eq l) (λ k. not (P (variable k)))
 
 -- they are over the same variables, each once
 literals_crossed : (P : Variables) (n : ℕ) (c : List ℤ) → list_all (is_literal n) c ≡ true → list_all (is_literal n) (crossed_out P c) ≡ true
-literals_crossed P n [] e = refl
-literals_crossed P n (l ∷ c) e =
-    let both = and_true (is_literal n l) (list_all (is_literal n) c) e in
-    elim (cases_Bool (P (variable l))) [
-      | inl y ↦ rw y (literals_crossed P n c both.1)
-      | inr m ↦ rw m (and_from (is_literal n l) (list_all (is_literal n) (crossed_out P c)) both.0 (literals_crossed P n c both.1))
-    ]
+literals_crossed P n c e = all_left (is_literal n) (λ l. not (P (variable l))) c e
 
-distinct_crossed : (P : Variables) (c : List ℤ) → is_distinct c ≡ true → is_distinct (crossed_out P c) ≡ true
+pub distinct_crossed : (P : Variables) (c : List ℤ) → is_distinct c ≡ true → is_distinct (crossed_out P c) ≡ true
 distinct_crossed P [] e = refl
 distinct_crossed P (l ∷ c) e =
     let both = and_true (not (contains c l)) (is_distinct c) e in

@@ -5,13 +5,14 @@ use Rattle.std.specs.Prelude.{replicate, slice_set}
 use Rattle.std.specs.Ordering.{int_eq}
 use Rattle.std.proofs.lemmas.Bool.Decides.{Decides-int_eq}
 use Rattle.std.proofs.lemmas.List.Folds.{list_any-append}
+use Rattle.std.proofs.lemmas.Bool.{cases_Bool}
 use Rattle.lk_model.specs.Formulas.Literal.{contains, is_literal}
 use Rattle.lk_model.specs.Formulas.Literal.{rank_of}
 use Rattle.lk_model.specs.Limits.{max_vars}
 use Rattle.lk_model.specs.Held.Growing.{AreFlagged, IsHeld}
 use Rattle.lk_model.proofs.Booleans.{and_true}
 use Rattle.lk_model.proofs.Ranks.{rank_apart, rank_small}
-use Rattle.lk_model.proofs.Literals.{true_or_false, clause-more, clause-less, clause-last, clause-apart, literal_at, new_at}
+use Rattle.lk_model.proofs.Literals.{clause-more, clause-less, clause-last, clause-apart, literal_at, new_at}
 
 pub contains-push : (xs : List ℤ) (l k : ℤ) → contains (xs ++ l ∷ []) k ≡ (contains xs k || (int_eq k l || false))
 contains-push xs l k = list_any-append (int_eq k) xs (l ∷ [])
@@ -26,7 +27,7 @@ Flagged-none n h = record {
 }
 
 pub same_false : (k l : ℤ) → k ≢ l → int_eq k l ≡ false
-same_false k l ne = elim (true_or_false (int_eq k l)) [ inl e ↦ absurd (ne ((Decides-int_eq k l).0 e)) | inr e ↦ e ]
+same_false k l ne = elim (cases_Bool (int_eq k l)) [ inl e ↦ absurd (ne ((Decides-int_eq k l).0 e)) | inr e ↦ e ]
 
 pub or_no : (b : Bool) → (b || (false || false)) ≡ b
 or_no true = refl
@@ -42,7 +43,7 @@ Flagged-push n xs flags l f lit out = record {
   small = f.small;
   clause = clause-more n xs l f.clause lit out;
   size = length-set flags (rank_of l) true ∙ f.size;
-  told = λ k kit. elim (true_or_false (int_eq k l)) [
+  told = λ k kit. elim (cases_Bool (int_eq k l)) [
     | inl e ↦
         let same : k ≡ l = (Decides-int_eq k l).0 e in
         let within : rank_of l < length flags = omega (arith, f.size, rank_small n l lit) in
@@ -61,7 +62,7 @@ Flagged-pop n xs flags l f = record {
   small = f.small;
   clause = clause-less n xs l f.clause;
   size = length-set flags (rank_of l) false ∙ f.size;
-  told = λ k kit. elim (true_or_false (int_eq k l)) [
+  told = λ k kit. elim (cases_Bool (int_eq k l)) [
     | inl e ↦
         let same : k ≡ l = (Decides-int_eq k l).0 e in
         let within : rank_of l < length flags = omega (arith, f.size, rank_small n l (clause-last n xs l f.clause)) in

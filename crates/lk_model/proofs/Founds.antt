@@ -2,7 +2,7 @@
 use Rattle.std.proofs.Common.{◌≡◌, ℕ, zero, suc, ◌+◌, ◌<◌, ◌≤◌, ◌∙◌, Bool, true, false, cond, ◌||◌, List, [], ◌∷◌, length, map, zip, take, get_or, refl, sym, ap, subst, arith, ℤ, Option, Some, None, unwrap_or, inl, inr}
 use Rattle.std.specs.Prelude.{find, filter, ◌==◌, nat_le}
 use Rattle.std.specs.List.{list_any, list_all, range_with_len}
-use Rattle.std.specs.Option.{option_map_or}
+use Rattle.std.specs.Option.{option_map, option_map_or}
 use Rattle.std.specs.Ordering.{int_eq}
 use Rattle.std.proofs.lemmas.Bool.{cases_Bool, cases_eq, eq-eqb, eqb-true, leb-true, le-leb, lt-ltb, cond-true, cond-false}
 use Rattle.std.proofs.lemmas.Bool.Decides.{Decides-int_eq}
@@ -20,6 +20,11 @@ pub none_found : (t : ℕ → Bool) (ps : List ℕ) → ((p : ℕ) → among ps 
 none_found t [] h = refl
 none_found t (p ∷ ps) h =
     rw (h p (or_left (p == p) (among ps p) (eq-eqb p p refl))) (none_found t ps (λ q there. h q (or_right (p == q) (among ps q) there)))
+
+-- where nothing is mapped, nothing is there
+pub option_map-none : {X Y : Type 0} (f : X → Y) (o : Option X) → option_map f o ≡ None → o ≡ None
+option_map-none f None e = refl
+option_map-none f (Some x) e = absurd (let g : ⊥ = cc in g)
 
 -- what is found where one passes
 pub first_found : (t : ℕ → Bool) (ps : List ℕ) → list_any t ps ≡ true → (among ps (unwrap_or (find t ps) 0) ≡ true) × (t (unwrap_or (find t ps) 0) ≡ true)

@@ -1,4 +1,6 @@
 pub mod Booleans
+pub mod Lists
+pub mod Products
 pub mod Clauses
 pub mod Ranks
 pub mod Rising
@@ -10,6 +12,7 @@ pub mod DimacsLaws
 pub mod FaultLaws
 pub mod FaultConverse
 pub mod GcdLaws
+pub mod LcmLaws
 pub mod ListTests
 pub mod ReachedLaws
 pub mod ReadingLaws
@@ -17,5 +20,7 @@ pub mod Literals
 pub mod Crossings
 pub mod Flags
 pub mod Counting
+pub mod VariableLists
+pub mod ClausesAt
 pub mod Variables
 pub mod Keys

@@ -1,14 +1,15 @@
 -- Tests over the items of lists.
-use Rattle.std.proofs.Common.{◌≡◌, ◌≢◌, ◌∙◌, ℕ, Bool, true, List, [], ◌∷◌, sym, ap, subst, ℤ, pos, inl, inr}
+use Rattle.std.proofs.Common.{◌≡◌, ◌≢◌, ◌∙◌, ℕ, zero, suc, ◌<◌, Bool, true, false, cond, not, List, [], ◌∷◌, ◌++◌, length, get_or, filter, All, refl, sym, ap, subst, arith, ℤ, pos, inl, inr}
 use Rattle.std.specs.Prelude.{◌==◌}
 use Rattle.std.specs.List.{list_any, list_all}
 use Rattle.std.specs.Ordering.{int_eq}
-use Rattle.std.proofs.lemmas.Bool.{eqb-true}
+use Rattle.std.proofs.lemmas.Bool.{eqb-true, not-true}
 use Rattle.std.proofs.lemmas.Bool.Decides.{Decides-int_eq}
 use Rattle.lk_model.specs.Lists.{among}
 use Rattle.lk_model.specs.Formulas.Literal.{contains, is_literal}
 use Rattle.lk_model.specs.Formulas.Formula.{Cnf, clause_at, is_formula}
 use Rattle.lk_model.proofs.Booleans.{and_true, or_true, or_left, or_right}
+use Rattle.lk_model.proofs.Lists.{among_here, among_later}
 use Rattle.lk_model.proofs.Clauses.{literals_of}
 
 -- one of the literals passes where one that stands there does
@@ -36,6 +37,47 @@ passes_among t (q ∷ ps) p there e = elim (or_true (q == p) (among ps p) there)
   | inl here ↦ or_left (t q) (list_any t ps) (ap t (eqb-true q p here) ∙ e)
   | inr later ↦ or_right (t q) (list_any t ps) (passes_among t ps p later e)
 ]
+
+-- a position that passes, where one does
+pub passing : (t : ℕ → Bool) (ps : List ℕ) → list_any t ps ≡ true → (p : ℕ) × (among ps p ≡ true) × (t p ≡ true)
+passing t [] e = absurd (let f : ⊥ = cc in f)
+passing t (p ∷ ps) e = elim (or_true (t p) (list_any t ps) e) [
+  | inl here ↦ (p, among_here p ps, here)
+  | inr later ↦ (let w = passing t ps later in (w.0, among_later p w.0 ps w.1, w.2))
+]
+
+-- what passes one test at each element passes a weaker one
+pub all_weaker : {X : Type 0} (p q : X → Bool) → ((x : X) → p x ≡ true → q x ≡ true) → (xs : List X) → list_all p xs ≡ true → list_all q xs ≡ true
+all_weaker p q h [] e = refl
+all_weaker p q h (x ∷ xs) e = let b = and_true (p x) (list_all p xs) e in rw (h x b.0, all_weaker p q h xs b.1) refl
+
+-- one element more that passes
+pub all_more : {X : Type 0} (p : X → Bool) (xs : List X) (x : X) → list_all p xs ≡ true → p x ≡ true → list_all p (xs ++ x ∷ []) ≡ true
+all_more p [] x a e = rw e refl
+all_more p (y ∷ ys) x a e = let b = and_true (p y) (list_all p ys) a in rw (b.0) (all_more p ys x b.1 e)
+
+-- what each element passes, the one at a place passes
+pub all_at : {X : Type 0} (p : X → Bool) (xs : List X) (i : ℕ) (d : X) → list_all p xs ≡ true → i < length xs → p (get_or xs i d) ≡ true
+all_at p [] i d h lt = absurd (omega arith)
+all_at p (x ∷ xs) zero d h lt = (and_true (p x) (list_all p xs) h).0
+all_at p (x ∷ xs) (suc i) d h lt = all_at p xs i d (and_true (p x) (list_all p xs) h).1 (omega arith)
+
+-- and so do those that are left by another test
+pub all_left : (t p : ℤ → Bool) (c : List ℤ) → list_all t c ≡ true → list_all t (filter p c) ≡ true
+all_left t p [] h = refl
+all_left t p (l ∷ c) h = (let a = and_true (t l) (list_all t c) h in at (p l) a.0 (all_left t p c a.1))
+  where
+    at : (b : Bool) → t l ≡ true → list_all t (filter p c) ≡ true → list_all t (cond b (l ∷ filter p c) (filter p c)) ≡ true
+    at true e rest = rw (e, rest) refl
+    at false e rest = rest
+
+-- a test that passes nowhere
+pub none_pass : (p : ℕ → Bool) (xs : List ℕ) → list_all (λ b. not (p b)) xs ≡ true → All (λ b. p b ≡ false) xs
+none_pass p [] h k d lt = absurd (omega (arith, lt))
+none_pass p (x ∷ xs) h zero d lt = not-true (p x) (and_true _ _ h).0
+none_pass p (x ∷ xs) h (suc k) d lt = none_pass p xs (and_true _ _ h).1 k d (omega (arith, lt))
+
+-- LITERALS OF A FORMULA
 
 -- a literal of a clause of a formula is one over its variables
 pub literal_within : (F : Cnf) (p : ℕ) (l : ℤ) → is_formula F ≡ true → contains (clause_at F p) l ≡ true → is_literal F.vars l ≡ true

@@ -1,22 +1,52 @@
--- Tests of literals.
-use Rattle.std.proofs.Common.{◌≡◌, ℕ, zero, suc, ◌<◌, ◌≤◌, Bool, true, false, not, ◌&&◌, ◌||◌, List, [], ◌∷◌, ◌++◌, length, take, get_or, refl, sym, ◌∙◌, arith, ℤ, ◌⊎◌, inl, inr}
+-- Literals and tests of them, and the literals of clauses.
+use Rattle.std.proofs.Common.{◌≡◌, ℕ, zero, suc, ◌<◌, ◌≤◌, Bool, true, false, not, ◌&&◌, ◌||◌, List, [], ◌∷◌, ◌++◌, length, take, get_or, refl, sym, ◌∙◌, ap, arith, ℤ, pos, negsuc, neg_ℤ, filter, inl, inr}
 use Rattle.std.specs.Prelude.{nat_le}
 use Rattle.std.specs.Ordering.{int_eq}
 use Rattle.std.proofs.lemmas.Grind.{common_steps}
 use Rattle.std.proofs.lemmas.Bool.Decides.{Decides-int_eq}
 use Rattle.std.proofs.lemmas.List.Folds.{list_any-append, list_all-append, list_any_at}
 use Rattle.std.specs.List.{list_any, list_all}
-use Rattle.std.proofs.lemmas.Bool.{both_ways, not-true, or_from, false_from_ne_true, leb-true}
-use Rattle.lk_model.specs.Formulas.Literal.{variable, contains, is_literal, is_distinct, is_clause}
+use Rattle.std.proofs.lemmas.Bool.{both_ways, not-true, or_from, false_from_ne_true, leb-true, cases_Bool, and_from}
+use Rattle.std.proofs.lemmas.Map.Views.{any-filter_same}
+use Rattle.lk_model.specs.Formulas.Literal.{variable, complement, contains, is_literal, is_distinct, is_clause}
 use Rattle.lk_model.proofs.Booleans.{and_true}
 
-pub true_or_false : (b : Bool) → (b ≡ true) ⊎ (b ≡ false)
-true_or_false true = inl refl
-true_or_false false = inr refl
+-- literals that pass the test are equal
+pub same_int : (a b : ℤ) → int_eq a b ≡ true → a ≡ b
+same_int a b e = (Decides-int_eq a b).0 e
 
-pub and_both : (a b : Bool) → a ≡ true → b ≡ true → (a && b) ≡ true
-and_both true b p q = q
-and_both false b p q = p
+-- a literal passes it with itself
+pub int_self : (a : ℤ) → int_eq a a ≡ true
+int_self a = (Decides-int_eq a a).1 refl
+
+-- COMPLEMENTS
+
+-- the complement of the complement is the literal
+pub complement_twice : (l : ℤ) → complement (complement l) ≡ l
+complement_twice (pos zero) = refl
+complement_twice (pos (suc k)) = refl
+complement_twice (negsuc k) = refl
+
+-- a literal and its complement are on one variable
+pub variable_complement : (l : ℤ) → variable (complement l) ≡ variable l
+variable_complement (pos zero) = refl
+variable_complement (pos (suc k)) = refl
+variable_complement (negsuc k) = refl
+
+-- as the two literals of a variable are
+pub variable_negative : (v : ℕ) → variable (neg_ℤ (pos v)) ≡ v
+variable_negative zero = refl
+variable_negative (suc k) = refl
+
+-- the complement of a literal over the variables is one
+pub complement_literal : (n : ℕ) (l : ℤ) → is_literal n l ≡ true → is_literal n (complement l) ≡ true
+complement_literal n l h = rw (variable_complement l) h
+
+-- CLAUSES
+
+-- a literal that stands in a filtered clause passes the test and stands in the clause
+pub contains_filter : (t : ℤ → Bool) (c : List ℤ) (l : ℤ) → contains (filter t c) l ≡ (t l && contains c l)
+contains_filter t c l = any-filter_same (int_eq l) t (t l) (λ k e. ap t (sym (same_int l k e))) c
 
 pub int_eq-same : (x y : ℤ) → int_eq x y ≡ true → int_eq y x ≡ true
 int_eq-same x y h = (Decides-int_eq y x).1 (sym ((Decides-int_eq x y).0 h))
@@ -31,7 +61,7 @@ no_repeat [] t ts d h = absurd cc
 no_repeat (x ∷ xs) t ts d h =
     let later : is_distinct (xs ++ t ∷ ts) ≡ true = grind (arith, common_steps) in
     let head : contains (xs ++ t ∷ ts) x ≡ false = grind (arith, common_steps) in
-    elim (true_or_false (int_eq t x)) [
+    elim (cases_Bool (int_eq t x)) [
       | inl e ↦ absurd (cc (list_any-append (int_eq x) xs (t ∷ ts), int_eq-same t x e, or_true (list_any (int_eq x) xs) (list_any (int_eq x) ts)))
       | inr e ↦ no_repeat xs t ts later (grind (arith, common_steps))
     ]
@@ -41,7 +71,7 @@ pub distinct-more : (xs : List ℤ) (l : ℤ) → is_distinct xs ≡ true → co
 distinct-more [] l d h = refl
 distinct-more (x ∷ xs) l d h =
     let later : is_distinct (xs ++ l ∷ []) ≡ true = distinct-more xs l (grind (arith, common_steps)) (grind (arith, common_steps)) in
-    let apart : int_eq x l ≡ false = elim (true_or_false (int_eq x l)) [ inl e ↦ absurd (grind (arith, common_steps, int_eq-same x l e)) | inr e ↦ e ] in
+    let apart : int_eq x l ≡ false = elim (cases_Bool (int_eq x l)) [ inl e ↦ absurd (grind (arith, common_steps, int_eq-same x l e)) | inr e ↦ e ] in
     let head : contains (xs ++ l ∷ []) x ≡ false = list_any-append (int_eq x) xs (l ∷ []) ∙ grind (arith, common_steps) in
     grind (arith, common_steps)
 
@@ -57,13 +87,13 @@ distinct-less (x ∷ xs) l d =
 pub clause-more : (n : ℕ) (xs : List ℤ) (l : ℤ) → is_clause n xs ≡ true → is_literal n l ≡ true → contains xs l ≡ false → is_clause n (xs ++ l ∷ []) ≡ true
 clause-more n xs l c h out =
     let p = and_true _ _ c in
-    and_both _ _ (list_all-append (is_literal n) xs (l ∷ []) ∙ and_both _ _ p.0 (and_both _ _ h refl)) (distinct-more xs l p.1 out)
+    and_from _ _ (list_all-append (is_literal n) xs (l ∷ []) ∙ and_from _ _ p.0 (and_from _ _ h refl)) (distinct-more xs l p.1 out)
 
 pub clause-less : (n : ℕ) (xs : List ℤ) (l : ℤ) → is_clause n (xs ++ l ∷ []) ≡ true → is_clause n xs ≡ true
 clause-less n xs l c =
     let p = and_true _ _ c in
     let q = and_true _ _ (sym (list_all-append (is_literal n) xs (l ∷ [])) ∙ p.0) in
-    and_both _ _ q.0 (distinct-less xs l p.1)
+    and_from _ _ q.0 (distinct-less xs l p.1)
 
 -- the last literal of a clause
 pub clause-last : (n : ℕ) (xs : List ℤ) (l : ℤ) → is_clause n (xs ++ l ∷ []) ≡ true → is_literal n l ≡ true
@@ -73,7 +103,7 @@ clause-last n xs l c =
     (and_true _ _ q.1).0
 
 pub clause-apart : (n : ℕ) (xs : List ℤ) (l : ℤ) → is_clause n (xs ++ l ∷ []) ≡ true → contains xs l ≡ false
-clause-apart n xs l c = elim (true_or_false (contains xs l)) [
+clause-apart n xs l c = elim (cases_Bool (contains xs l)) [
   | inl e ↦ absurd (no_repeat xs l [] (and_true _ _ c).1 e)
   | inr e ↦ e
 ]
@@ -98,14 +128,14 @@ new_at (x ∷ xs) (suc i) d h lt =
 
 -- a list with a literal of another variable is no clause
 pub beyond : (n : ℕ) (c : List ℤ) (i : ℕ) (d : ℤ) → i < length c → n < variable (get_or c i d) → false ≡ is_clause n c
-beyond n c i d lt past = elim (true_or_false (is_clause n c)) [
+beyond n c i d lt past = elim (cases_Bool (is_clause n c)) [
   | inl e ↦ absurd (let lit = literal_at n c i d (and_true _ _ e).0 lt in let fits : variable (get_or c i d) ≤ n = leb-true _ _ (and_true (nat_le 1 (variable (get_or c i d))) _ lit).1 in omega (arith, fits, past))
   | inr e ↦ sym e
 ]
 
 -- nor is one with a literal twice
 pub twice : (n : ℕ) (c : List ℤ) (i : ℕ) (d : ℤ) → i < length c → contains (take i c) (get_or c i d) ≡ true → false ≡ is_clause n c
-twice n c i d lt again = elim (true_or_false (is_clause n c)) [
+twice n c i d lt again = elim (cases_Bool (is_clause n c)) [
   | inl e ↦ sym (new_at c i d (and_true _ _ e).1 lt) ∙ again ∙ sym e
   | inr e ↦ sym e
 ]

@@ -1,5 +1,5 @@
 -- The variables of clauses.
-use Rattle.std.proofs.Common.{◌≡◌, ℕ, ◌<◌, ◌≤◌, ◌∙◌, Bool, true, ◌==◌, nat_le, List, [], ◌∷◌, refl, sym, ap, subst, arith, inl, inr, ℤ}
+use Rattle.std.proofs.Common.{◌≡◌, ℕ, ◌<◌, ◌≤◌, Bool, true, ◌==◌, nat_le, List, [], ◌∷◌, refl, arith, inl, inr, ℤ}
 use Rattle.std.specs.List.{list_any, list_all}
 use Rattle.std.specs.Ordering.{int_eq}
 use Rattle.std.proofs.lemmas.Bool.Decides.{Decides-int_eq}
@@ -10,6 +10,7 @@ use Rattle.lk_model.specs.Formulas.Formula.{Cnf, clause_at, is_formula, variable
 use Rattle.lk_model.proofs.Booleans.{and_true, or_true, or_left, or_right}
 use Rattle.lk_model.proofs.Clauses.{literals_of}
 use Rattle.lk_model.proofs.Counting.{among-range}
+use Rattle.lk_model.proofs.ListTests.{passes_among, passing}
 
 -- a test that holds of a literal holds of one on a variable that is given by it
 pub any_mono : (p q : ℤ → Bool) (c : List ℤ) → ((l : ℤ) → p l ≡ true → q l ≡ true) → list_any p c ≡ true → list_any q c ≡ true
@@ -17,14 +18,6 @@ any_mono p q [] h e = absurd (let f : ⊥ = cc in f)
 any_mono p q (l ∷ c) h e = elim (or_true (p l) (list_any p c) e) [
   | inl this ↦ or_left (q l) (list_any q c) (h l this)
   | inr later ↦ or_right (q l) (list_any q c) (any_mono p q c h later)
-]
-
--- one that stands there and passes
-pub any_literal : (t : ℤ → Bool) (c : List ℤ) (l : ℤ) → contains c l ≡ true → t l ≡ true → list_any t c ≡ true
-any_literal t [] l there e = absurd (let f : ⊥ = cc in f)
-any_literal t (k ∷ c) l there e = elim (or_true (int_eq l k) (contains c l) there) [
-  | inl here ↦ or_left (t k) (list_any t c) (ap t (sym ((Decides-int_eq l k).0 here)) ∙ e)
-  | inr later ↦ or_right (t k) (list_any t c) (any_literal t c l later e)
 ]
 
 -- a literal that passes
@@ -35,16 +28,13 @@ literal_passing t (l ∷ c) e = elim (or_true (t l) (list_any t c) e) [
   | inr later ↦ (let w = literal_passing t c later in (w.0, or_right (int_eq w.0 l) (contains c w.0) w.1, w.2))
 ]
 
-any_positions : (p q : ℕ → Bool) (xs : List ℕ) (x : ℕ) → among xs x ≡ true → p x ≡ true → list_any p xs ≡ true
-any_positions p q [] x m e = absurd (let f : ⊥ = cc in f)
-any_positions p q (y ∷ xs) x m e = elim (or_true (y == x) (among xs x) m) [
-  | inl same ↦ or_left (p y) (list_any p xs) (subst (λ k. p k ≡ true) (sym (eqb-true y x same)) e)
-  | inr later ↦ or_right (p y) (list_any p xs) (any_positions p q xs x later e)
-]
-
 -- a variable of a kept clause occurs
 pub occurs : (F : Cnf) (kept : List ℕ) (p v : ℕ) → among kept p ≡ true → mentions (clause_at F p) v ≡ true → variable_occurs F kept v ≡ true
-occurs F kept p v m e = any_positions (λ q. mentions (clause_at F q) v) (λ q. true) kept p m e
+occurs F kept p v m e = passes_among (λ q. mentions (clause_at F q) v) kept p m e
+
+-- and one that occurs is one of a kept clause
+pub position_with : (F : Cnf) (kept : List ℕ) (v : ℕ) → variable_occurs F kept v ≡ true → (p : ℕ) × (among kept p ≡ true) × (mentions (clause_at F p) v ≡ true)
+position_with F kept v e = passing (λ q. mentions (clause_at F q) v) kept e
 
 -- the variables of a clause are at most the formula's
 clause_bound : (n : ℕ) (c : List ℤ) (v : ℕ) → list_all (is_literal n) c ≡ true → mentions c v ≡ true → (0 < v) × (v ≤ n)

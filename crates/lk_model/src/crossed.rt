@@ -1,5 +1,6 @@
 //! Sets of variables, and clauses without the literals of such a set.
-ghost use Rattle.std.specs.Prelude.{◌≡◌, ◌<◌, ◌≤◌, IfOk, OnOk, IsTrue, replicate, false, length, []};
+ghost use Rattle.std.specs.Prelude.{◌≡◌, ◌<◌, ◌≤◌, ◌||◌, ℕ, IfOk, OnOk, IsTrue, replicate, false, length, []};
+ghost use Rattle.lk_model.specs.Lists.{among, rises_within};
 ghost use Rattle.lk_model.specs.Formulas.Literal.{is_clause};
 ghost use Rattle.lk_model.specs.Formulas.Formula.{clause_at};
 ghost use Rattle.lk_model.specs.Formulas.Crossed.{crossed_out, formula_without};
@@ -35,6 +36,17 @@ impl VarSet {
         })
     }
 
+    /// The set of these variables up to n.
+    pub fn of(alloc: Global, n: u32, vars: &[u32]) -> Result<VarSet, OutOfMemory>
+        requires { IsTrue (rises_within 0 n vars.now) }
+        ensures size { IfOk result (λ s. length s ≡ n) }
+        ensures vars { IfOk result (λ s. (v : ℕ) → is_in s v ≡ among vars.now v) }
+    {
+        let mut set = VarSet::new(alloc, n)?;
+        set.add_all(vars);
+        Ok(set)
+    }
+
     /// Puts a variable in.
     pub fn add(&mut self, v: u32)
         requires first { 0 < v }
@@ -42,6 +54,17 @@ impl VarSet {
         ensures { self.new ≡ with_variable self.old v }
     {
         self.flags[v as usize - 1] = true;
+    }
+
+    // Puts variables in.
+    fn add_all(&mut self, vars: &[u32])
+        requires { IsTrue (rises_within 0 (length self.old) vars.now) }
+        ensures size { length self.new ≡ length self.old }
+        ensures vars { (v : ℕ) → is_in self.new v ≡ (is_in self.old v || among vars.now v) }
+    {
+        for v in vars {
+            self.add(*v);
+        }
     }
 
     /// Whether it has a variable.

@@ -4,7 +4,7 @@ ghost use Rattle.std.specs.Prelude.{slice_index, slice_index_or};
 ghost use Rattle.lk_model.specs.Held.Flat.{cut, AreEnds, begin_of};
 ghost use Rattle.lk_model.specs.Limits.{max_vars, max_clauses, max_literals};
 ghost use Rattle.lk_model.specs.Formulas.Literal.{is_clause};
-ghost use Rattle.lk_model.specs.Formulas.Formula.{clause_at, is_formula, IsWithinLimits, literal_count, positions_of, with_clause};
+ghost use Rattle.lk_model.specs.Formulas.Formula.{clause_at, clauses_at, is_formula, IsWithinLimits, literal_count, positions_of, with_clause};
 ghost use Rattle.lk_model.specs.Formulas.Lean.{are_positions};
 ghost use Rattle.lk_model.specs.Lists.{rises_within};
 
@@ -141,6 +141,18 @@ impl Formula {
         Ok(())
     }
 
+    /// The clauses at positions of the formula, over the same variables.
+    pub fn clauses_at(&self, alloc: Global, positions: &[u32]) -> Result<Formula, OutOfMemory>
+        requires { IsTrue (are_positions self.now positions.now) }
+        ensures { IfOk result (λ f. f ≡ clauses_at self.now positions.now) }
+    {
+        let mut clauses = self.empty(alloc);
+        for p in positions {
+            clauses.push_within(self.clause(*p))?;
+        }
+        Ok(clauses)
+    }
+
     /// Whether these are positions of the formula, ascending.
     pub fn has_part(&self, part: &[u32]) -> bool
         ensures { result ≡ are_positions self.now part.now }
@@ -161,8 +173,9 @@ impl Formula {
     }
 }
 
-// Whether the numbers rise, from 1 at least to the last at most.
-fn rise_within(last: u32, numbers: &[u32]) -> bool
+/// Whether the numbers rise, from 1 at least to the last at most, as positions and variables do where they
+/// are listed.
+pub fn rise_within(last: u32, numbers: &[u32]) -> bool
     ensures { result ≡ rises_within 0 last numbers.now }
 {
     let mut low = 0;

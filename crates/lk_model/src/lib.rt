@@ -8,6 +8,8 @@ mod formula;
 mod laws;
 mod list;
 mod lit;
+mod lit_table;
+mod occurrences;
 mod open_clause;
 mod result;
 mod text_fault;
@@ -20,10 +22,11 @@ pub use document::{
     Body, Document, DoneDocument, Dual, MatchRow, OpenDocument, Own, Pair, Round, Share, Stage,
     Step, Turn, Unit, Weight, Without,
 };
-pub use formula::{Formula, FormulaError, MAX_CLAUSES, MAX_LITERALS, MAX_VARS};
-pub use laws::{fault_law, gcd_law, reached_law, reading_law};
+pub use formula::{Formula, FormulaError, MAX_CLAUSES, MAX_LITERALS, MAX_VARS, rise_within};
+pub use laws::{fault_law, gcd_law, lcm_law, reached_law, reading_law};
 pub use list::{List, OutOfMemory};
 pub use lit::{Lit, makes_clause};
+pub use lit_table::LitTable;
 pub use open_clause::OpenClause;
 pub use result::{GeneralResult, LinearResult, MatchingResult, PureResult};
 pub use text_fault::{Fault, FaultKind};

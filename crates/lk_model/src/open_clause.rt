@@ -6,6 +6,7 @@ ghost use Rattle.lk_model.specs.Held.Growing.{AreFlagged, IsHeld};
 
 use crate::list::OutOfMemory;
 use crate::lit::{Lit, stands_in};
+use crate::lit_table::LitTable;
 use std::alloc::Global;
 use std::marker::Model;
 
@@ -22,7 +23,7 @@ pub struct OpenClause {
     literals: Vec<Lit>,
     // so many of the literals have their flags up, from the first on, and no other literal has
     flagged: usize,
-    flags: Vec<bool>,
+    flags: LitTable<bool>,
 }
 
 impl Model for OpenClause {
@@ -32,7 +33,7 @@ impl Model for OpenClause {
 
     ghost view = { λ c. record { vars = c.vars; literals = c.literals.items } };
 
-    ghost invariant = { λ c. IsHeld c.vars c.literals.items c.flagged c.flags.items };
+    ghost invariant = { λ c. IsHeld c.vars c.literals.items c.flagged c.flags };
 }
 
 impl OpenClause {
@@ -45,7 +46,7 @@ impl OpenClause {
             vars,
             literals: Vec::new(alloc),
             flagged: 0,
-            flags: vec![in alloc; false; 2 * vars as usize + 2]?,
+            flags: LitTable::new(alloc, vars, false)?,
         })
     }
 
@@ -73,7 +74,7 @@ impl OpenClause {
         if self.flagged == 0 {
             return stands_in(&self.literals, l);
         }
-        self.flags[l.rank()] || stands_in(&self.literals[self.flagged..], l)
+        self.flags[l] || stands_in(&self.literals[self.flagged..], l)
     }
 
     /// Adds a literal that the clause does not hold. Without memory for it the clause stays as it is.
@@ -103,24 +104,24 @@ impl OpenClause {
 
 /// Puts up the flags of the literals from one on, where those before it have theirs up. How many there
 /// are then.
-fn flag_all(vars: u32, literals: &[Lit], flagged: usize, flags: &mut Vec<bool>) -> usize
-    requires { IsHeld vars literals.now flagged flags.old.items }
+fn flag_all(vars: u32, literals: &[Lit], flagged: usize, flags: &mut LitTable<bool>) -> usize
+    requires { IsHeld vars literals.now flagged flags.old }
     ensures all { result ≡ length literals.now }
-    ensures held { IsHeld vars literals.now result flags.new.items }
+    ensures held { IsHeld vars literals.now result flags.new }
 {
     for i in flagged..literals.len() {
-        flags[literals[i].rank()] = true;
+        flags[literals[i]] = true;
     }
     literals.len()
 }
 
 /// Takes the literals out, from the last to the first, and their flags down.
-fn take_all(vars: u32, literals: &mut Vec<Lit>, flags: &mut Vec<bool>)
-    requires { AreFlagged vars literals.old.items flags.old.items }
+fn take_all(vars: u32, literals: &mut Vec<Lit>, flags: &mut LitTable<bool>)
+    requires { AreFlagged vars literals.old.items flags.old }
     ensures empty { literals.new.items ≡ [] }
-    ensures flagged { AreFlagged vars [] flags.new.items }
+    ensures flagged { AreFlagged vars [] flags.new }
 {
     while let Some(l) = literals.pop() {
-        flags[l.rank()] = false;
+        flags[l] = false;
     }
 }

@@ -3,7 +3,7 @@
 /// What is wrong with a text that spells no formula (DIMACS CNF 1993, with leank's rules and limits).
 #[derive(Clone, Copy, PartialEq, Eq, Debug)]
 pub enum FaultKind {
-    /// A number, the end mark or the end of the text comes before the problem line.
+    /// The first line that is neither blank nor a comment does not begin with `p`, or there is none.
     NoHeader,
     /// The first line that begins with `p` is not `p cnf V C`.
     BadHeader,
@@ -15,7 +15,7 @@ pub enum FaultKind {
     BeyondStated,
     /// A number comes when C clauses are closed.
     TooManyClauses,
-    /// Fewer than C clauses are closed at the end.
+    /// There are fewer than C clauses at the end.
     TooFewClauses,
     /// V or C, or the number of literals as written, is past its limit.
     Limit,

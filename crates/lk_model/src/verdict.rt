@@ -37,8 +37,8 @@ pub struct Why {
     pub place: u64,
 }
 
-/// Why no document is read: the first line with which no document's text goes on, counted from 1; or
-/// want of memory.
+/// Why no document is read: the first line with which the text of none of the documents that are read
+/// goes on, counted from 1; or want of memory.
 #[derive(Clone, Copy, PartialEq, Eq, Debug)]
 pub enum ReadStop {
     Line(u64),

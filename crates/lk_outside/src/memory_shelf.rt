@@ -15,7 +15,7 @@ use std::marker::Model;
 ///
 /// Where a name stands twice, its first entry counts. Calls of `start` and `read` are numbered
 /// together from 1. A call fails where its number is among those told to fail, or where it starts
-/// a name that no entry has; no other call does.
+/// a name that no entry has; no other call does, but that a start may want memory for the name.
 #[derive(Drop)]
 pub struct MemoryShelf {
     alloc: Global,

@@ -8,8 +8,14 @@ pub fn spells(lits: &[Lit], numbers: &[i32]) -> bool {
 
 /// Whether the formula has so many variables and these clauses.
 pub fn has_clauses(f: &Formula, n: u32, clauses: &[&[i32]]) -> bool {
-    let same = (0..f.len())
-        .zip(clauses.iter())
-        .all(|(i, numbers)| spells(f.clause(i + 1), numbers));
-    f.vars() == n && f.len() as usize == clauses.len() && same
+    if f.vars() != n || f.len() as usize != clauses.len() {
+        return false;
+    }
+    for i in 0..f.len() {
+        let numbers = clauses.get(i as usize).copied().unwrap_or(&[]);
+        if !spells(f.clause(i + 1), numbers) {
+            return false;
+        }
+    }
+    true
 }

@@ -5,17 +5,25 @@ use lk_model::{Formula, Lit, VarSet, makes_clause};
 use std::alloc::Global;
 use std::test::Fail;
 
+/// Appends the literal of a number.
+pub(crate) fn push_literal(lits: &mut Vec<Lit>, number: i32) -> Result<(), Fail> {
+    match Lit::new(number) {
+        Some(l) => Ok(lits.push(l)?),
+        None => Err(Fail::from("no literal")),
+    }
+}
+
 /// The literals that the numbers write.
 pub fn literals(alloc: Global, numbers: &[i32]) -> Result<Vec<Lit>, Fail> {
     let mut lits = Vec::new(alloc);
     for number in numbers {
-        lits.push(Lit::new(*number).ok_or("no literal")?)?;
+        push_literal(&mut lits, *number)?;
     }
     Ok(lits)
 }
 
 /// Appends the literals, where they make a clause.
-pub(crate) fn push(formula: &mut Formula, clause: &[Lit]) -> Result<(), Fail>
+pub fn push(formula: &mut Formula, clause: &[Lit]) -> Result<(), Fail>
     ensures { formula.new.vars ≡ formula.old.vars }
 {
     if !makes_clause(formula.vars(), clause) {

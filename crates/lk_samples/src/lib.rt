@@ -11,6 +11,6 @@ mod written;
 pub use checked::{has_part, positions};
 pub use compared::{has_clauses, spells};
 pub use drawn::{Numbers, drawn_formula};
-pub use given::{append, formula_of, literals, set_of};
+pub use given::{append, formula_of, literals, push, set_of};
 pub use lk_model::makes_clause;
 pub use written::{formula_of_text, literals_of_text};

@@ -1,22 +1,48 @@
 //! Literals and formulas from texts.
 ghost use Rattle.std.specs.Prelude.{◌≡◌, IfOk};
 
-use crate::given::push;
+use crate::given::{push, push_literal};
 use lk_model::{Formula, Lit};
 use std::alloc::Global;
 use std::test::Fail;
+
+/// Appends the literal of the number that a word writes, unless it is 0.
+fn push_word(lits: &mut Vec<Lit>, word: &str) -> Result<(), Fail> {
+    match word.parse()? {
+        0 => Ok(()),
+        number => push_literal(lits, number),
+    }
+}
 
 /// The literals that a text has, with blanks between them. The word 0 stands for none, so that it
 /// writes the empty clause.
 pub fn literals_of_text(alloc: Global, text: &str) -> Result<Vec<Lit>, Fail> {
     let mut lits = Vec::new(alloc);
     for word in text.split_whitespace() {
-        let number: i32 = word.parse()?;
-        if number != 0 {
-            lits.push(Lit::new(number).ok_or("no literal")?)?;
-        }
+        push_word(&mut lits, word)?;
     }
     Ok(lits)
+}
+
+/// Appends the clause that a text has.
+fn append_text(alloc: Global, formula: &mut Formula, text: &str) -> Result<(), Fail>
+    ensures { formula.new.vars ≡ formula.old.vars }
+{
+    let clause = literals_of_text(alloc, text)?;
+    push(formula, clause.as_slice())
+}
+
+/// Appends the clauses that a text has, with commas between them; none where it is blank.
+fn append_texts(alloc: Global, formula: &mut Formula, text: &str) -> Result<(), Fail>
+    ensures { formula.new.vars ≡ formula.old.vars }
+{
+    if text.trim().is_empty() {
+        return Ok(());
+    }
+    for clause in text.split(",") {
+        append_text(alloc, formula, clause)?;
+    }
+    Ok(())
 }
 
 /// The formula over the variables from 1 to n with the clauses that a text has, with commas between
@@ -25,11 +51,6 @@ pub fn formula_of_text(alloc: Global, n: u32, text: &str) -> Result<Formula, Fai
     ensures { IfOk result (λ f. f.vars ≡ n) }
 {
     let mut formula = Formula::new(alloc, n)?;
-    if text.trim().is_empty() {
-        return Ok(formula);
-    }
-    for clause in text.split(",") {
-        push(&mut formula, literals_of_text(alloc, clause)?.as_slice())?;
-    }
+    append_texts(alloc, &mut formula, text)?;
     Ok(formula)
 }

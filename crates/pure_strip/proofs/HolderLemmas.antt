@@ -1,10 +1,11 @@
 -- The positions at the ranks of literals.
 use Rattle.std.proofs.Common.{◌≡◌, ◌≢◌, ℕ, take, ◌+◌, ◌*◌, ◌<◌, ◌∙◌, Bool, true, false, cond, ◌||◌, List, [], ◌∷◌, ◌++◌, length, get_or, refl, sym, ap, subst, arith, ℤ, IsTrue, inl, inr, get_or-set_same, get_or-set_other}
-use Rattle.std.specs.Prelude.{replicate, slice_set}
+use Rattle.std.specs.Prelude.{slice_set}
+use Rattle.std.specs.List.{All}
 use Rattle.std.specs.Ordering.{int_eq}
 use Rattle.std.proofs.lemmas.Bool.{cases_Bool}
 use Rattle.std.proofs.lemmas.Bool.Decides.{Decides-int_eq}
-use Rattle.std.proofs.lemmas.List.{append-nil, length-set, length-replicate, get_or-replicate, get_or_read, take_more}
+use Rattle.std.proofs.lemmas.List.{append-nil, length-set, get_or_read, take_more}
 use Rattle.lk_model.proofs.Booleans.{and_true}
 use Rattle.lk_model.specs.Lists.{up_to}
 use Rattle.lk_model.specs.Formulas.Literal.{contains, is_literal, is_clause, rank_of}
@@ -56,11 +57,11 @@ Notes-next n p c i l before after size clause lt at notes old new read pushed =
     subst (λ (ls : List ℤ). NotesClause n ls p before (slice_set after (rank_of l) new)) more
     (subst (λ (ps : List ℕ). NotesClause n (take i c ++ l ∷ []) p before (slice_set after (rank_of l) ps)) new_is (Notes-more n p (take i c) l before after size lit out notes))
 
--- no position stands in the empty table
-pub Holders-none : (F : Cnf) (table : List (List ℕ)) → table ≡ replicate (2 * F.vars + 2) [] → AreHolders F (up_to 0) table
-Holders-none F table e = record {
-  size = ap length e ∙ length-replicate (2 * F.vars + 2) [];
-  held = λ l lit. ap (λ (t : List (List ℕ)). get_or t (rank_of l) []) e ∙ get_or-replicate (2 * F.vars + 2) (rank_of l) [] [] (rank_small F.vars l lit);
+-- no position stands in a table of empty lists
+pub Holders-none : (F : Cnf) (table : List (List ℕ)) → length table ≡ 2 * F.vars + 2 → All (λ (ps : List ℕ). ps ≡ []) table → AreHolders F (up_to 0) table
+Holders-none F table size none = record {
+  size = size;
+  held = λ l lit. none (rank_of l) [] (omega (arith, size, rank_small F.vars l lit));
 }
 
 -- one clause more

@@ -1,9 +1,8 @@
 -- What tests keep and find in lists, and the numbers from 1 on.
-use Rattle.std.proofs.Common.{◌≡◌, ℕ, ◌+◌, ◌<◌, ◌≤◌, ◌∙◌, Bool, true, false, cond, ◌||◌, List, [], ◌∷◌, ◌++◌, get_or, refl, sym, ap, arith, is_some, inl, inr}
+use Rattle.std.proofs.Common.{◌≡◌, ℕ, ◌+◌, ◌<◌, ◌≤◌, ◌∙◌, Bool, true, false, cond, List, [], ◌∷◌, ◌++◌, get_or, refl, sym, ap, arith, is_some, inl, inr}
 use Rattle.std.specs.Prelude.{filter, find}
 use Rattle.std.specs.List.{list_any, All}
 use Rattle.std.proofs.lemmas.Bool.{cases_Bool}
-use Rattle.std.proofs.Math.Bool.{or-true}
 use Rattle.std.proofs.lemmas.List.{map-id, append-nil}
 use Rattle.std.proofs.lemmas.List.Elements.{filter-append}
 use Rattle.std.proofs.lemmas.List.FromFn.{map-range_with_len_more, get_or-range_with_len, length-range_with_len}
@@ -38,19 +37,6 @@ find-filter s t (x ∷ xs) = elim (cases_Bool (s x)) [
 pub is_some-find : (test : ℕ → Bool) (xs : List ℕ) → is_some (find test xs) ≡ list_any test xs
 is_some-find test [] = refl
 is_some-find test (x ∷ xs) = elim (cases_Bool (test x)) [ inl e ↦ rw e refl | inr e ↦ rw e (is_some-find test xs) ]
-
--- one of two tests
-pub list_any-or : {X : Type 0} (s t : X → Bool) (xs : List X) → list_any (λ x. s x || t x) xs ≡ (list_any s xs || list_any t xs)
-list_any-or s t [] = refl
-list_any-or s t (x ∷ xs) = elim (cases_Bool (s x)) [
-  | inl p ↦ rw p refl
-  | inr p ↦ elim (cases_Bool (t x)) [ inl q ↦ rw (p, q, or-true (list_any s xs)) refl | inr q ↦ rw (p, q) (list_any-or s t xs) ]
-]
-
--- two tests that agree
-pub list_any-agree : {X : Type 0} (s t : X → Bool) → ((x : X) → s x ≡ t x) → (xs : List X) → list_any s xs ≡ list_any t xs
-list_any-agree s t same [] = refl
-list_any-agree s t same (x ∷ xs) = rw (same x, list_any-agree s t same xs) refl
 
 -- one number more, which the test keeps
 pub kept-more : (test : ℕ → Bool) (n : ℕ) (kept : List ℕ) → kept ≡ filter test (up_to n) → test (n + 1) ≡ true → kept ++ (n + 1) ∷ [] ≡ filter test (up_to (n + 1))

@@ -9,24 +9,15 @@ use Rattle.std.proofs.lemmas.List.{length-set}
 use Rattle.std.proofs.lemmas.Bool.Decides.{nat_tests, Decides-eqb}
 use Rattle.std.proofs.lemmas.Grind.{get_or_default_zero}
 use Rattle.std.proofs.lemmas.Map.Keys.{le_from_not_gt}
+use Rattle.std.proofs.lemmas.Bool.{cases_Bool}
+use Rattle.std.proofs.Math.Bool.{or_comm}
 use Rattle.lk_model.specs.Lists.{is_between}
 use Rattle.lk_model.specs.Formulas.Literal.{variable, complement, rank_of, is_literal}
 use Rattle.lk_model.specs.Formulas.PureRun.{literals_to}
 use Rattle.lk_model.proofs.Booleans.{and_true, or_true, or_false}
 use Rattle.lk_model.proofs.Ranks.{literal_bounds, rank_apart, rank_small}
+use Rattle.lk_model.proofs.Literals.{complement_twice}
 use Rattle.pure_strip.specs.Counted.{count_of, is_lone, is_lone_variable, AreLone}
-
--- a test has one of two answers
-true_or_false : (b : Bool) → (b ≡ true) ⊎ (b ≡ false)
-true_or_false true = inl refl
-true_or_false false = inr refl
-
--- the order of two tests does not matter
-or_swap : (a b : Bool) → (a || b) ≡ (b || a)
-or_swap true true = refl
-or_swap true false = refl
-or_swap false true = refl
-or_swap false false = refl
 
 -- a write at a literal leaves the counts of other variables
 count-apart : (counts : List ℕ) (l k : ℤ) (x : ℕ) → variable k ≢ variable l → count_of (slice_set counts (rank_of l) x) k ≡ count_of counts k
@@ -43,19 +34,13 @@ lone-apart counts l x (suc k) ne = rw (count-apart counts l (pos (suc k)) x ne, 
 lone-read : (counts : List ℕ) (l : ℤ) → is_lone_variable counts (variable l) ≡ (is_lone counts l || is_lone counts (complement l))
 lone-read counts (pos zero) = refl
 lone-read counts (pos (suc k)) = refl
-lone-read counts (negsuc k) = or_swap (is_lone counts (pos (suc k))) (is_lone counts (negsuc k))
+lone-read counts (negsuc k) = or_comm (is_lone counts (pos (suc k))) (is_lone counts (negsuc k))
 
 -- the two literals of a variable have two ranks
 rank-complement : (l : ℤ) → 1 ≤ variable l → rank_of (complement l) ≢ rank_of l
 rank-complement (pos zero) h = absurd (omega arith)
 rank-complement (pos (suc k)) h = λ e. omega arith
 rank-complement (negsuc k) h = λ e. omega arith
-
--- the complement of the complement is the literal
-complement-twice : (l : ℤ) → complement (complement l) ≡ l
-complement-twice (pos zero) = refl
-complement-twice (pos (suc k)) = refl
-complement-twice (negsuc k) = refl
 
 -- a test beside one that passes
 and_of : (a b c : Bool) → a ≡ true → b ≡ c → (a && b) ≡ c
@@ -83,7 +68,7 @@ count-across n counts l x lit = get_or-set_other counts (rank_of l) (rank_of (co
 -- whether a variable is lone, by its two counts
 lone-by_counts : (counts : List ℕ) (l : ℤ) (a b : ℕ) → count_of counts l ≡ a → count_of counts (complement l) ≡ b → is_lone_variable counts (variable l) ≡ ((nat_lt 0 a && nat_eq b 0) || (nat_lt 0 b && nat_eq a 0))
 lone-by_counts counts l a b p q =
-    let back : count_of counts (complement (complement l)) ≡ a = ap (count_of counts) (complement-twice l) ∙ p in
+    let back : count_of counts (complement (complement l)) ≡ a = ap (count_of counts) (complement_twice l) ∙ p in
     lone-read counts l ∙ rw (back, p, q) refl
 
 -- the set is right again after a write at a literal whose variable is taken in or out
@@ -91,7 +76,7 @@ Lone-updated : (n : ℕ) (counts : List ℕ) (lone after : BTreeSet ℕ) (l : �
 Lone-updated n counts lone after l x b a lit u e = record {
   small = a.small;
   size = length-set counts (rank_of l) x ∙ a.size;
-  told = λ v. elim (true_or_false (is_at (nat_cmp (variable l)) v)) [
+  told = λ v. elim (cases_Bool (is_at (nat_cmp (variable l)) v)) [
     | inl s ↦
         u.0 v ∙ ap (λ t. cond t b (contains nat_cmp lone v)) s
         ∙ sym (and_of _ _ _ lit e)
@@ -108,7 +93,7 @@ Lone-kept : (n : ℕ) (counts : List ℕ) (lone : BTreeSet ℕ) (l : ℤ) (x : �
 Lone-kept n counts lone l x a e = record {
   small = a.small;
   size = length-set counts (rank_of l) x ∙ a.size;
-  told = λ v. a.told v ∙ ap (λ t. is_between 1 n v && t) (sym (elim (true_or_false (is_at (nat_cmp (variable l)) v)) [
+  told = λ v. a.told v ∙ ap (λ t. is_between 1 n v && t) (sym (elim (cases_Bool (is_at (nat_cmp (variable l)) v)) [
     | inl s ↦
         let same : variable l ≡ v = at-same (variable l) v s in
         ap (is_lone_variable (slice_set counts (rank_of l) x)) (sym same) ∙ e ∙ ap (is_lone_variable counts) same
@@ -186,7 +171,7 @@ find-first counts (suc m) a v low high h e = elim (le_cases a v low) [
 ]
   where
     le_cases : (a v : ℕ) → a ≤ v → (a ≡ v) ⊎ (a < v)
-    le_cases a v h = elim (true_or_false (nat_lt a v)) [ inl t ↦ inr (grind (arith, nat_tests)) | inr f ↦ inl (grind (arith, nat_tests)) ]
+    le_cases a v h = elim (cases_Bool (nat_lt a v)) [ inl t ↦ inr (grind (arith, nat_tests)) | inr f ↦ inl (grind (arith, nat_tests)) ]
 
 -- no key of an empty list passes
 no_keys : (ks : List ℕ) (test : ℕ → Bool) → (0 < length ks → ⊥) → list_any test ks ≡ false
@@ -216,7 +201,7 @@ Lone-first n counts lone v a h least =
     let b = literal_bounds n (pos v) (Lone-literal n counts lone v a h) in
     let p : (is_between 1 n v ≡ true) × (is_lone_variable counts v ≡ true) = and_true _ _ (sym (a.told v) ∙ h) in
     find-first counts n 1 v b.0 (omega (arith, b.1))
-    (λ u from to. not_lone n counts lone u a from (omega (arith, b.1)) (elim (true_or_false (contains nat_cmp lone u)) [
+    (λ u from to. not_lone n counts lone u a from (omega (arith, b.1)) (elim (cases_Bool (contains nat_cmp lone u)) [
       | inl t ↦ absurd (omega (arith, le_from_not_gt v u (least u t)))
       | inr f ↦ f
     ]))
@@ -230,7 +215,7 @@ Lone-first_positive n counts lone v a h least some =
       | inl t ↦ t
       | inr t ↦
           let q = and_true _ _ t in
-          let back : count_of counts (complement (complement (pos v))) ≡ count_of counts (pos v) = ap (count_of counts) (complement-twice (pos v)) in
+          let back : count_of counts (complement (complement (pos v))) ≡ count_of counts (pos v) = ap (count_of counts) (complement_twice (pos v)) in
           absurd (some (sym back ∙ (Decides-eqb _ _).0 q.1))
     ] in
     Lone-first n counts lone v a h least ∙ ap (λ t. Some (cond t (pos v) (neg_ℤ (pos v)))) e
@@ -243,16 +228,10 @@ Lone-first_negative n counts lone v a h least none =
 
 -- ---- reads
 -- a count that is read at the rank of a literal
-pub count-at : (n : ℕ) (counts : List ℕ) (l : ℤ) (i x : ℕ) → length counts ≡ 2 * n + 2 → is_literal n l ≡ true → i ≡ rank_of l → x ≡ get_or counts i x → x ≡ count_of counts l
-count-at n counts l i x size lit e read =
+pub count-at : (n : ℕ) (counts : List ℕ) (l k : ℤ) (x : ℕ) → length counts ≡ 2 * n + 2 → is_literal n l ≡ true → k ≡ l → x ≡ get_or counts (rank_of k) x → x ≡ count_of counts l
+count-at n counts l k x size lit e read =
     let within : rank_of l < length counts = omega (arith, rank_small n l lit) in
-    read ∙ ap (λ j. get_or counts j x) e ∙ get_or_default_zero counts (rank_of l) x within
-
--- the complement of a literal is one
-pub literal-complement : (n : ℕ) (l : ℤ) → is_literal n l ≡ true → is_literal n (complement l) ≡ true
-literal-complement n (pos zero) h = h
-literal-complement n (pos (suc k)) h = h
-literal-complement n (negsuc k) h = h
+    read ∙ ap (λ (z : ℤ). get_or counts (rank_of z) x) e ∙ get_or_default_zero counts (rank_of l) x within
 
 -- ---- the walk over the variables
 -- the set has the lone ones of the variables below v
@@ -273,7 +252,7 @@ and_none false false = refl
 -- a lone variable is taken in
 pub below-in : (counts : List ℕ) (v : ℕ) (lone after : BTreeSet ℕ) → 1 ≤ v → AreLoneBelow counts v lone → is_lone_variable counts v ≡ true → Updates nat_cmp lone after v true → AreLoneBelow counts (v + 1) after
 below-in counts v lone after h a e u = record {
-  told = λ w. u.0 w ∙ elim (true_or_false (is_at (nat_cmp v) w)) [
+  told = λ w. u.0 w ∙ elim (cases_Bool (is_at (nat_cmp v) w)) [
     | inl s ↦
         ap (λ t. cond t true (contains nat_cmp lone w)) s
         ∙ sym (and_of _ _ _ (here v h) e)
@@ -291,7 +270,7 @@ below-in counts v lone after h a e u = record {
 -- a variable that is not lone is passed over
 pub below-out : (counts : List ℕ) (v : ℕ) (lone : BTreeSet ℕ) → AreLoneBelow counts v lone → is_lone_variable counts v ≡ false → AreLoneBelow counts (v + 1) lone
 below-out counts v lone a e = record {
-  told = λ w. a.told w ∙ elim (true_or_false (is_at (nat_cmp v) w)) [
+  told = λ w. a.told w ∙ elim (cases_Bool (is_at (nat_cmp v) w)) [
     | inl s ↦
         let out : is_lone_variable counts w ≡ false = ap (is_lone_variable counts) (sym (at-same v w s)) ∙ e in
         ap (λ t. nat_le 1 w && nat_lt w v && t) out

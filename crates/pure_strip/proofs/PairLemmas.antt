@@ -1,23 +1,24 @@
 -- The pairs of the variables up to a bound.
-use Rattle.std.proofs.Common.{◌≡◌, ℕ, zero, suc, ◌+◌, ◌<◌, ◌≤◌, ◌∙◌, Bool, true, false, not, cond, ◌&&◌, ◌||◌, List, [], ◌∷◌, ◌++◌, length, get_or, map, refl, sym, ap, subst, arith, to_z, w32, ℤ, pos, negsuc, Option, Some, None, is_some, unwrap_or, inl, inr}
-use Rattle.std.specs.Prelude.{filter, find, neg_ℤ, ◌==◌, nat_le, flat_map}
-use Rattle.std.specs.List.{range_with_len, All}
-use Rattle.std.specs.Ordering.{int_eq}
-use Rattle.std.proofs.Math.IntN.{neg_ℤ-neg_ℤ}
-use Rattle.std.proofs.lemmas.Bool.{cases_Bool, cond-true, cond-false, cases_eq, or_cases, or_left, or_right, and_from, le-leb}
-use Rattle.std.proofs.lemmas.Bool.Decides.{Decides-int_eq, Decides-eqb, same_from_decides}
+use Rattle.std.proofs.Common.{◌≡◌, ℕ, ◌+◌, ◌<◌, ◌≤◌, ◌∙◌, Bool, true, false, cond, ◌||◌, List, [], ◌∷◌, ◌++◌, length, get_or, map, refl, sym, ap, subst, arith, to_z, w32, ℤ, pos, Option, Some, None, is_some, unwrap_or}
+use Rattle.std.specs.Prelude.{filter, find, neg_ℤ, nat_le}
+use Rattle.std.specs.List.{All}
+use Rattle.std.proofs.lemmas.Bool.{and_from, le-leb}
 use Rattle.std.proofs.lemmas.List.{map-append, append-nil, get_or_read}
 use Rattle.std.proofs.lemmas.List.Elements.{All-filter, All-same}
 use Rattle.std.proofs.lemmas.Int.{to_z_pos}
 use Rattle.lk_model.specs.Lists.{up_to, is_between}
-use Rattle.lk_model.specs.Formulas.Literal.{variable, complement, contains, mentions, is_literal, rank_of}
+use Rattle.lk_model.specs.Formulas.Literal.{complement, contains, mentions, is_literal, rank_of}
 use Rattle.lk_model.proofs.Ranks.{rank_small}
 use Rattle.lk_model.specs.Formulas.Formula.{Cnf, clause_at, positions_of, literal_occurs, variable_occurs, IsWithinLimits}
-use Rattle.lk_model.specs.Formulas.PureRun.{is_pure_at, least_pure, least_with}
+use Rattle.lk_model.specs.Formulas.PureRun.{least_pure, least_with}
 use Rattle.lk_model.specs.declared.document.Pair.{Pair}
+use Rattle.lk_model.proofs.Literals.{variable_negative}
+use Rattle.kernel_laws.proofs.Pure.PureLiterals.{both_signs}
+use Rattle.kernel_laws.proofs.Clauses.{mentions_or}
+use Rattle.kernel_laws.proofs.Tests.{any_or, any_same}
 use Rattle.pure_strip.specs.Live.{is_live}
 use Rattle.pure_strip.specs.Tables.{AreHolders}
-use Rattle.pure_strip.proofs.ListLemmas.{filter-up_to-more, up_to-bounds, find-filter, is_some-find, list_any-or, list_any-agree}
+use Rattle.pure_strip.proofs.ListLemmas.{filter-up_to-more, up_to-bounds, find-filter, is_some-find}
 
 -- the least positions with the variable and with its complement
 abbrev pub pair_of : Cnf → List ℕ → ℕ → Pair
@@ -31,71 +32,11 @@ pair_of F ps v = record {
 abbrev pub pairs_to : Cnf → List ℕ → ℕ → List Pair
 pairs_to F ps n = map (pair_of F ps) (filter (variable_occurs F ps) (up_to n))
 
--- where none is found, neither literal of a variable passes
-pub both_fail : (test : ℤ → Bool) (a n v : ℕ) → find test (flat_map (λ k. pos k ∷ neg_ℤ (pos k) ∷ []) (range_with_len a n)) ≡ None → a ≤ v → v < a + n → (test (pos v) ≡ false) × (test (neg_ℤ (pos v)) ≡ false)
-both_fail test a zero v none low high = absurd (omega (arith, low, high))
-both_fail test a (suc n) v none low high = elim (cases_Bool (test (pos a))) [
-  | inl p ↦ absurd (cc (sym (cond-true (test (pos a)) (Some (pos a)) (cond (test (neg_ℤ (pos a))) (Some (neg_ℤ (pos a))) rest) p) ∙ none))
-  | inr p ↦
-      let later = sym (cond-false (test (pos a)) (Some (pos a)) (cond (test (neg_ℤ (pos a))) (Some (neg_ℤ (pos a))) rest) p) ∙ none in
-      elim (cases_Bool (test (neg_ℤ (pos a)))) [
-        | inl q ↦ absurd (cc (sym (cond-true (test (neg_ℤ (pos a))) (Some (neg_ℤ (pos a))) rest q) ∙ later))
-        | inr q ↦
-            elim (cases_eq v a) [
-              | inl e ↦ (ap (λ (k : ℕ). test (pos k)) e ∙ p, ap (λ (k : ℕ). test (neg_ℤ (pos k))) e ∙ q)
-              | inr e ↦ both_fail test (a + 1) n v (sym (cond-false (test (neg_ℤ (pos a))) (Some (neg_ℤ (pos a))) rest q) ∙ later) (omega (arith, low, e)) (omega (arith, high))
-            ]
-      ]
-]
-  where
-    rest : Option ℤ
-    rest = find test (flat_map (λ k. pos k ∷ neg_ℤ (pos k) ∷ []) (range_with_len (a + 1) n))
-
--- two tests of which neither holds alone
-same_occurs : (a b : Bool) → (a && not b) ≡ false → (b && not a) ≡ false → a ≡ b
-same_occurs true true p q = refl
-same_occurs false false p q = refl
-same_occurs true false p q = absurd (let f : ⊥ = cc in f)
-same_occurs false true p q = absurd (let f : ⊥ = cc in f)
-
--- where no literal is pure, a variable occurs in both signs or in none
-pub both_signs : (F : Cnf) (ps : List ℕ) (v : ℕ) → least_pure F ps ≡ None → 0 < v → v ≤ F.vars → literal_occurs F ps (pos v) ≡ literal_occurs F ps (neg_ℤ (pos v))
-both_signs F ps v none low high =
-    let fail = both_fail (is_pure_at F ps) 1 F.vars v none (omega arith) (omega arith) in
-    let back : (literal_occurs F ps (neg_ℤ (pos v)) && not (literal_occurs F ps (pos v))) ≡ false =
-    subst (λ (l : ℤ). (literal_occurs F ps (neg_ℤ (pos v)) && not (literal_occurs F ps l)) ≡ false) (neg_ℤ-neg_ℤ (pos v)) fail.1 in
-    same_occurs _ _ fail.0 back
-
--- the variable of the complement
-neg_variable : (v : ℕ) → variable (neg_ℤ (pos v)) ≡ v
-neg_variable zero = refl
-neg_variable (suc k) = refl
-
--- the variable and its complement are literals of the variable
-pub of_either : (v : ℕ) (k : ℤ) → (int_eq (pos v) k || int_eq (neg_ℤ (pos v)) k) ≡ true → variable k ≡ v
-of_either v k h = elim (or_cases (int_eq (pos v) k) (int_eq (neg_ℤ (pos v)) k) h) [
-  | inl e ↦ ap variable (sym ((Decides-int_eq (pos v) k).0 e))
-  | inr e ↦ ap variable (sym ((Decides-int_eq (neg_ℤ (pos v)) k).0 e)) ∙ neg_variable v
-]
-
--- and no other literal is
-by_either : (v : ℕ) (k : ℤ) → variable k ≡ v → (int_eq (pos v) k || int_eq (neg_ℤ (pos v)) k) ≡ true
-by_either v (pos m) e = or_left (int_eq (pos v) (pos m)) (int_eq (neg_ℤ (pos v)) (pos m)) ((Decides-int_eq (pos v) (pos m)).1 (ap pos (sym e)))
-by_either v (negsuc m) e = or_right (int_eq (pos v) (negsuc m)) (int_eq (neg_ℤ (pos v)) (negsuc m)) ((Decides-int_eq (neg_ℤ (pos v)) (negsuc m)).1 (ap (λ (n : ℕ). neg_ℤ (pos n)) (sym e)))
-
--- a literal of the variable is the variable or its complement
-either_sign : (v : ℕ) (k : ℤ) → (variable k == v) ≡ (int_eq (pos v) k || int_eq (neg_ℤ (pos v)) k)
-either_sign v k = same_from_decides _ _ (Decides-eqb (variable k) v) (of_either v k, by_either v k)
-
--- a clause mentions a variable where it holds the variable or its complement
-pub mentions-or : (c : List ℤ) (v : ℕ) → mentions c v ≡ (contains c (pos v) || contains c (neg_ℤ (pos v)))
-mentions-or c v = list_any-agree (λ k. variable k == v) (λ k. int_eq (pos v) k || int_eq (neg_ℤ (pos v)) k) (either_sign v) c ∙ list_any-or (int_eq (pos v)) (int_eq (neg_ℤ (pos v))) c
-
 -- a variable occurs where the variable or its complement does
 occurs-or : (F : Cnf) (ps : List ℕ) (v : ℕ) → variable_occurs F ps v ≡ (literal_occurs F ps (pos v) || literal_occurs F ps (neg_ℤ (pos v)))
 occurs-or F ps v =
-    list_any-agree (λ p. mentions (clause_at F p) v) (λ p. contains (clause_at F p) (pos v) || contains (clause_at F p) (neg_ℤ (pos v))) (λ p. mentions-or (clause_at F p) v) ps
-    ∙ list_any-or (λ p. contains (clause_at F p) (pos v)) (λ p. contains (clause_at F p) (neg_ℤ (pos v))) ps
+    any_same (λ p. mentions (clause_at F p) v) (λ p. contains (clause_at F p) (pos v) || contains (clause_at F p) (neg_ℤ (pos v))) ps (λ p. mentions_or (clause_at F p) v)
+    ∙ any_or (λ p. contains (clause_at F p) (pos v)) (λ p. contains (clause_at F p) (neg_ℤ (pos v))) ps
 
 -- a test or itself
 or_same : (a : Bool) → (a || a) ≡ a
@@ -163,22 +104,22 @@ positive_literal n v low high = and_from (nat_le 1 v) (nat_le v n) (le-leb 1 v (
 
 -- and so is its complement
 negative_literal : (n v : ℕ) → 0 < v → v ≤ n → is_literal n (neg_ℤ (pos v)) ≡ true
-negative_literal n v low high = ap (λ (k : ℕ). is_between 1 n k) (neg_variable v) ∙ positive_literal n v low high
+negative_literal n v low high = ap (λ (k : ℕ). is_between 1 n k) (variable_negative v) ∙ positive_literal n v low high
 
--- a list that was read at a rank
-pub read_at : (table : List (List ℕ)) (r : ℕ) (l : ℤ) (list item : List ℕ) → r ≡ rank_of l → item ≡ get_or table r item → list ≡ item → list ≡ get_or table (rank_of l) list
-read_at table r l list item at is same = same ∙ is ∙ ap (λ (k : ℕ). get_or table k item) at ∙ ap (get_or table (rank_of l)) (sym same)
+-- a list that was read at a literal
+pub read_at : (table : List (List ℕ)) (l k : ℤ) (list item : List ℕ) → l ≡ k → item ≡ get_or table (rank_of l) item → list ≡ item → list ≡ get_or table (rank_of k) list
+read_at table l k list item at is same = same ∙ is ∙ ap (λ (z : ℤ). get_or table (rank_of z) item) at ∙ ap (get_or table (rank_of k)) (sym same)
 
 -- the literal that was made of a variable's number
 number_is : (F : Cnf) (n : ℕ) (l : ℤ) → IsWithinLimits F → n < F.vars → l ≡ to_z w32 (n + 1) → l ≡ pos (n + 1)
 number_is F n l limits lt is = is ∙ to_z_pos w32 (n + 1) (omega (arith, limits.vars))
 
--- the list that was read at the rank of a variable
-pub listed-variable : (F : Cnf) (table : List (List ℕ)) (live : List Bool) (n r : ℕ) (l : ℤ) (list item : List ℕ) → AreHolders F (positions_of F) table → length live ≡ length F.clauses → IsWithinLimits F → n < F.vars → l ≡ to_z w32 (n + 1) → r ≡ rank_of l → item ≡ get_or table r item → list ≡ item → IsListed F live (pos (n + 1)) list
-listed-variable F table live n r l list item holders size limits lt is at read same =
-    is_listed F table live (pos (n + 1)) list holders size (positive_literal F.vars (n + 1) (omega arith) (omega arith)) (read_at table r (pos (n + 1)) list item (at ∙ ap rank_of (number_is F n l limits lt is)) read same)
+-- the list that was read at a variable
+pub listed-variable : (F : Cnf) (table : List (List ℕ)) (live : List Bool) (n : ℕ) (l : ℤ) (list item : List ℕ) → AreHolders F (positions_of F) table → length live ≡ length F.clauses → IsWithinLimits F → n < F.vars → l ≡ to_z w32 (n + 1) → item ≡ get_or table (rank_of l) item → list ≡ item → IsListed F live (pos (n + 1)) list
+listed-variable F table live n l list item holders size limits lt is read same =
+    is_listed F table live (pos (n + 1)) list holders size (positive_literal F.vars (n + 1) (omega arith) (omega arith)) (read_at table l (pos (n + 1)) list item (number_is F n l limits lt is) read same)
 
--- the list that was read at the rank of its complement
-pub listed-complement : (F : Cnf) (table : List (List ℕ)) (live : List Bool) (n r : ℕ) (l k : ℤ) (list item : List ℕ) → AreHolders F (positions_of F) table → length live ≡ length F.clauses → IsWithinLimits F → n < F.vars → l ≡ to_z w32 (n + 1) → k ≡ complement l → r ≡ rank_of k → item ≡ get_or table r item → list ≡ item → IsListed F live (neg_ℤ (pos (n + 1))) list
-listed-complement F table live n r l k list item holders size limits lt is other at read same =
-    is_listed F table live (neg_ℤ (pos (n + 1))) list holders size (negative_literal F.vars (n + 1) (omega arith) (omega arith)) (read_at table r (neg_ℤ (pos (n + 1))) list item (at ∙ ap rank_of (other ∙ ap complement (number_is F n l limits lt is))) read same)
+-- the list that was read at its complement
+pub listed-complement : (F : Cnf) (table : List (List ℕ)) (live : List Bool) (n : ℕ) (l k : ℤ) (list item : List ℕ) → AreHolders F (positions_of F) table → length live ≡ length F.clauses → IsWithinLimits F → n < F.vars → l ≡ to_z w32 (n + 1) → k ≡ complement l → item ≡ get_or table (rank_of k) item → list ≡ item → IsListed F live (neg_ℤ (pos (n + 1))) list
+listed-complement F table live n l k list item holders size limits lt is other read same =
+    is_listed F table live (neg_ℤ (pos (n + 1))) list holders size (negative_literal F.vars (n + 1) (omega arith) (omega arith)) (read_at table k (neg_ℤ (pos (n + 1))) list item (other ∙ ap complement (number_is F n l limits lt is)) read same)

@@ -1,11 +1,10 @@
 -- The run over the live clauses.
-use Rattle.std.proofs.Common.{◌≡◌, ℕ, zero, suc, ◌+◌, ◌<◌, ◌≤◌, ◌∙◌, Bool, true, false, not, cond, ◌&&◌, ◌||◌, List, [], ◌∷◌, ◌++◌, length, append_assoc, refl, sym, ap, subst, arith, ℤ, pos, negsuc, inl, inr, Option, Some, None, is_some}
+use Rattle.std.proofs.Common.{◌≡◌, ℕ, zero, suc, ◌+◌, ◌<◌, ◌≤◌, ◌∙◌, Bool, true, false, not, ◌&&◌, ◌||◌, List, [], ◌∷◌, ◌++◌, length, append_assoc, refl, sym, ap, subst, arith, ℤ, pos, inl, inr, Some, None}
 use Rattle.std.specs.Prelude.{filter, find, count_by, neg_ℤ, ◌==◌, nat_lt, flat_map}
 use Rattle.std.specs.List.{list_any, range_with_len, All}
 use Rattle.std.proofs.lemmas.List.Elements.{All-filter, All-same}
-use Rattle.std.proofs.lemmas.Bool.{cases_Bool, cond-true, cond-false, leb-true, le-leb, eq-eqb, eqb-true}
+use Rattle.std.proofs.lemmas.Bool.{cases_Bool, leb-true, le-leb}
 use Rattle.std.proofs.lemmas.List.{append-nil}
-use Rattle.std.proofs.lemmas.List.Folds.{list_any-append}
 use Rattle.lk_model.specs.Lists.{among}
 use Rattle.lk_model.specs.Formulas.Literal.{variable, complement, contains, mentions, is_literal}
 use Rattle.lk_model.specs.Formulas.Formula.{Cnf, clause_at, positions_of, literal_occurs}
@@ -13,12 +12,15 @@ use Rattle.lk_model.specs.Formulas.Assignment.{assignment_of, touches}
 use Rattle.lk_model.specs.Formulas.Lean.{all_of}
 use Rattle.lk_model.specs.Formulas.PureRun.{untouched, is_pure_at, least_pure, literals_to, RunsOn}
 use Rattle.lk_model.proofs.Booleans.{and_true, or_true, or_left, or_right}
-use Rattle.lk_model.proofs.ListTests.{passes_among}
+use Rattle.lk_model.proofs.Literals.{complement_literal, variable_negative}
+use Rattle.lk_model.proofs.Counting.{among-filter}
+use Rattle.kernel_laws.proofs.Clauses.{mentions_of}
+use Rattle.kernel_laws.proofs.Pure.PureLiterals.{no_complement, least_is_pure, mentions_is, touches_more}
+use Rattle.kernel_laws.proofs.Occurrences.{in_positions}
 use Rattle.pure_strip.specs.Counted.{Counted, count_of, is_lone, least_lone}
 use Rattle.pure_strip.specs.Live.{is_live, AreCounted, AreUntouched, GoDown}
-use Rattle.pure_strip.proofs.Selections.{count_by-filter, any_by_count, none_by_count, filter-agree, among-filter, among-range, length-filter-lt}
-use Rattle.pure_strip.proofs.ListLemmas.{list_any-agree, list_any-or, up_to-bounds}
-use Rattle.pure_strip.proofs.PairLemmas.{mentions-or}
+use Rattle.pure_strip.proofs.Selections.{count_by-filter, any_by_count, none_by_count, filter-agree, length-filter-lt}
+use Rattle.pure_strip.proofs.ListLemmas.{up_to-bounds}
 
 -- THE LIVE CLAUSES AND THE COUNTS
 
@@ -34,18 +36,13 @@ live_is_untouched F order live h = filter-agree 1 (length F.clauses) (is_live li
 count_is : (F : Cnf) (live : List Bool) (c : Counted) (l : ℤ) → AreCounted F live c → is_literal F.vars l ≡ true → count_of c.counts l ≡ count_by (λ p. contains (clause_at F p) l) (filter (is_live live) (positions_of F))
 count_is F live c l h lit = h.counted l lit ∙ count_by-filter (is_live live) (λ p. contains (clause_at F p) l) (positions_of F)
 
-negated_literal : (n : ℕ) (l : ℤ) → is_literal n l ≡ true → is_literal n (complement l) ≡ true
-negated_literal n (pos zero) h = h
-negated_literal n (pos (suc k)) h = h
-negated_literal n (negsuc k) h = h
-
 -- a literal is lone by the counts where it is pure in the live clauses
 lone_is_pure : (F : Cnf) (live : List Bool) (c : Counted) (l : ℤ) → AreCounted F live c → is_literal F.vars l ≡ true → is_lone c.counts l ≡ is_pure_at F (filter (is_live live) (positions_of F)) l
 lone_is_pure F live c l h lit =
     let ps = filter (is_live live) (positions_of F) in
     let itself : nat_lt 0 (count_of c.counts l) ≡ literal_occurs F ps l = ap (nat_lt 0) (count_is F live c l h lit) ∙ any_by_count (λ p. contains (clause_at F p) l) ps in
     let other : (count_of c.counts (complement l) == 0) ≡ not (literal_occurs F ps (complement l)) =
-    ap (λ k. k == 0) (count_is F live c (complement l) h (negated_literal F.vars l lit)) ∙ none_by_count (λ p. contains (clause_at F p) (complement l)) ps in
+    ap (λ k. k == 0) (count_is F live c (complement l) h (complement_literal F.vars l lit)) ∙ none_by_count (λ p. contains (clause_at F p) (complement l)) ps in
     ap (λ (b : Bool). b && (count_of c.counts (complement l) == 0)) itself ∙ ap (λ (b : Bool). literal_occurs F ps l && b) other
 
 -- tests that agree on the literals find the same one
@@ -54,13 +51,9 @@ find-agree : (s t : ℤ → Bool) (a n : ℕ) → ((l : ℤ) → a ≤ variable 
 find-agree s t a zero h = refl
 find-agree s t a (suc n) h =
     let here : s (pos a) ≡ t (pos a) = h (pos a) (omega arith) (omega arith) in
-    let there : s (neg_ℤ (pos a)) ≡ t (neg_ℤ (pos a)) = h (neg_ℤ (pos a)) (omega (arith, neg_variable a)) (omega (arith, neg_variable a)) in
+    let there : s (neg_ℤ (pos a)) ≡ t (neg_ℤ (pos a)) = h (neg_ℤ (pos a)) (omega (arith, variable_negative a)) (omega (arith, variable_negative a)) in
     let rest = find-agree s t (a + 1) n (λ l low high. h l (omega (arith, low)) (omega (arith, high))) in
     rw (here, there, rest) refl
-  where
-    neg_variable : (v : ℕ) → variable (neg_ℤ (pos v)) ≡ v
-    neg_variable zero = refl
-    neg_variable (suc k) = refl
 
 within_literal : (n : ℕ) (l : ℤ) → 1 ≤ variable l → variable l < 1 + n → is_literal n l ≡ true
 within_literal n l low high = rw (le-leb 1 (variable l) low, le-leb (variable l) n (omega (arith, high))) refl
@@ -72,106 +65,10 @@ least_is F order live c counted h =
     ∙ find-agree (is_lone c.counts) (is_pure_at F (filter (is_live live) (positions_of F))) 1 F.vars (λ l low high. lone_is_pure F live c l counted (within_literal F.vars l low high))
     ∙ ap (least_pure F) (live_is_untouched F order live h)
 
--- what is found passes the test and is a literal of the variables
-record Found (s : ℤ → Bool) (a n : ℕ) (l : ℤ) : Type 0 where
-  passes : s l ≡ true
-  low : a ≤ variable l
-  high : variable l < a + n
-
-found : (s : ℤ → Bool) (a n : ℕ) (l : ℤ) → find s (flat_map (λ v. pos v ∷ neg_ℤ (pos v) ∷ []) (range_with_len a n)) ≡ Some l → Found s a n l
-found s a zero l e = absurd (let f : ⊥ = cc in f)
-found s a (suc n) l e =
-    let rest : Option ℤ = find s (flat_map (λ v. pos v ∷ neg_ℤ (pos v) ∷ []) (range_with_len (a + 1) n)) in
-    let second : Option ℤ = cond (s (neg_ℤ (pos a))) (Some (neg_ℤ (pos a))) rest in
-    elim (cases_Bool (s (pos a))) [
-      | inl y ↦
-          let is : pos a ≡ l = some_same (pos a) l (sym (cond-true (s (pos a)) (Some (pos a)) second y) ∙ e) in
-          subst (λ k. Found s a (suc n) k) is (record { passes = y; low = omega arith; high = omega arith })
-      | inr y ↦
-          let later : second ≡ Some l = sym (cond-false (s (pos a)) (Some (pos a)) second y) ∙ e in
-          elim (cases_Bool (s (neg_ℤ (pos a)))) [
-            | inl z ↦
-                let is : neg_ℤ (pos a) ≡ l = some_same (neg_ℤ (pos a)) l (sym (cond-true (s (neg_ℤ (pos a))) (Some (neg_ℤ (pos a))) rest z) ∙ later) in
-                subst (λ k. Found s a (suc n) k) is (record { passes = z; low = omega (arith, neg_variable a); high = omega (arith, neg_variable a) })
-            | inr z ↦
-                let f = found s (a + 1) n l (sym (cond-false (s (neg_ℤ (pos a))) (Some (neg_ℤ (pos a))) rest z) ∙ later) in
-                record { passes = f.passes; low = omega (arith, f.low); high = omega (arith, f.high) }
-          ]
-    ]
-  where
-    neg_variable : (v : ℕ) → variable (neg_ℤ (pos v)) ≡ v
-    neg_variable zero = refl
-    neg_variable (suc k) = refl
-
-    some_same : (x y : ℤ) → Some x ≡ Some y → x ≡ y
-    some_same x y e = cc
-
--- the least pure literal is one over the variables, and is pure
-pub least_literal : (F : Cnf) (ps : List ℕ) (l : ℤ) → least_pure F ps ≡ Some l → is_literal F.vars l ≡ true
-least_literal F ps l e = let f = found (is_pure_at F ps) 1 F.vars l e in within_literal F.vars l f.low f.high
-
-pub least_is_pure : (F : Cnf) (ps : List ℕ) (l : ℤ) → least_pure F ps ≡ Some l → is_pure_at F ps l ≡ true
-least_is_pure F ps l e = (found (is_pure_at F ps) 1 F.vars l e).passes
-
 -- ONE LITERAL MORE
-
--- a variable is set where one of its literals is among those that are true
-set_is : (ls : List ℤ) (v : ℕ) → is_some (assignment_of ls v) ≡ (contains ls (pos v) || contains ls (neg_ℤ (pos v)))
-set_is ls v = by_tests (contains ls (pos v)) (contains ls (neg_ℤ (pos v)))
-  where
-    by_tests : (a b : Bool) → is_some (let o : Option Bool = cond a (Some true) (cond b (Some false) None) in o) ≡ (a || b)
-    by_tests true b = refl
-    by_tests false true = refl
-    by_tests false false = refl
-
--- so the assignment touches a clause that mentions a variable of them
-pub touches_is : (ls c : List ℤ) → touches (assignment_of ls) c ≡ list_any (λ k. mentions ls (variable k)) c
-touches_is ls c = list_any-agree (λ k. is_some (assignment_of ls (variable k))) (λ k. mentions ls (variable k)) (λ k. set_is ls (variable k) ∙ sym (mentions-or ls (variable k))) c
-
--- with one literal more the clauses with its variable are touched too
-pub touches-more : (order c : List ℤ) (l : ℤ) → touches (assignment_of (order ++ l ∷ [])) c ≡ (touches (assignment_of order) c || mentions c (variable l))
-touches-more order c l =
-    touches_is (order ++ l ∷ []) c
-    ∙ list_any-agree (λ k. mentions (order ++ l ∷ []) (variable k)) (λ k. mentions order (variable k) || (variable k == variable l))
-    (λ k. list_any-append (λ j. variable j == variable k) order (l ∷ []) ∙ ap (λ (b : Bool). mentions order (variable k) || b) (or-none (variable l == variable k) ∙ eq_back (variable l) (variable k))) c
-    ∙ list_any-or (λ k. mentions order (variable k)) (λ k. variable k == variable l) c
-    ∙ ap (λ (b : Bool). b || mentions c (variable l)) (sym (touches_is order c))
-  where
-    or-none : (b : Bool) → (b || false) ≡ b
-    or-none true = refl
-    or-none false = refl
-
-    eq_back : (a b : ℕ) → (a == b) ≡ (b == a)
-    eq_back a b = elim (cases_Bool (a == b)) [
-      | inl y ↦ y ∙ sym (eq-eqb b a (sym (eqb-true a b y)))
-      | inr y ↦ elim (cases_Bool (b == a)) [ inl z ↦ absurd (cc (y, eq-eqb a b (sym (eqb-true b a z)))) | inr z ↦ y ∙ sym z ]
-    ]
-
--- a clause that holds no complement mentions the variable where it holds the literal
-pub mentions_is : (c : List ℤ) (l : ℤ) → contains c (complement l) ≡ false → mentions c (variable l) ≡ contains c l
-mentions_is c (pos v) e = mentions-or c v ∙ ap (λ (b : Bool). contains c (pos v) || b) e ∙ or-none (contains c (pos v))
-  where
-    or-none : (b : Bool) → (b || false) ≡ b
-    or-none true = refl
-    or-none false = refl
-mentions_is c (negsuc k) e = mentions-or c (suc k) ∙ ap (λ (b : Bool). b || contains c (negsuc k)) e
-
--- no untouched clause holds the complement of a pure literal
-pub no_complement : (F : Cnf) (ps : List ℕ) (l : ℤ) (p : ℕ) → is_pure_at F ps l ≡ true → among ps p ≡ true → contains (clause_at F p) (complement l) ≡ false
-no_complement F ps l p pure there = elim (cases_Bool (contains (clause_at F p) (complement l))) [
-  | inl y ↦
-      let some : literal_occurs F ps (complement l) ≡ true = passes_among (λ q. contains (clause_at F q) (complement l)) ps p there y in
-      let none : not (literal_occurs F ps (complement l)) ≡ true = (and_true (literal_occurs F ps l) (not (literal_occurs F ps (complement l))) pure).1 in
-      let no_way : ⊥ = cc in
-      absurd no_way
-  | inr y ↦ y
-]
 
 inside : (F : Cnf) (p : ℕ) → all_of F p ≡ true → (1 ≤ p) × (p ≤ length F.clauses)
 inside F p e = let b = and_true _ _ e in (leb-true 1 p b.0, leb-true p (length F.clauses) b.1)
-
-pub among_positions : (F : Cnf) (p : ℕ) → all_of F p ≡ true → among (positions_of F) p ≡ true
-among_positions F p e = let b = inside F p e in among-range 1 (length F.clauses) p b.0 (omega (arith, b.1))
 
 -- the live clauses after one literal more
 pub Untouched-more : (F : Cnf) (order : List ℤ) (live after : List Bool) (l : ℤ) (list : List ℕ) → AreUntouched F order live → least_pure F (untouched F order) ≡ Some l
@@ -182,30 +79,25 @@ Untouched-more F order live after l list h e list_is down = record {
       let b = inside F p within in
       let c = clause_at F p in
       let among_is : among list p ≡ contains c l =
-      ap (λ (ns : List ℕ). among ns p) list_is ∙ among-filter (positions_of F) p (λ q. contains (clause_at F q) l) ∙ ap (λ (t : Bool). contains c l && t) (among_positions F p within) ∙ and_yes (contains c l) in
+      ap (λ (ns : List ℕ). among ns p) list_is ∙ among-filter (λ q. contains (clause_at F q) l) (positions_of F) p ∙ ap (λ (t : Bool). contains c l && t) (in_positions F p within) ∙ and_yes (contains c l) in
       let left : is_live after p ≡ (not (touches (assignment_of order) c) && not (contains c l)) =
       down.down p b.0 b.1 ∙ ap (λ (t : Bool). t && not (among list p)) (h.told p within) ∙ ap (λ (t : Bool). not (touches (assignment_of order) c) && not t) among_is in
       left ∙ elim (cases_Bool (touches (assignment_of order) c)) [
         | inl y ↦
             ap (λ (t : Bool). not t && not (contains c l)) y
-            ∙ sym (ap not (touches-more order c l) ∙ ap (λ (t : Bool). not (t || mentions c (variable l))) y)
+            ∙ sym (ap not (touches_more order c l) ∙ ap (λ (t : Bool). not (t || mentions c (variable l))) y)
         | inr y ↦
             let there : among (untouched F order) p ≡ true =
-            among-filter (positions_of F) p (λ q. not (touches (assignment_of order) (clause_at F q))) ∙ ap (λ (t : Bool). not t && among (positions_of F) p) y ∙ among_positions F p within in
+            among-filter (λ q. not (touches (assignment_of order) (clause_at F q))) (positions_of F) p ∙ ap (λ (t : Bool). not t && among (positions_of F) p) y ∙ in_positions F p within in
             let other = no_complement F (untouched F order) l p (least_is_pure F (untouched F order) l e) there in
             ap (λ (t : Bool). not t && not (contains c l)) y ∙ ap not (sym (mentions_is c l other))
-            ∙ sym (ap not (touches-more order c l) ∙ ap (λ (t : Bool). not (t || mentions c (variable l))) y)
+            ∙ sym (ap not (touches_more order c l) ∙ ap (λ (t : Bool). not (t || mentions c (variable l))) y)
       ];
 }
   where
     and_yes : (b : Bool) → (b && true) ≡ b
     and_yes true = refl
     and_yes false = refl
-
--- a clause that holds a literal mentions its variable
-pub mentions_if : (c : List ℤ) (l : ℤ) → contains c l ≡ true → mentions c (variable l) ≡ true
-mentions_if c (pos v) e = mentions-or c v ∙ or_left (contains c (pos v)) (contains c (neg_ℤ (pos v))) e
-mentions_if c (negsuc k) e = mentions-or c (suc k) ∙ or_right (contains c (pos (suc k))) (contains c (negsuc k)) e
 
 -- a weaker test finds one where the other does
 any-weaker : (s t : ℕ → Bool) (ps : List ℕ) → ((p : ℕ) → s p ≡ true → t p ≡ true) → list_any s ps ≡ true → list_any t ps ≡ true
@@ -226,11 +118,11 @@ fewer_untouched F order l e =
     let t : ℕ → Bool = λ p. not (touches (assignment_of (order ++ l ∷ [])) (clause_at F p)) in
     let some : literal_occurs F (untouched F order) l ≡ true = (and_true _ (not (literal_occurs F (untouched F order) (complement l))) (least_is_pure F (untouched F order) l e)).0 in
     let both : list_any (λ p. s p && contains (clause_at F p) l) (positions_of F) ≡ true = sym (any-filter s (λ p. contains (clause_at F p) l) (positions_of F)) ∙ some in
-    let stronger : (p : ℕ) → t p ≡ true → s p ≡ true = λ p h. stays (touches (assignment_of order) (clause_at F p)) (mentions (clause_at F p) (variable l)) (ap not (sym (touches-more order (clause_at F p) l)) ∙ h) in
+    let stronger : (p : ℕ) → t p ≡ true → s p ≡ true = λ p h. stays (touches (assignment_of order) (clause_at F p)) (mentions (clause_at F p) (variable l)) (ap not (sym (touches_more order (clause_at F p) l)) ∙ h) in
     let lost : (p : ℕ) → (s p && contains (clause_at F p) l) ≡ true → (s p && not (t p)) ≡ true = λ p h.
     let parts = and_true (s p) (contains (clause_at F p) l) h in
     let touched : touches (assignment_of (order ++ l ∷ [])) (clause_at F p) ≡ true =
-    touches-more order (clause_at F p) l ∙ or_right (touches (assignment_of order) (clause_at F p)) (mentions (clause_at F p) (variable l)) (mentions_if (clause_at F p) l parts.1) in
+    touches_more order (clause_at F p) l ∙ or_right (touches (assignment_of order) (clause_at F p)) (mentions (clause_at F p) (variable l)) (mentions_of (clause_at F p) l parts.1) in
     ap (λ (b : Bool). b && not (t p)) parts.0 ∙ ap (λ (b : Bool). not (not b)) touched in
     length-filter-lt s t (positions_of F) stronger (any-weaker (λ p. s p && contains (clause_at F p) l) (λ p. s p && not (t p)) (positions_of F) lost both)
   where

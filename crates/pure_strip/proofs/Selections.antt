@@ -1,14 +1,9 @@
 -- Filters, counts and searches over lists, and over the numbers of a range.
-use Rattle.std.proofs.Common.{◌≡◌, ◌≢◌, ℕ, zero, suc, ◌+◌, ◌<◌, ◌≤◌, Bool, true, false, not, cond, ◌&&◌, ◌||◌, List, [], ◌∷◌, length, refl, sym, ◌∙◌, ap, arith, ◌⊎◌, inl, inr}
+use Rattle.std.proofs.Common.{◌≡◌, ◌≢◌, ℕ, zero, suc, ◌+◌, ◌<◌, ◌≤◌, Bool, true, false, not, cond, ◌&&◌, ◌||◌, List, [], ◌∷◌, length, refl, sym, ◌∙◌, ap, arith, inl, inr}
 use Rattle.std.specs.Prelude.{filter, count_by, nat_lt, ◌==◌}
 use Rattle.std.specs.List.{list_any, range_with_len}
 use Rattle.std.proofs.lemmas.List.Sums.{sum_by-cons}
-use Rattle.std.proofs.lemmas.Bool.{lt-ltb, eq-eqb, eqb-true}
-use Rattle.lk_model.specs.Lists.{among}
-
-pub true_or_false : (b : Bool) → (b ≡ true) ⊎ (b ≡ false)
-true_or_false true = inl refl
-true_or_false false = inr refl
+use Rattle.std.proofs.lemmas.Bool.{lt-ltb, eq-eqb, eqb-true, cases_Bool}
 
 -- 1 where the test passes
 abbrev pub weight : Bool → ℕ
@@ -18,16 +13,13 @@ weight b = cond b 1 0
 pub count_by-cons : {X : Type 0} (p : X → Bool) (x : X) (xs : List X) → count_by p (x ∷ xs) ≡ weight (p x) + count_by p xs
 count_by-cons p x xs = sum_by-cons (λ y. weight (p y)) x xs
 
-plain : (n : ℕ) → 0 + n ≡ n
-plain n = omega arith
-
 -- a count of what passes two tests is one over what passes the first
 pub count_by-filter : {X : Type 0} (s t : X → Bool) (xs : List X) → count_by (λ x. s x && t x) xs ≡ count_by t (filter s xs)
 count_by-filter s t [] = refl
 count_by-filter s t (x ∷ xs) =
     let rest = count_by-filter s t xs in
     let whole = count_by-cons (λ y. s y && t y) x xs in
-    elim (true_or_false (s x)) [
+    elim (cases_Bool (s x)) [
       | inl e ↦
           let here : weight (s x && t x) ≡ weight (t x) = ap (λ b. weight (b && t x)) e in
           let kept : count_by t (cond (s x) (x ∷ filter s xs) (filter s xs)) ≡ weight (t x) + count_by t (filter s xs) =
@@ -46,7 +38,7 @@ any_by_count t [] = refl
 any_by_count t (x ∷ xs) =
     let rest = any_by_count t xs in
     let whole = count_by-cons t x xs in
-    elim (true_or_false (t x)) [
+    elim (cases_Bool (t x)) [
       | inl e ↦
           let here : weight (t x) ≡ 1 = ap (λ b. weight b) e in
           lt-ltb 0 (count_by t (x ∷ xs)) (omega (arith, whole, here)) ∙ sym (ap (λ b. b || list_any t xs) e)
@@ -61,7 +53,7 @@ none_by_count t xs = by_number (count_by t xs) ∙ ap not (any_by_count t xs)
   where
     by_number : (n : ℕ) → (n == 0) ≡ not (nat_lt 0 n)
     by_number zero = refl
-    by_number (suc n) = elim (true_or_false (suc n == 0)) [
+    by_number (suc n) = elim (cases_Bool (suc n == 0)) [
       | inl e ↦ absurd (let f : suc n ≡ 0 = eqb-true (suc n) 0 e in omega (arith, f))
       | inr e ↦ e ∙ sym (ap not (lt-ltb 0 (suc n) (omega arith)))
     ]
@@ -97,7 +89,7 @@ count_by-less a zero p s t low high fails h = absurd (omega (arith, low, high))
 count_by-less a (suc n) p s t low high fails h =
     let left = count_by-cons s a (range_with_len (a + 1) n) in
     let right = count_by-cons t a (range_with_len (a + 1) n) in
-    elim (true_or_false (a == p)) [
+    elim (cases_Bool (a == p)) [
       | inl e ↦
           let same : a ≡ p = eqb-true a p e in
           let rest = count_by-agree (a + 1) n s t (λ k l u. h k (omega (arith, l)) (λ q. omega (arith, l, q, same))) in
@@ -112,37 +104,14 @@ count_by-less a (suc n) p s t low high fails h =
           omega (arith, left, right, rest, here)
     ]
 
--- what stands in a filtered list
-pub among-filter : (ns : List ℕ) (k : ℕ) (t : ℕ → Bool) → among (filter t ns) k ≡ (t k && among ns k)
-among-filter [] k t = elim (true_or_false (t k)) [ inl e ↦ rw e refl | inr e ↦ rw e refl ]
-among-filter (n ∷ ns) k t =
-    let rest = among-filter ns k t in
-    elim (true_or_false (n == k)) [
-      | inl e ↦ elim (true_or_false (t n)) [
-        | inl y ↦ let here : t k ≡ true = ap t (sym (eqb-true n k e)) ∙ y in rw (y, e, here) refl
-        | inr y ↦ let here : t k ≡ false = ap t (sym (eqb-true n k e)) ∙ y in rw (y, here) (rest ∙ rw here refl)
-      ]
-      | inr e ↦ elim (true_or_false (t n)) [ inl y ↦ rw (y, e) rest | inr y ↦ rw (y, e) rest ]
-    ]
-
--- what stands in a range
-pub among-range : (a n k : ℕ) → a ≤ k → k < a + n → among (range_with_len a n) k ≡ true
-among-range a zero k low high = absurd (omega (arith, low, high))
-among-range a (suc n) k low high = elim (true_or_false (a == k)) [
-  | inl e ↦ rw e refl
-  | inr e ↦
-      let other : a ≢ k = λ q. cc (e, eq-eqb a k q) in
-      rw e (among-range (a + 1) n k (omega (arith, low, other)) (omega (arith, high)))
-]
-
 -- a stronger test leaves no more, and fewer where it fails at an element at which the other passes
 pub length-filter-le : {X : Type 0} (s t : X → Bool) (xs : List X) → ((x : X) → t x ≡ true → s x ≡ true) → length (filter t xs) ≤ length (filter s xs)
 length-filter-le s t [] h = omega arith
 length-filter-le s t (x ∷ xs) h =
     let less = length-filter-le s t xs h in
-    elim (true_or_false (t x)) [
+    elim (cases_Bool (t x)) [
       | inl y ↦ let z : s x ≡ true = h x y in rw (y, z) (omega (arith, less))
-      | inr y ↦ elim (true_or_false (s x)) [ inl z ↦ rw (y, z) (omega (arith, less)) | inr z ↦ rw (y, z) less ]
+      | inr y ↦ elim (cases_Bool (s x)) [ inl z ↦ rw (y, z) (omega (arith, less)) | inr z ↦ rw (y, z) less ]
     ]
 
 pub length-filter-lt : {X : Type 0} (s t : X → Bool) (xs : List X) → ((x : X) → t x ≡ true → s x ≡ true)
@@ -150,13 +119,13 @@ pub length-filter-lt : {X : Type 0} (s t : X → Bool) (xs : List X) → ((x : X
 length-filter-lt s t [] h e = absurd (let f : ⊥ = cc in f)
 length-filter-lt s t (x ∷ xs) h e =
     let some = length-filter-le s t xs h in
-    elim (true_or_false (t x)) [
+    elim (cases_Bool (t x)) [
       | inl y ↦
           let z : s x ≡ true = h x y in
           let more : list_any (λ k. s k && not (t k)) xs ≡ true = sym (ap (λ b. (s x && not b) || list_any (λ k. s k && not (t k)) xs) y ∙ ap (λ b. (b && false) || list_any (λ k. s k && not (t k)) xs) z) ∙ e in
           let less = length-filter-lt s t xs h more in
           rw (y, z) (omega (arith, less))
-      | inr y ↦ elim (true_or_false (s x)) [
+      | inr y ↦ elim (cases_Bool (s x)) [
         | inl z ↦ rw (y, z) (omega (arith, some))
         | inr z ↦
             let more : list_any (λ k. s k && not (t k)) xs ≡ true = sym (ap (λ b. (b && not (t x)) || list_any (λ k. s k && not (t k)) xs) z) ∙ e in

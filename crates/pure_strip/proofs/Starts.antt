@@ -1,18 +1,16 @@
 -- Where the run starts and what it leaves.
-use Rattle.std.proofs.Common.{◌≡◌, ℕ, zero, suc, ◌+◌, ◌-◌, ◌<◌, ◌≤◌, ◌∙◌, Bool, true, false, not, ◌&&◌, List, [], ◌∷◌, ◌++◌, length, map, append_assoc, refl, sym, ap, subst, arith, ℤ, inl, inr, None}
+use Rattle.std.proofs.Common.{◌≡◌, ℕ, ◌+◌, ◌-◌, ◌<◌, ◌≤◌, ◌∙◌, Bool, true, false, not, ◌&&◌, List, [], length, map, sym, ap, arith, ℤ}
 use Rattle.std.specs.Prelude.{filter, replicate}
-use Rattle.std.specs.List.{range_with_len}
-use Rattle.std.proofs.lemmas.Bool.{cases_Bool, le-leb, lt-ltb, leb-true}
-use Rattle.std.proofs.lemmas.List.{get_or-replicate, length-replicate, length-map, get_or-map, append-nil}
+use Rattle.std.proofs.lemmas.Bool.{leb-true}
+use Rattle.std.proofs.lemmas.List.{get_or-replicate, length-replicate, length-map, get_or-map}
 use Rattle.std.proofs.lemmas.List.Sums.{length-filter}
-use Rattle.lk_model.specs.Lists.{rises_within, up_to}
+use Rattle.lk_model.specs.Lists.{up_to}
 use Rattle.lk_model.specs.Formulas.Literal.{contains, rank_of}
 use Rattle.lk_model.specs.Formulas.Formula.{Cnf, clause_at, positions_of}
-use Rattle.lk_model.specs.Formulas.Assignment.{assignment_of, touches}
-use Rattle.lk_model.specs.Formulas.Lean.{are_positions}
-use Rattle.lk_model.specs.Formulas.PureRun.{RunsOn, least_pure, untouched}
+use Rattle.lk_model.specs.Formulas.PureRun.{untouched}
 use Rattle.lk_model.proofs.Booleans.{and_true}
 use Rattle.lk_model.proofs.Ranks.{rank_small}
+use Rattle.kernel_laws.proofs.Pure.PureLiterals.{touches_none}
 use Rattle.pure_strip.specs.Tables.{AreHolders}
 use Rattle.pure_strip.specs.Counted.{Counted, count_of}
 use Rattle.pure_strip.specs.Live.{is_live, AreCounted, AreUntouched}
@@ -40,38 +38,13 @@ Counted-start F live table c live_is holders is = record {
       ∙ count_by-agree 1 (length F.clauses) (λ p. contains (clause_at F p) l) (λ p. is_live live p && contains (clause_at F p) l) same;
 }
 
--- the empty order touches nothing
-pub touches-none : (c : List ℤ) → touches (assignment_of []) c ≡ false
-touches-none [] = refl
-touches-none (l ∷ c) = touches-none c
-
 pub Untouched-start : (F : Cnf) (live : List Bool) → live ≡ replicate (length F.clauses) true → AreUntouched F [] live
 Untouched-start F live is = record {
   size = ap length is ∙ length-replicate (length F.clauses) true;
   told = λ p within.
       let b = and_true _ _ within in
-      ap (λ (s : List Bool). is_live s p) is ∙ all_live (length F.clauses) p (leb-true 1 p b.0) (leb-true p (length F.clauses) b.1) ∙ sym (ap not (touches-none (clause_at F p)));
+      ap (λ (s : List Bool). is_live s p) is ∙ all_live (length F.clauses) p (leb-true 1 p b.0) (leb-true p (length F.clauses) b.1) ∙ sym (ap not (touches_none (clause_at F p)));
 }
-
--- a run leaves no pure literal
-pub run_leaves : (F : Cnf) (done order : List ℤ) → RunsOn F done order → least_pure F (untouched F (done ++ order)) ≡ None
-run_leaves F done [] h = subst (λ (ls : List ℤ). least_pure F (untouched F ls) ≡ None) (sym (append-nil done)) h
-run_leaves F done (l ∷ order) h =
-    subst (λ (ls : List ℤ). least_pure F (untouched F ls) ≡ None) (append_assoc done (l ∷ []) order) (run_leaves F (done ++ l ∷ []) order h.1)
-
--- filtered numbers of a range rise
-rises-filter : (low high a n : ℕ) (t : ℕ → Bool) → low < a → a + n ≤ high + 1 → rises_within low high (filter t (range_with_len a n)) ≡ true
-rises-filter low high a zero t above within = refl
-rises-filter low high a (suc n) t above within = elim (cases_Bool (t a)) [
-  | inl y ↦
-      let rest = rises-filter a high (a + 1) n t (omega arith) (omega (arith, within)) in
-      rw (y, lt-ltb low a above, le-leb a high (omega (arith, within)), rest) refl
-  | inr y ↦ rw y (rises-filter low high (a + 1) n t (omega (arith, above)) (omega (arith, within)))
-]
-
--- the untouched positions are positions
-pub untouched_rise : (F : Cnf) (order : List ℤ) → are_positions F (untouched F order) ≡ true
-untouched_rise F order = rises-filter 0 (length F.clauses) 1 (length F.clauses) (λ p. not (touches (assignment_of order) (clause_at F p))) (omega arith) (omega arith)
 
 -- the positions whose flags are up are the untouched ones
 pub kept_is : (F : Cnf) (order : List ℤ) (live : List Bool) → AreUntouched F order live → filter (is_live live) (up_to (length live)) ≡ untouched F order

@@ -3,18 +3,18 @@ ghost use Rattle.std.specs.Prelude.{◌≡◌, ◌+◌, ◌*◌, ◌<◌, ◌≤
 ghost use Rattle.lk_model.specs.Formulas.Literal.{is_literal};
 ghost use Rattle.pure_strip.specs.Counted.{count_of, is_lone_variable, lowered, least_lone, AreLone};
 
-use lk_model::{Lit, OutOfMemory};
+use lk_model::{Lit, LitTable, OutOfMemory};
 use std::alloc::Global;
 use std::collections::BTreeSet;
 use std::marker::Model;
 
-/// How many of some clauses hold each literal over the variables from 1 to n, at its rank. Beside
-/// the numbers there stands the set of the variables that occur in one sign only, so that the least
-/// of them is found at once.
+/// How many of some clauses hold each literal over the variables from 1 to n. Beside the numbers there
+/// stands the set of the variables that occur in one sign only, so that the least of them is found at
+/// once.
 #[derive(Drop)]
 pub(crate) struct Counts {
     vars: u32,
-    counts: Vec<usize>,
+    counts: LitTable<usize>,
     lone: BTreeSet<u32>,
 }
 
@@ -23,19 +23,19 @@ impl Model for Counts {
 
     ghost Value = { Counted };
 
-    ghost view = { λ c. record { vars = c.vars; counts = c.counts.items } };
+    ghost view = { λ c. record { vars = c.vars; counts = c.counts } };
 
-    ghost invariant = { λ c. AreLone c.vars c.counts.items c.lone };
+    ghost invariant = { λ c. AreLone c.vars c.counts c.lone };
 }
 
 impl Counts {
-    /// The numbers that stand at the ranks.
-    pub fn new(alloc: Global, vars: u32, counts: Vec<usize>) -> Result<Counts, OutOfMemory>
+    /// These numbers, with the set.
+    pub fn new(alloc: Global, vars: u32, counts: LitTable<usize>) -> Result<Counts, OutOfMemory>
         requires small { vars ≤ 1000000 }
-        requires size { length counts.items ≡ 2 * vars + 2 }
-        ensures { IfOk result (λ c. c ≡ record { vars = vars; counts = counts.items }) }
+        requires size { length counts ≡ 2 * vars + 2 }
+        ensures { IfOk result (λ c. c ≡ record { vars = vars; counts = counts }) }
     {
-        let lone = lone_variables(alloc, vars, counts.as_slice())?;
+        let lone = lone_variables(alloc, vars, &counts)?;
         Ok(Counts { vars, counts, lone })
     }
 
@@ -46,15 +46,15 @@ impl Counts {
         ensures ok { OnOk result (self.new ≡ lowered self.old l) }
         ensures err { OnErr result (self.new ≡ self.old) }
     {
-        let left = self.counts[l.rank()] - 1;
+        let left = self.counts[l] - 1;
         if left == 0 {
-            if self.counts[l.negated().rank()] == 0 {
+            if self.counts[l.negated()] == 0 {
                 self.lone.remove(&l.var());
             } else {
                 self.lone.insert(l.var())?;
             }
         }
-        self.counts[l.rank()] = left;
+        self.counts[l] = left;
         Ok(())
     }
 
@@ -63,7 +63,7 @@ impl Counts {
         ensures { result ≡ least_lone self.now }
     {
         let l = positive(*self.lone.first()?)?;
-        if self.counts[l.rank()] == 0 {
+        if self.counts[l] == 0 {
             Some(l.negated())
         } else {
             Some(l)
@@ -72,7 +72,11 @@ impl Counts {
 }
 
 /// The variables that occur in one sign only.
-fn lone_variables(alloc: Global, vars: u32, counts: &[usize]) -> Result<BTreeSet<u32>, OutOfMemory>
+fn lone_variables(
+    alloc: Global,
+    vars: u32,
+    counts: &LitTable<usize>,
+) -> Result<BTreeSet<u32>, OutOfMemory>
     requires small { vars ≤ 1000000 }
     requires size { length counts.now ≡ 2 * vars + 2 }
     ensures { IfOk result (AreLone vars counts.now) }
@@ -87,13 +91,14 @@ fn lone_variables(alloc: Global, vars: u32, counts: &[usize]) -> Result<BTreeSet
 }
 
 /// Whether a variable occurs in one sign only.
-fn occurs_in_one_sign(counts: &[usize], v: u32) -> bool
+fn occurs_in_one_sign(counts: &LitTable<usize>, v: u32) -> bool
     requires first { 0 < v }
+    requires last { v ≤ 1000000 }
     requires within { 2 * v + 1 < length counts.now }
     ensures { result ≡ is_lone_variable counts.now v }
 {
-    let rank = 2 * v as usize;
-    (counts[rank] == 0) != (counts[rank + 1] == 0)
+    let l = Lit::from_var(v, true);
+    (counts[l] == 0) != (counts[l.negated()] == 0)
 }
 
 /// The variable as a literal.

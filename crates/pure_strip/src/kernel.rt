@@ -22,7 +22,8 @@ use std::alloc::Global;
 /// - `pairs` has for each variable of the kept clauses, ascending, the least kept position with each
 ///   of its literals.
 ///
-/// The work grows with the number of literals times the logarithm of the number of variables.
+/// The work is meant to grow with the number of literals times the logarithm of the number of variables;
+/// no clause says so.
 pub fn pure_kernel(alloc: Global, f: &Formula) -> Result<PureResult, OutOfMemory>
     ensures order { IfOk result (λ r. IsPureRun f.now r.order) }
     ensures kept { IfOk result (λ r. r.kept ≡ untouched f.now r.order) }
@@ -32,9 +33,9 @@ pub fn pure_kernel(alloc: Global, f: &Formula) -> Result<PureResult, OutOfMemory
 {
     let holders = holders_of(alloc, f)?;
     let mut live = vec![in alloc; true; f.len() as usize]?;
-    let mut counts = Counts::new(alloc, f.vars(), lengths(alloc, holders.as_slice())?)?;
-    let order = pure_order(alloc, f, holders.as_slice(), &mut live, &mut counts)?;
+    let mut counts = Counts::new(alloc, f.vars(), lengths(alloc, &holders)?)?;
+    let order = pure_order(alloc, f, &holders, &mut live, &mut counts)?;
     let kept = live_positions(alloc, live.as_slice())?;
-    let pairs = pairs_of(alloc, f, holders.as_slice(), live.as_slice())?;
+    let pairs = pairs_of(alloc, f, &holders, live.as_slice())?;
     Ok(PureResult { kept, order, pairs })
 }

@@ -6,14 +6,22 @@ ghost use Rattle.lk_model.specs.Formulas.PureRun.{least_pure, least_pairs};
 ghost use Rattle.pure_strip.specs.Tables.{AreHolders};
 ghost use Rattle.pure_strip.specs.Live.{is_live};
 
-use lk_model::{Formula, List, Lit, OutOfMemory, Pair};
+use lk_model::{Formula, List, Lit, LitTable, OutOfMemory, Pair};
 use std::alloc::{AllocError, Global};
 
 /// How many positions stand in each list.
-pub(crate) fn lengths(alloc: Global, lists: &[List<u32>]) -> Result<Vec<usize>, AllocError>
-    ensures { IfOk result (λ v. v.items ≡ map (λ ps. length ps) lists.now) }
+pub(crate) fn lengths(
+    alloc: Global,
+    lists: &LitTable<List<u32>>,
+) -> Result<LitTable<usize>, AllocError>
+    ensures { IfOk result (λ t. t ≡ map (λ ps. length ps) lists.now) }
 {
-    lists.iter().map(|list| list.len()).collect(alloc)
+    let lengths = lists
+        .as_slice()
+        .iter()
+        .map(|list| list.len())
+        .collect(alloc)?;
+    Ok(LitTable::from_vec(lengths))
 }
 
 /// The positions whose flags are up, ascending.
@@ -35,7 +43,7 @@ pub(crate) fn live_positions(alloc: Global, live: &[bool]) -> Result<List<u32>, 
 pub(crate) fn pairs_of(
     alloc: Global,
     f: &Formula,
-    holders: &[List<u32>],
+    holders: &LitTable<List<u32>>,
     live: &[bool],
 ) -> Result<List<Pair>, OutOfMemory>
     requires holders { AreHolders f.now (positions_of f.now) holders.now }
@@ -49,8 +57,8 @@ pub(crate) fn pairs_of(
         let Some(l) = Lit::new(var as i32) else {
             unreachable!()
         };
-        if let Some(with) = first_live(holders[l.rank()].as_slice(), live) {
-            if let Some(against) = first_live(holders[l.negated().rank()].as_slice(), live) {
+        if let Some(with) = first_live(holders[l].as_slice(), live) {
+            if let Some(against) = first_live(holders[l.negated()].as_slice(), live) {
                 pairs.push(Pair { var, with, against })?;
             }
         }

@@ -1,4 +1,11 @@
 //! The pure run.
+//!
+//! The rule of pure literals (Davis and Putnam, "A Computing Procedure for Quantification Theory", 1960), again and
+//! again: a literal whose complement occurs nowhere is made true, and the clauses that it touches go.
+//!
+//! Here the least variable is taken each time, so the order is determined. Each clause knows whether it was touched,
+//! each literal how many untouched clauses hold it, and the variables in one sign are kept in an ordered set
+//! (`counts`): no step goes through the formula.
 ghost use Rattle.std.specs.Prelude.{◌≡◌, ◌<◌, ◌≤◌, [], length, slice_set, false, IfOk, OnOk, IsTrue, All, ◌-◌, ◌+◌, ◌*◌};
 ghost use Rattle.lk_model.specs.Formulas.Literal.{is_clause};
 ghost use Rattle.lk_model.specs.Formulas.Formula.{positions_of};
@@ -8,7 +15,7 @@ ghost use Rattle.pure_strip.specs.Counted.{AreHeld, LowersAll};
 ghost use Rattle.pure_strip.specs.Live.{is_live, AreCounted, AreUntouched, GoDown};
 
 use crate::counts::Counts;
-use lk_model::{Formula, List, Lit, OutOfMemory};
+use lk_model::{Formula, List, Lit, LitTable, OutOfMemory};
 use std::alloc::Global;
 
 /// The order of the pure run. The flags that are up in the end are those of the clauses that no
@@ -16,7 +23,7 @@ use std::alloc::Global;
 pub(crate) fn pure_order(
     alloc: Global,
     f: &Formula,
-    holders: &[List<u32>],
+    holders: &LitTable<List<u32>>,
     live: &mut Vec<bool>,
     counts: &mut Counts,
 ) -> Result<List<Lit>, OutOfMemory>
@@ -28,7 +35,7 @@ pub(crate) fn pure_order(
 {
     let mut order = List::new(alloc);
     while let Some(l) = counts.least_lone() {
-        touch_all(f, holders[l.rank()].as_slice(), live, counts)?;
+        touch_all(f, holders[l].as_slice(), live, counts)?;
         order.push(l)?;
     }
     Ok(order)

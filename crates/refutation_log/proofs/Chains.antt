@@ -3,7 +3,7 @@ use Rattle.std.proofs.Common.{◌≡◌, ℕ, suc, ◌+◌, ◌<◌, ◌≤◌, 
 use Rattle.std.specs.List.{list_all}
 use Rattle.std.specs.Prelude.{option_and_then}
 use Rattle.std.specs.Option.{option_map_or}
-use Rattle.std.proofs.lemmas.Bool.{leb-true, le-leb, leb-false}
+use Rattle.std.proofs.lemmas.Bool.{leb-true, le-leb, leb-false, lt-leb}
 use Rattle.lk_model.specs.Lists.{among, rises_within}
 use Rattle.lk_model.specs.Formulas.Literal.{contains, complement, is_same_set}
 use Rattle.lk_model.specs.Chains.Chain.{Premises, crossed_at, clause_named, without, resolvent, after_turns, chain_clause, names_of, states_its_clause}
@@ -13,18 +13,12 @@ use Rattle.lk_model.specs.declared.document.Step.{Step}
 use Rattle.refutation_log.specs.SameClause.{HaveSame, IsSameClause}
 use Rattle.refutation_log.specs.Derivation.{Derivation, are_numbered, next_number, clause_of_step, IsDerivation, is_ascending, names_lower, step_of, Extends}
 use Rattle.lk_model.specs.declared.crossed.Crossed.{Crossed}
-use Rattle.refutation_log.proofs.Steps.{found_within, numbered_more, all_more}
+use Rattle.refutation_log.proofs.Steps.{found_within, numbered_more}
 use Rattle.lk_model.proofs.Rising.{bounded}
+use Rattle.lk_model.proofs.ListTests.{all_more}
 use Rattle.refutation_log.proofs.Clauses.{same_set, have_same, HaveSame-refl, HaveSame-trans, HaveSame-without, HaveSame-append}
 
 -- NUMBERS
-
-test_le : (a b : ℕ) → b < a → nat_le a b ≡ false
-test_le a b lt = at (nat_le a b) refl
-  where
-    at : (t : Bool) → nat_le a b ≡ t → t ≡ false
-    at true e = let h = leb-true a b e in absurd (omega (arith, h, lt))
-    at false e = refl
 
 -- a number up to the number of clauses stands for a position of the part
 pub position_named : (from : Premises) (k : ℕ) → k ≤ length from.formula.clauses → IsSome (clause_named from k)
@@ -42,7 +36,7 @@ position_first from k r le h = (bounded 0 (length from.formula.clauses) from.par
 
 -- and one past it for a step
 pub step_named : (from : Premises) (k : ℕ) → length from.formula.clauses < k → clause_named from k ≡ clause_of_step from.earlier k
-step_named from k lt = rw (test_le k (length from.formula.clauses) lt) refl
+step_named from k lt = rw (lt-leb k (length from.formula.clauses) lt) refl
 
 -- CLAUSES
 

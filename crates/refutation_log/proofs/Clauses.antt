@@ -1,13 +1,15 @@
 -- Clauses as sets of literals.
-use Rattle.std.proofs.Common.{◌≡◌, Bool, true, false, cond, not, ◌&&◌, ◌||◌, List, [], ◌∷◌, ◌++◌, refl, sym, ◌∙◌, ap, subst, ℤ, inl, inr}
+use Rattle.std.proofs.Common.{◌≡◌, Bool, true, false, cond, not, ◌&&◌, ◌||◌, List, [], ◌∷◌, ◌++◌, refl, sym, ◌∙◌, ap, subst, ℤ}
 use Rattle.std.specs.Ordering.{int_eq}
-use Rattle.std.specs.List.{list_all}
 use Rattle.std.proofs.lemmas.List.Folds.{list_any-append}
+use Rattle.std.proofs.Math.Bool.{and-false}
 use Rattle.lk_model.specs.Formulas.Literal.{contains, is_within, is_same_set}
 use Rattle.lk_model.specs.Chains.Chain.{without}
 use Rattle.refutation_log.specs.SameClause.{HaveSame}
-use Rattle.lk_model.proofs.Booleans.{and_true, or_true}
-use Rattle.refutation_log.proofs.Conditions.{and_false, same_int, int_self}
+use Rattle.lk_model.proofs.Booleans.{and_true, same_tests}
+use Rattle.lk_model.proofs.Literals.{same_int}
+use Rattle.lk_model.proofs.Founds.{all_literals}
+use Rattle.lk_model.proofs.ListTests.{passes_each}
 
 pub contains_append : (c d : List ℤ) (k : ℤ) → contains (c ++ d) k ≡ (contains c k || contains d k)
 contains_append c d k = list_any-append (int_eq k) c d
@@ -21,41 +23,17 @@ contains_without (m ∷ c) l k = at_tests (int_eq m l) refl (int_eq k m) refl (c
         → contains (cond (not b) (m ∷ without c l) (without c l)) k ≡ ((d || contains c k) && not (int_eq k l))
     at_tests false e true f h = let g : int_eq k l ≡ false = subst (λ x. int_eq x l ≡ false) (sym (same_int k m f)) e in rw (f, g) refl
     at_tests false e false f h = rw (f, h) refl
-    at_tests true e true f h = let g : int_eq k l ≡ true = subst (λ x. int_eq x l ≡ true) (sym (same_int k m f)) e in rw (h, g) (and_false (contains c k))
+    at_tests true e true f h = let g : int_eq k l ≡ true = subst (λ x. int_eq x l ≡ true) (sym (same_int k m f)) e in rw (h, g) (and-false (contains c k))
     at_tests true e false f h = h
-
--- a test of every literal that stands in the clause
-pub all_from : (t : ℤ → Bool) (c : List ℤ) → ((k : ℤ) → contains c k ≡ true → t k ≡ true) → list_all t c ≡ true
-all_from t [] h = refl
-all_from t (m ∷ c) h = rw (h m (rw (int_self m) refl), all_from t c (λ k e. h k (later k e))) refl
-  where
-    later : (k : ℤ) → contains c k ≡ true → (int_eq k m || contains c k) ≡ true
-    later k e = at_test (int_eq k m)
-      where
-        at_test : (b : Bool) → (b || contains c k) ≡ true
-        at_test true = refl
-        at_test false = e
-
-pub all_at : (t : ℤ → Bool) (c : List ℤ) → list_all t c ≡ true → (k : ℤ) → contains c k ≡ true → t k ≡ true
-all_at t [] a k e = absurd (let f : ⊥ = cc in f)
-all_at t (m ∷ c) a k e = let b = and_true (t m) (list_all t c) a in elim (or_true (int_eq k m) (contains c k) e) [
-  | inl here ↦ subst (λ x. t x ≡ true) (sym (same_int k m here)) b.0
-  | inr more ↦ all_at t c b.1 k more
-]
-
-same_tests : (a b : Bool) → (a ≡ true → b ≡ true) → (b ≡ true → a ≡ true) → a ≡ b
-same_tests true b f g = sym (f refl)
-same_tests false true f g = g refl
-same_tests false false f g = refl
 
 pub same_set : (c d : List ℤ) → HaveSame c d → is_same_set c d ≡ true
 same_set c d h =
-    rw (all_from (contains d) c (λ k e. sym (h.members k) ∙ e), all_from (contains c) d (λ k e. h.members k ∙ e)) refl
+    rw (all_literals (contains d) c (λ k e. sym (h.members k) ∙ e), all_literals (contains c) d (λ k e. h.members k ∙ e)) refl
 
 pub have_same : (c d : List ℤ) → is_same_set c d ≡ true → HaveSame c d
 have_same c d e =
     let b = and_true (is_within c d) (is_within d c) e in
-    record { members = λ k. same_tests (contains c k) (contains d k) (all_at (contains d) c b.0 k) (all_at (contains c) d b.1 k) }
+    record { members = λ k. same_tests (contains c k) (contains d k) (passes_each (contains d) c k b.0) (passes_each (contains c) d k b.1) }
 
 pub HaveSame-refl : (c : List ℤ) → HaveSame c c
 HaveSame-refl c = record { members = λ k. refl }

@@ -1,9 +1,9 @@
 -- Chains over a formula have a document's form.
-use Rattle.std.proofs.Common.{◌≡◌, ℕ, suc, ◌+◌, ◌-◌, ◌*◌, ◌^◌, ◌<◌, ◌≤◌, Bool, true, false, cond, not, ◌==◌, nat_le, nat_lt, List, [], ◌∷◌, ◌++◌, refl, sym, ◌∙◌, subst, arith, ℤ, pos, negsuc, Option, Some, None, length, map, filter, find, option_map, IsSome}
+use Rattle.std.proofs.Common.{◌≡◌, ℕ, suc, ◌+◌, ◌-◌, ◌*◌, ◌^◌, ◌<◌, ◌≤◌, Bool, true, false, cond, not, ◌==◌, nat_le, nat_lt, List, [], ◌∷◌, ◌++◌, refl, sym, ◌∙◌, subst, arith, ℤ, pos, negsuc, Option, Some, None, length, map, find, option_map, IsSome}
 use Rattle.std.specs.List.{list_all}
 use Rattle.std.specs.Prelude.{option_and_then}
 use Rattle.std.specs.Option.{option_map_or}
-use Rattle.std.proofs.lemmas.Bool.{leb-true, leb-false, le-leb, eq-eqb}
+use Rattle.std.proofs.lemmas.Bool.{leb-true, leb-false, le-leb}
 use Rattle.std.proofs.lemmas.List.{length_push}
 use Rattle.lk_model.specs.Lists.{among, is_between, rises_within}
 use Rattle.lk_model.specs.Formulas.Literal.{complement, contains, is_literal, is_same_set, is_within, rank_of, variable}
@@ -17,30 +17,17 @@ use Rattle.lk_model.specs.declared.document.Turn.{Turn}
 use Rattle.lk_model.specs.declared.document.Step.{Step}
 use Rattle.lk_model.proofs.Booleans.{and_true}
 use Rattle.lk_model.proofs.Clauses.{literals_of}
-use Rattle.lk_model.proofs.ListTests.{passes_each}
+use Rattle.lk_model.proofs.ListTests.{passes_each, all_left, all_more}
 use Rattle.lk_model.proofs.Founds.{all_literals}
+use Rattle.lk_model.proofs.Lists.{among_later, among_here, name_lower}
 use Rattle.refutation_log.specs.Derivation.{are_numbered, names_lower, is_ascending}
 use Rattle.refutation_log.specs.InForm.{FormLaw}
-use Rattle.refutation_log.proofs.Steps.{head_number, found_within, numbered_more, all_more}
+use Rattle.refutation_log.proofs.Steps.{head_number, found_within, numbered_more}
 use Rattle.refutation_log.proofs.Chains.{is_turn as turn_of, after_turn, position_first, step_named}
 use Rattle.refutation_log.proofs.ChainNames.{state_clauses, from_chains, names_stand}
-use Rattle.refutation_log.proofs.Clauses.{all_at}
-use Rattle.refutation_log.proofs.Trimming.{name_lower}
-use Rattle.refutation_log.proofs.TrimmedLaws.{later_name}
+use Rattle.refutation_log.proofs.Joining.{append_all}
 
 -- LITERALS
-
-all_kept : (t p : ℤ → Bool) (c : List ℤ) → list_all t c ≡ true → list_all t (filter p c) ≡ true
-all_kept t p [] h = refl
-all_kept t p (l ∷ c) h = let both = and_true (t l) (list_all t c) h in at (p l) both.0 (all_kept t p c both.1)
-  where
-    at : (b : Bool) → t l ≡ true → list_all t (filter p c) ≡ true → list_all t (cond b (l ∷ filter p c) (filter p c)) ≡ true
-    at true e h = rw (e) h
-    at false e h = h
-
-all_joined : (t : ℤ → Bool) (c d : List ℤ) → list_all t c ≡ true → list_all t d ≡ true → list_all t (c ++ d) ≡ true
-all_joined t [] d h j = j
-all_joined t (l ∷ c) d h j = let both = and_true (t l) (list_all t c) h in rw (both.0) (all_joined t c d both.1 j)
 
 found_passes : (p t : Step → Bool) (steps : List Step) (s : Step) → list_all p steps ≡ true → find t steps ≡ Some s → p s ≡ true
 found_passes p t [] s h e = absurd (let f : ⊥ = cc in f)
@@ -71,7 +58,7 @@ named_literals over earlier k c form steps e = at (nat_le k (length over.formula
     at true true e =
         let same : crossed_at (premises_of over earlier) k ≡ c = cc in
         subst (λ (d : List ℤ). list_all (is_literal over.formula.now.vars) d ≡ true) same
-        (all_kept (is_literal over.formula.now.vars) (λ l. not (is_in over.blocked.now (variable l))) (clause_at over.formula.now k) (literals_of over.formula.now k form))
+        (all_left (is_literal over.formula.now.vars) (λ l. not (is_in over.blocked.now (variable l))) (clause_at over.formula.now k) (literals_of over.formula.now k form))
     at true false e = absurd (let g : ⊥ = cc in g)
     at false y e = at_step (find (λ (s : Step). s.number == k) earlier) refl e
 
@@ -89,7 +76,7 @@ turns_literals n from c (t ∷ turns) h named some =
     let made = without c t.lit ++ without w.other (complement t.lit) in
     let e = after_turn from c t turns w in
     let literals : list_all (is_literal n) made ≡ true =
-    all_joined (is_literal n) (without c t.lit) (without w.other (complement t.lit)) (all_kept (is_literal n) _ c h) (all_kept (is_literal n) _ w.other (named t.with w.other w.named)) in
+    append_all (is_literal n) (without c t.lit) (without w.other (complement t.lit)) (all_left (is_literal n) _ c h) (all_left (is_literal n) _ w.other (named t.with w.other w.named)) in
     let more = turns_literals n from made turns literals named (subst (λ (o : Option (List ℤ)). IsSome o) e some) in
     record {
       lits = rw (passes_each (is_literal n) c t.lit h w.held) more.lits;
@@ -107,7 +94,7 @@ chain_literals n from s e named = at_first (clause_named from s.first) refl e
     at_clause c None h e = absurd (let g : ⊥ = cc in g)
     at_clause c (Some d) h e =
         let inside = (and_true (is_within s.clause d) (is_within d s.clause) e).0 in
-        (h.lits, all_literals (is_literal n) s.clause (λ l m. passes_each (is_literal n) d l (h.clause d refl) (all_at (contains d) s.clause inside l m)))
+        (h.lits, all_literals (is_literal n) s.clause (λ l m. passes_each (is_literal n) d l (h.clause d refl) (passes_each (contains d) s.clause l inside m)))
 
     some_of : (o : Option (List ℤ)) → option_map_or (is_same_set s.clause) o false ≡ true → IsSome o
     some_of None e = absurd (let g : ⊥ = cc in g)
@@ -161,16 +148,13 @@ named_least over first earlier k crossed past n h = at (nat_le k (length over.fo
 between : (number k : ℕ) → 0 < k → k < number → is_between 1 (number - 1) k ≡ true
 between number k least most = rw (le-leb 1 k least, le-leb k (number - 1) (omega arith)) refl
 
-own : (k : ℕ) (ns : List ℕ) → among (k ∷ ns) k ≡ true
-own k ns = rw (eq-eqb k k refl) refl
-
 turns_fit : (n number : ℕ) (turns : List Turn) → list_all (λ (t : Turn). is_literal n t.lit) turns ≡ true
     → ((k : ℕ) → among (map (λ (t : Turn). t.with) turns) k ≡ true → is_between 1 (number - 1) k ≡ true) → list_all (is_turn n number) turns ≡ true
 turns_fit n number [] lit name = refl
 turns_fit n number (t ∷ turns) lit name =
     let b = and_true (is_literal n t.lit) (list_all (λ (t : Turn). is_literal n t.lit) turns) lit in
-    rw (b.0, name t.with (own t.with (map (λ (t : Turn). t.with) turns)))
-    (turns_fit n number turns b.1 (λ k m. name k (later_name t.with k (map (λ (t : Turn). t.with) turns) m)))
+    rw (b.0, name t.with (among_here t.with (map (λ (t : Turn). t.with) turns)))
+    (turns_fit n number turns b.1 (λ k m. name k (among_later t.with k (map (λ (t : Turn). t.with) turns) m)))
 
 -- THE LAW
 
@@ -195,8 +179,8 @@ steps_fit over first earlier (s ∷ steps) crossed form past fits n m lower orde
     rw (
       le-leb (suc s.number) (2 ^ 64) (omega (arith, h.0)),
       ranks_rise vars 1 s.clause (above_one vars s.clause literal.1) literal.1 up.0,
-      name s.first (own s.first (map (λ (t : Turn). t.with) s.turns)),
-      turns_fit vars s.number s.turns literal.0 (λ k m. name k (later_name s.first k (map (λ (t : Turn). t.with) s.turns) m)),
+      name s.first (among_here s.first (map (λ (t : Turn). t.with) s.turns)),
+      turns_fit vars s.number s.turns literal.0 (λ k m. name k (among_later s.first k (map (λ (t : Turn). t.with) s.turns) m)),
     )
     (steps_fit over first (earlier ++ s ∷ []) steps crossed form past (omega (arith, length_push earlier s)) (numbered_more first earlier s n h.0)
     (subst (λ j. are_numbered j steps ≡ true) next h.1) low.1 up.1

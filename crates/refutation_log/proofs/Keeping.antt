@@ -1,12 +1,11 @@
 -- The new numbers of kept numbers: how many are kept before them.
 use Rattle.std.proofs.Common.{◌≡◌, ℕ, zero, suc, ◌+◌, ◌-◌, ◌<◌, ◌≤◌, Bool, true, false, cond, ◌==◌, nat_lt, List, [], ◌∷◌, refl, sym, ◌∙◌, ap, subst, arith, length, map, filter, ◌⊎◌, inl, inr}
 use Rattle.std.specs.List.{range_with_len, position_or_len}
-use Rattle.std.proofs.lemmas.Bool.{leb-true, leb-false, le-leb, eqb-true, eq-eqb}
+use Rattle.std.proofs.lemmas.Bool.{leb-true, leb-false, le-leb, eqb-true, eq-eqb, le-ltb}
 use Rattle.lk_model.specs.declared.document.Step.{Step}
 use Rattle.refutation_log.specs.Derivation.{are_numbered}
 use Rattle.refutation_log.specs.Trimmed.{new_number}
 use Rattle.refutation_log.proofs.Steps.{head_number, differ_test}
-use Rattle.refutation_log.proofs.Conditions.{not_below}
 
 -- how many of n numbers from a on are kept
 abbrev pub count_kept : (ℕ → Bool) → ℕ → ℕ → ℕ
@@ -49,7 +48,7 @@ pub new_position : (K : ℕ → Bool) (first next k : ℕ) → k < first → new
 new_position K first next k lt = rw (le-leb (suc k) first lt) refl
 
 pub new_step : (K : ℕ → Bool) (first next k : ℕ) → first ≤ k → new_of K first next k ≡ next + count_kept K first (k - first)
-new_step K first next k le = rw (not_below k first le) refl
+new_step K first next k le = rw (le-ltb k first le) refl
 
 -- A number that a kept chain may name: one below a bound, or that of a kept step below the top.
 pub data Valid (K : ℕ → Bool) (bound first top k : ℕ) : Type 0 where
@@ -131,7 +130,7 @@ pub new_number_is : (K : ℕ → Bool) (bound first next n k : ℕ) → bound �
     → new_number (filter K (range_with_len first n)) next k ≡ new_of K first next k
 new_number_is K bound first next n k b (a_position lt) =
     let none = no_place K n first k (omega (arith, lt, b)) in
-    rw (none, not_below (count_kept K first n) (count_kept K first n) (omega arith)) (sym (new_position K first next k (omega (arith, lt, b))))
+    rw (none, le-ltb (count_kept K first n) (count_kept K first n) (omega arith)) (sym (new_position K first next k (omega (arith, lt, b))))
 new_number_is K bound first next n k b (a_step le below is) =
     let place = place_kept K n (k - first) first k (omega arith) (omega arith) is in
     rw (place.0, le-leb (suc (count_kept K first (k - first))) (count_kept K first n) place.1) (sym (new_step K first next k le))

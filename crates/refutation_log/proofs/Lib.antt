@@ -1,4 +1,3 @@
-pub mod Conditions
 pub mod Clauses
 pub mod Sorting
 pub mod Joining

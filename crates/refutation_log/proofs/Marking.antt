@@ -14,7 +14,7 @@ use Rattle.refutation_log.specs.Marks.{AreMarks, HaveSameShape}
 use Rattle.refutation_log.specs.Derivation.{are_numbered, names_lower}
 use Rattle.refutation_log.proofs.Steps.{number_get}
 use Rattle.lk_model.proofs.Booleans.{and_true}
-use Rattle.refutation_log.proofs.Conditions.{all_weaker}
+use Rattle.lk_model.proofs.ListTests.{all_weaker}
 
 pub among_append : (ns ms : List ℕ) (k : ℕ) → among (ns ++ ms) k ≡ (among ns k || among ms k)
 among_append ns ms k = list_any-append (λ n. n == k) ns ms

@@ -1,6 +1,5 @@
 -- Steps that are numbered one after another.
 use Rattle.std.proofs.Common.{◌≡◌, ℕ, zero, suc, ◌+◌, ◌-◌, ◌<◌, ◌≤◌, Bool, true, false, cond, ◌==◌, List, [], ◌∷◌, ◌++◌, refl, sym, ◌∙◌, ap, subst, arith, Some, length, get_or, find, option_map, IsSome}
-use Rattle.std.specs.List.{list_all}
 use Rattle.std.proofs.lemmas.Bool.{eqb-true, eq-eqb}
 use Rattle.lk_model.specs.declared.document.Step.{Step}
 use Rattle.refutation_log.specs.Derivation.{are_numbered, clause_of_step, last_clause_of}
@@ -51,11 +50,6 @@ last_at (s ∷ t ∷ later) d lt =
     let e : length (s ∷ t ∷ later) - 1 ≡ suc (length (t ∷ later) - 1) = omega arith in
     rw e (last_at (t ∷ later) d (omega arith))
 
-pub all_get : {X : Type 0} (p : X → Bool) (xs : List X) (i : ℕ) (d : X) → list_all p xs ≡ true → i < length xs → p (get_or xs i d) ≡ true
-all_get p [] i d a lt = absurd (omega arith)
-all_get p (x ∷ xs) zero d a lt = (and_true (p x) (list_all p xs) a).0
-all_get p (x ∷ xs) (suc i) d a lt = all_get p xs i d (and_true (p x) (list_all p xs) a).1 (omega arith)
-
 -- one more step
 pub numbered_more : (first : ℕ) (steps : List Step) (s : Step) → are_numbered first steps ≡ true → s.number ≡ first + length steps
     → are_numbered first (steps ++ s ∷ []) ≡ true
@@ -63,10 +57,6 @@ numbered_more first [] s n e = rw (eq-eqb s.number first (omega (arith, e))) ref
 numbered_more first (t ∷ steps) s n e =
     let h = head_number first t steps n in
     rw (eq-eqb t.number first h.0) (numbered_more (first + 1) steps s h.1 (omega (arith, e)))
-
-pub all_more : {X : Type 0} (p : X → Bool) (xs : List X) (x : X) → list_all p xs ≡ true → p x ≡ true → list_all p (xs ++ x ∷ []) ≡ true
-all_more p [] x a e = rw e refl
-all_more p (y ∷ ys) x a e = let b = and_true (p y) (list_all p ys) a in rw (b.0) (all_more p ys x b.1 e)
 
 -- the clause of a step, read at its place
 pub clause_at_place : (first : ℕ) (steps : List Step) (k : ℕ) (d : Step) → are_numbered first steps ≡ true → first ≤ k → k < first + length steps

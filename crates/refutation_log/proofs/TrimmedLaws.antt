@@ -20,12 +20,13 @@ use Rattle.refutation_log.specs.Derivation.{are_numbered, are_chains, names_lowe
 use Rattle.refutation_log.specs.Trimmed.{with_numbers, TrimsTo, TrimmedLaw}
 use Rattle.refutation_log.proofs.Steps.{head_number}
 use Rattle.lk_model.proofs.Booleans.{and_true}
+use Rattle.lk_model.proofs.Lists.{among_later, name_lower}
 use Rattle.refutation_log.proofs.Chains.{step_named}
 use Rattle.refutation_log.proofs.ChainNames.{state_clauses, from_chains, to_chains, chain_sides}
 use Rattle.refutation_log.proofs.Marking.{among_append, at_rest}
 use Rattle.refutation_log.proofs.Renumbering.{same_in_range}
 use Rattle.refutation_log.proofs.Keeping.{Valid, a_position, a_step, new_of, count_kept, count_more, new_position, new_step, new_less, new_apart}
-use Rattle.refutation_log.proofs.Trimming.{EachFits, each_fits, name_lower, reached_last, with_number, trimmed_is}
+use Rattle.refutation_log.proofs.Trimming.{EachFits, each_fits, reached_last, with_number, trimmed_is}
 
 -- the kept steps, with new numbers
 abbrev pub kept_of : (ℕ → Bool) → ℕ → ℕ → List Step → List Step
@@ -72,14 +73,6 @@ all_mapped t f (n ∷ ns) h =
     or_yes true = refl
     or_yes false = refl
 
--- a name of a longer list
-pub later_name : (n k : ℕ) (ns : List ℕ) → among ns k ≡ true → among (n ∷ ns) k ≡ true
-later_name n k ns m = rw m (or_yes (n == k))
-  where
-    or_yes : (b : Bool) → (b || true) ≡ true
-    or_yes true = refl
-    or_yes false = refl
-
 lower_new : (K : ℕ → Bool) (bound first next top : ℕ) (xs : List Step) (a : ℕ) → bound ≤ next → next ≤ first → first ≤ a → are_numbered a xs ≡ true
     → list_all names_lower xs ≡ true → EachFits K bound first top xs → list_all names_lower (kept_of K first next xs) ≡ true
 lower_new K bound first next top [] a b n le number lower fits = refl
@@ -96,7 +89,7 @@ lower_new K bound first next top (x ∷ xs) a b n le number lower fits =
         let here : names_lower (with_numbers (new_of K first next) x) ≡ true =
         subst (λ ns. list_all (λ k. nat_lt k (new_of K first next x.number)) ns ≡ true) (sym (names_new (new_of K first next) x))
         (all_mapped (λ k. nat_lt k (new_of K first next x.number)) (new_of K first next) (names_of x)
-        (λ k m. (let less = new_less K bound first next top k x.number b n (fit is k (later_name x.number k (names_of x) m)) (omega (arith, same, le)) (name_lower x.number (names_of x) k low m) in
+        (λ k m. (let less = new_less K bound first next top k x.number b n (fit is k (among_later x.number k (names_of x) m)) (omega (arith, same, le)) (name_lower x.number (names_of x) k low m) in
         le-leb (suc (new_of K first next k)) (new_of K first next x.number) less))) in
         rw (is, here) h
     at false is same low fit h = rw (is) h
@@ -174,7 +167,7 @@ among_new K bound first next top [] k b n valid v = refl
 among_new K bound first next top (j ∷ ns) k b n valid v =
     rw (
       new_apart K bound first next top j k b n (valid j (rw (eq-eqb j j refl) refl)) v,
-      among_new K bound first next top ns k b n (λ i m. valid i (later_name j i ns m)) v,
+      among_new K bound first next top ns k b n (λ i m. valid i (among_later j i ns m)) v,
     ) refl
 
 reached_new : (K : ℕ → Bool) (bound first next top : ℕ) (s : Step) (xs : List Step) → bound ≤ next → next ≤ first
@@ -206,7 +199,7 @@ reached_new K bound first next top s (t ∷ later) b n match fits k v =
         let known : among (reached (t ∷ later)) s.number ≡ true = sym match ∙ is in
         let own_known : among (reached kept) (f s.number) ≡ true = own (fit is s.number (rw (eq-eqb s.number s.number refl) refl)) ∙ known in
         let names : among (names_of (with_numbers f s)) (f k) ≡ among (names_of s) k =
-        ap (λ ns. among ns (f k)) (names_new f s) ∙ among_new K bound first next top (names_of s) k b n (λ j m. fit is j (later_name s.number j (names_of s) m)) v in
+        ap (λ ns. among ns (f k)) (names_new f s) ∙ among_new K bound first next top (names_of s) k b n (λ j m. fit is j (among_later s.number j (names_of s) m)) v in
         rw (is, known) (
           omega arith,
           ap (λ ns. among ns (f k)) (at_rest (with_numbers f s) kept rest.0)
@@ -257,7 +250,7 @@ turns_new : (P Q : Premises) (f : ℕ → ℕ) (turns : List Turn) → ((k : ℕ
 turns_new P Q f [] same c = refl
 turns_new P Q f (t ∷ turns) same c =
     rw (same t.with (rw (eq-eqb t.with t.with refl) refl))
-    (at_clause (turns_new P Q f turns (λ k m. same k (later_name t.with k (map (λ (t : Turn). t.with) turns) m))) (clause_named P t.with))
+    (at_clause (turns_new P Q f turns (λ k m. same k (among_later t.with k (map (λ (t : Turn). t.with) turns) m))) (clause_named P t.with))
   where
     at_resolvent : ((c : List ℤ) → after_turns Q c (map (with_number f) turns) ≡ after_turns P c turns) → (o : Option (List ℤ))
         → option_and_then (λ r. after_turns Q r (map (with_number f) turns)) o ≡ option_and_then (λ r. after_turns P r turns) o
@@ -276,7 +269,7 @@ unfolding states_its_clause
 states_new P Q f s same =
     rw (same s.first (rw (eq-eqb s.first s.first refl) refl))
     (ap (λ o. option_map_or (is_same_set s.clause) o false)
-    (at (turns_new P Q f s.turns (λ k m. same k (later_name s.first k (map (λ (t : Turn). t.with) s.turns) m))) (clause_named P s.first)))
+    (at (turns_new P Q f s.turns (λ k m. same k (among_later s.first k (map (λ (t : Turn). t.with) s.turns) m))) (clause_named P s.first)))
   where
     at : ((c : List ℤ) → after_turns Q c (map (with_number f) s.turns) ≡ after_turns P c s.turns) → (o : Option (List ℤ))
         → option_and_then (λ c. after_turns Q c (map (with_number f) s.turns)) o ≡ option_and_then (λ c. after_turns P c s.turns) o
@@ -311,7 +304,7 @@ chains_new over K first next top pre (x ∷ xs) past n before fits e =
         let f = new_of K first next in
         let stated : states_its_clause (premises_of over (kept_of K first next pre)) (with_numbers f x) ≡ true =
         states_new (premises_of over pre) (premises_of over (kept_of K first next pre)) f x
-        (λ k m. named_new over K first next top pre k past n before (fit is k (later_name x.number k (names_of x) m))) ∙ here in
+        (λ k m. named_new over K first next top pre k past n before (fit is k (among_later x.number k (names_of x) m))) ∙ here in
         let later : state_clauses over (kept_of K first next pre ++ with_numbers f x ∷ []) (kept_of K first next xs) ≡ true =
         subst (λ (ss : List Step). state_clauses over ss (kept_of K first next xs) ≡ true) (kept_push K first next pre x true is) h in
         rw (is, stated) later

@@ -1,7 +1,7 @@
 -- Kept steps with new numbers are the trimmed ones.
 use Rattle.std.proofs.Common.{◌≡◌, ℕ, zero, suc, ◌+◌, ◌-◌, ◌<◌, ◌≤◌, Bool, true, false, cond, ◌||◌, ◌==◌, nat_lt, List, [], ◌∷◌, refl, sym, ◌∙◌, ap, subst, arith, length, map, filter, take, count_by, slice_index, slice_index_or, Contains, ◌⊎◌, inl, inr}
 use Rattle.std.specs.List.{list_all, range_with_len}
-use Rattle.std.proofs.lemmas.Bool.{leb-true, leb-false, le-leb, eq-eqb, eqb-true}
+use Rattle.std.proofs.lemmas.Bool.{leb-true, leb-false, le-leb, eq-eqb, eqb-true, le-ltb}
 use Rattle.std.proofs.lemmas.List.Sums.{length-filter}
 use Rattle.lk_model.specs.Lists.{among}
 use Rattle.lk_model.specs.Chains.Chain.{names_of}
@@ -15,20 +15,10 @@ use Rattle.refutation_log.specs.Trimmed.{trimmed, new_number, with_numbers}
 use Rattle.refutation_log.specs.Numbers.{number_in, is_marked}
 use Rattle.refutation_log.proofs.Steps.{head_number}
 use Rattle.lk_model.proofs.Booleans.{and_true, or_true}
-use Rattle.refutation_log.proofs.Conditions.{not_below}
+use Rattle.lk_model.proofs.Lists.{name_lower}
 use Rattle.refutation_log.proofs.Keeping.{Valid, a_position, a_step, new_of, count_kept, kept_numbers, new_number_is}
 
 -- THE NAMES OF KEPT STEPS
-
--- a name is lower than the number of its step
-pub name_lower : (n : ℕ) (ns : List ℕ) (k : ℕ) → list_all (λ j. nat_lt j n) ns ≡ true → among ns k ≡ true → k < n
-name_lower n [] k a e = absurd (let f : ⊥ = cc in f)
-name_lower n (j ∷ ns) k a e =
-    let both = and_true (nat_lt j n) (list_all (λ j. nat_lt j n) ns) a in
-    elim (or_true (j == k) (among ns k) e) [
-      | inl here ↦ (let same = eqb-true j k here in let below = leb-true (suc j) n both.0 in omega (arith, same, below))
-      | inr more ↦ name_lower n ns k both.1 more
-    ]
 
 in_order : (low first : ℕ) (steps : List Step) → low < first → are_numbered first steps ≡ true → list_all names_lower steps ≡ true
     → are_in_order low steps ≡ true
@@ -198,7 +188,7 @@ pub numbers_are : (K : ℕ → Bool) (first next bound : ℕ) (marks : List Bool
     → bound ≤ first → (k : ℕ) → Valid K bound first (first + length marks) k → number_in first numbers k ≡ new_of K first next k
 numbers_are K first next bound marks numbers is each b k (a_position lt) = rw (le-leb (suc k) first (omega (arith, lt, b))) refl
 numbers_are K first next bound marks numbers is each b k (a_step le below kept) =
-    rw (not_below k first le)
+    rw (le-ltb k first le)
     (each (k - first) (omega arith) ∙ ap (λ n. next + n) (sym (length-filter (λ b. b) (take (k - first) marks)) ∙ marks_count K first marks is (k - first) (omega arith)))
 
 -- the steps that have a mark

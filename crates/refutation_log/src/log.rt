@@ -1,4 +1,13 @@
 //! Logs of steps.
+//!
+//! A step states a clause with the resolution chain that gives it: a first clause, and then one resolution after
+//! another, each with a clause of the formula or an earlier step. So a step is checked by itself, as in the traces of
+//! resolution proofs and in clausal proofs with hints (TraceCheck, LRAT). That a clause is used in a refutation shows
+//! that no autarky touches it: autarkies leave the variables of resolution refutations unset (Kullmann,
+//! "Investigations on Autark Assignments", 2000).
+//!
+//! Here each turn names the literal on which it resolves, so that nothing is searched; the clauses of a formula may
+//! have literals crossed out; and no step is ever deleted, so a step's place is its number less the first one.
 ghost use Rattle.std.specs.Prelude.{◌≡◌, ◌-◌, ◌<◌, ◌≤◌, ◌^◌, ◌∷◌, [], Some, length, IfOk, OnOk, OnErr, IsTrue, IsSome};
 ghost use Rattle.lk_model.specs.Held.VariableSets.{IsCrossed};
 ghost use Rattle.lk_model.specs.Held.VariableSets.{premises_of};
@@ -59,9 +68,9 @@ impl Log {
         self.steps.as_slice()
     }
 
-    /// Appends the step with the clause of a chain, and answers its number. The chain must have a
-    /// clause over `over` and the steps of the log, which are numbered above the formula's clauses. On
-    /// an error the log is unchanged.
+    /// Appends the step with the clause of a chain, and answers its number, which must be below
+    /// 2^64 - 1. The chain must have a clause over `over` and the steps of the log, which are numbered
+    /// above the formula's clauses. On an error the log is unchanged.
     pub fn push_chain(
         &mut self,
         over: &Crossed,

@@ -1,4 +1,8 @@
 //! What is reached backwards from the last step.
+//!
+//! One pass from the last step to the first, with a mark for each step and position, as proofs are trimmed from the
+//! empty clause backwards (Heule, Hunt and Wetzler, "Trimming while Checking Clausal Proofs", 2013). Here the chains
+//! are stated, so no propagation is needed to know what a step uses.
 ghost use Rattle.std.specs.Prelude.{◌≡◌, ℕ, ◌+◌, ◌-◌, ◌<◌, ◌≤◌, [], ◌∷◌, ◌++◌, nat_lt, List, length, drop, IfOk, IsTrue};
 ghost use Rattle.std.specs.List.{list_all};
 ghost use Rattle.lk_model.specs.Chains.Chain.{names_of};

@@ -3,7 +3,7 @@ ghost use Rattle.cert_text.specs.Built.{IsBuilt};
 
 use crate::shown::{Clauses, Numbers};
 use cert_text::{print, read};
-use lk_model::{Body, Document, DoneDocument, ReadStop};
+use lk_model::{Body, Document, DoneDocument, OutOfMemory, ReadStop};
 use std::alloc::{AllocError, Global};
 
 /// Whether the document is printed as this text.
@@ -54,14 +54,22 @@ fn put_document(
     }
 }
 
+/// Writes the document that a text is read as.
+fn put_read(alloc: Global, text: &[u8], out: &mut String) -> Result<(), ReadStop> {
+    let document = read(alloc, text)?;
+    let put = put_document(alloc, &document, text, out);
+    drop(document);
+    Ok(put.map_err(OutOfMemory::from)?)
+}
+
 /// Writes the document that is read, or the line at which the text stops.
 pub(crate) fn tell_document(
     alloc: Global,
     text: &[u8],
     out: &mut String,
 ) -> Result<(), AllocError> {
-    match read(alloc, text) {
-        Ok(document) => put_document(alloc, &document, text, out),
+    match put_read(alloc, text, out) {
+        Ok(()) => Ok(()),
         Err(ReadStop::Line(line)) => writeln!(out, "= stops at line {line}"),
         Err(ReadStop::OutOfMemory) => writeln!(out, "= out of memory"),
     }
@@ -69,8 +77,8 @@ pub(crate) fn tell_document(
 
 /// The line at which a text stops, or else 0.
 fn stop_of(alloc: Global, text: &[u8]) -> u64 {
-    match read(alloc, text) {
-        Err(ReadStop::Line(line)) => line,
+    match read(alloc, text).err() {
+        Some(ReadStop::Line(line)) => line,
         _ => 0,
     }
 }

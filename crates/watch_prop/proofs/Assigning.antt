@@ -1,10 +1,10 @@
 -- A literal that is assigned where nothing is forced.
-use Rattle.std.proofs.Common.{◌≡◌, ◌≢◌, ◌∙◌, ℕ, zero, suc, ◌+◌, ◌<◌, ◌≤◌, ◌==◌, ◌++◌, ◌∷◌, [], Bool, true, false, not, cond, ◌&&◌, ◌||◌, List, ℤ, pos, negsuc, Some, None, Option, is_some, IsNone, unwrap_or, option_map, find, length, length-append, take, filter, refl, sym, ap, subst, arith, inl, inr, append_assoc, Vec, vec_capacity}
+use Rattle.std.proofs.Common.{◌≡◌, ◌≢◌, ◌∙◌, ℕ, suc, ◌+◌, ◌<◌, ◌≤◌, ◌==◌, ◌++◌, ◌∷◌, [], Bool, true, false, not, cond, ◌&&◌, ◌||◌, List, ℤ, pos, negsuc, Some, None, Option, is_some, IsNone, unwrap_or, option_map, find, length, length-append, take, filter, refl, sym, ap, subst, arith, inl, inr, append_assoc, Vec, vec_capacity}
 use Rattle.std.specs.declared.alloc.Global.{Global}
 use Rattle.std.specs.Option.{option_map_or}
 use Rattle.std.specs.List.{list_all}
 use Rattle.std.specs.Ordering.{int_eq}
-use Rattle.std.proofs.lemmas.Bool.{cases_Bool, cases_eq, eqb-true, eq-eqb, false_from_ne_true, not-true}
+use Rattle.std.proofs.lemmas.Bool.{cases_Bool, cases_eq, eq-eqb, false_from_ne_true, not-true}
 use Rattle.std.proofs.lemmas.List.{append-nil, take-append-le, take_all, get_or_append_left, get_or_push}
 use Rattle.lk_model.specs.Lists.{is_empty}
 use Rattle.lk_model.specs.Formulas.Literal.{variable, complement, contains, is_literal, is_clause, is_distinct, is_positive}
@@ -12,6 +12,7 @@ use Rattle.lk_model.specs.Formulas.Assignment.{Assignment, makes_true, satisfies
 use Rattle.lk_model.proofs.Booleans.{and_true, or_true, or_left, or_right}
 use Rattle.lk_model.proofs.ListTests.{passes_each}
 use Rattle.lk_model.proofs.Ranks.{literal_bounds}
+use Rattle.lk_model.proofs.Literals.{variable_complement, same_int}
 use Rattle.watch_prop.specs.declared.entry.Entry.{Entry}
 use Rattle.watch_prop.specs.declared.entry.NumberedClause.{NumberedClause}
 use Rattle.watch_prop.specs.declared.entry.Propagated.{Propagated}
@@ -24,7 +25,7 @@ use Rattle.watch_prop.specs.Linked.{IsLinked}
 use Rattle.watch_prop.specs.Propagation.{Propagation, IsPropagation, GoesOn, assigned, is_false, is_unit, is_unset, is_quiet}
 use Rattle.watch_prop.specs.States.{IsState, IsKnown, IsKnownBelow, AreUpheld, Leads, Passes, propagation_of, mark_at, unseen}
 use Rattle.watch_prop.proofs.Paths.{comes, last_level, back_there, same_path}
-use Rattle.watch_prop.proofs.Truths.{true_same, same_true, variable_complement, no_sign_twice}
+use Rattle.watch_prop.proofs.Truths.{same_true, no_sign_twice}
 use Rattle.watch_prop.proofs.Trails.{trail_path, trail_more, propagation_more}
 use Rattle.watch_prop.proofs.States.{level_more, more_upheld, same_upheld}
 use Rattle.watch_prop.proofs.Passing.{makes_true_along}
@@ -44,7 +45,7 @@ one_passes p (m ∷ c) l d there pl h =
     let both = and_true (not (contains c m)) (is_distinct c) d in
     elim (cases_Bool (int_eq l m)) [
       | inl y ↦
-          let same = true_same l m y in
+          let same = same_int l m y in
           let pm : p m ≡ true = subst (λ (k : ℤ). p k ≡ true) same pl in
           let rest : length (filter p c) ≡ 0 = none_pass p c (λ k in_c. h k (or_right (int_eq k m) (contains c k) in_c)
           (λ e. (let f : true ≡ false = sym (subst (λ (x : ℤ). contains c x ≡ true) (e ∙ same) in_c) ∙ not-true (contains c m) both.0 in let z : ⊥ = cc in z))) in
@@ -91,7 +92,7 @@ forces_unit vars trail c l path is_clause f absent =
     let unset : is_unset φ l ≡ true = unset_by_entry trail (variable l) absent in
     let literal : (k : ℤ) → contains c k ≡ true → is_literal vars k ≡ true = λ k there. passes_each (is_literal vars) c k clause.0 there in
     let other : (k : ℤ) → contains c k ≡ true → k ≢ l → false_in trail k ≡ true = λ k there n. elim (or_true (int_eq k l) (false_in trail k) (passes_each (λ k. int_eq k l || contains (literals_of trail) (complement k)) c k both.1 there)) [
-      | inl y ↦ absurd (n (true_same k l y))
+      | inl y ↦ absurd (n (same_int k l y))
       | inr y ↦ y
     ] in
     let low : (k : ℤ) → contains c k ≡ true → 0 < variable k = λ k there. (let b = literal_bounds vars k (literal k there) in omega (arith, b.0)) in
@@ -100,7 +101,7 @@ forces_unit vars trail c l path is_clause f absent =
     let t : makes_true φ (complement k) ≡ true = makes_true_along vars trail (complement k) path (omega (arith, low_k, variable_complement k)) ∙ other k there n in
     subst (λ (v : ℕ). not (is_some (φ v)) ≡ false) (variable_complement k) (unset_false φ (complement k) t)) in
     let none : (k : ℤ) → contains c k ≡ true → makes_true φ k ≡ false = λ k there. elim (cases_Bool (int_eq k l)) [
-      | inl y ↦ subst (λ (x : ℤ). makes_true φ x ≡ false) (sym (true_same k l y)) (not_true_unset φ l unset)
+      | inl y ↦ subst (λ (x : ℤ). makes_true φ x ≡ false) (sym (same_int k l y)) (not_true_unset φ l unset)
       | inr y ↦
           let n : k ≢ l = λ e. (let g : true ≡ false = sym (same_true k l e) ∙ y in let z : ⊥ = cc in z) in
           makes_true_along vars trail k path (low k there) ∙ no_sign_twice vars trail k path (low k there) (other k there n)

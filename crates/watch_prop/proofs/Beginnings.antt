@@ -1,57 +1,20 @@
 -- What a propagator holds at the start.
-use Rattle.std.proofs.Common.{◌≡◌, ℕ, zero, suc, ◌<◌, ◌≤◌, Bool, true, false, not, cond, ◌&&◌, ◌==◌, List, [], ◌∷◌, ◌++◌, ◌∙◌, sym, refl, arith, ℤ, pos, negsuc, length, get_or, map, filter, nat_le, nat_lt}
+use Rattle.std.proofs.Common.{◌≡◌, ℕ, ◌<◌, ◌≤◌, Bool, true, false, not, cond, ◌&&◌, ◌==◌, List, [], ◌∷◌, ◌++◌, ◌∙◌, sym, refl, arith, length, map, filter, nat_le, nat_lt}
 use Rattle.std.specs.List.{list_all}
-use Rattle.std.specs.Ordering.{int_eq}
 use Rattle.std.proofs.lemmas.Bool.{le-leb, leb-true, eqb-true, eq-eqb, ltb-true, false_from_ne_true, not-true}
 use Rattle.lk_model.specs.Lists.{among, is_empty, rises_within}
-use Rattle.lk_model.specs.Formulas.Literal.{variable, complement, contains, is_literal, is_clause, is_distinct}
+use Rattle.lk_model.specs.Formulas.Literal.{is_clause}
 use Rattle.lk_model.specs.Formulas.Formula.{Cnf, clause_at, is_formula}
 use Rattle.lk_model.specs.Formulas.Crossed.{Variables, crossed_out}
 use Rattle.lk_model.specs.Limits.{max_vars}
-use Rattle.lk_model.proofs.Booleans.{and_true, or_false, or_left, or_right}
+use Rattle.lk_model.proofs.Booleans.{and_true, or_left, or_right}
+use Rattle.lk_model.proofs.Clauses.{form_at}
+use Rattle.lk_model.proofs.Crossings.{clause_crossed}
 use Rattle.watch_prop.specs.declared.entry.NumberedClause.{NumberedClause}
-use Rattle.watch_prop.specs.Propagation.{IsPropagation, numbers_of, are_distinct, may_be_held}
+use Rattle.watch_prop.specs.Propagation.{IsPropagation, numbers_of, are_distinct}
 use Rattle.watch_prop.specs.Trail.{is_trail}
 
 -- CROSSED CLAUSES
-
-all_left : (t p : ℤ → Bool) (c : List ℤ) → list_all t c ≡ true → list_all t (filter p c) ≡ true
-all_left t p [] h = refl
-all_left t p (l ∷ c) h = (let a = and_true (t l) (list_all t c) h in at (p l) a.0 (all_left t p c a.1))
-  where
-    at : (b : Bool) → t l ≡ true → list_all t (filter p c) ≡ true → list_all t (cond b (l ∷ filter p c) (filter p c)) ≡ true
-    at true e rest = rw (e, rest) refl
-    at false e rest = rest
-
-absent_left : (p : ℤ → Bool) (c : List ℤ) (l : ℤ) → contains c l ≡ false → contains (filter p c) l ≡ false
-absent_left p [] l h = refl
-absent_left p (k ∷ c) l h = (let a = or_false (int_eq l k) (contains c l) h in at (p k) a.0 (absent_left p c l a.1))
-  where
-    at : (b : Bool) → int_eq l k ≡ false → contains (filter p c) l ≡ false → contains (cond b (k ∷ filter p c) (filter p c)) l ≡ false
-    at true e rest = rw (e, rest) refl
-    at false e rest = rest
-
-distinct_left : (p : ℤ → Bool) (c : List ℤ) → is_distinct c ≡ true → is_distinct (filter p c) ≡ true
-distinct_left p [] h = refl
-distinct_left p (l ∷ c) h = (let a = and_true (not (contains c l)) (is_distinct c) h in at (p l) (absent_left p c l (not-true (contains c l) a.0)) (distinct_left p c a.1))
-  where
-    at : (b : Bool) → contains (filter p c) l ≡ false → is_distinct (filter p c) ≡ true → is_distinct (cond b (l ∷ filter p c) (filter p c)) ≡ true
-    at true e rest = rw (e, rest) refl
-    at false e rest = rest
-
-crossed_clause : (n : ℕ) (blocked : Variables) (c : List ℤ) → is_clause n c ≡ true → is_clause n (crossed_out blocked c) ≡ true
-crossed_clause n blocked c h =
-    let a = and_true (list_all (is_literal n) c) (is_distinct c) h in
-    rw (all_left (is_literal n) (λ l. not (blocked (variable l))) c a.0, distinct_left (λ l. not (blocked (variable l))) c a.1) refl
-
-clause_of_formula : (F : Cnf) (p : ℕ) → is_formula F ≡ true → is_clause F.vars (clause_at F p) ≡ true
-clause_of_formula F zero h = refl
-clause_of_formula F (suc k) h = at F.clauses k h
-  where
-    at : (cs : List (List ℤ)) (k : ℕ) → list_all (is_clause F.vars) cs ≡ true → is_clause F.vars (get_or cs k []) ≡ true
-    at [] k h = refl
-    at (c ∷ cs) zero h = (and_true (is_clause F.vars c) (list_all (is_clause F.vars) cs) h).0
-    at (c ∷ cs) (suc k) h = at cs k (and_true (is_clause F.vars c) (list_all (is_clause F.vars) cs) h).1
 
 -- the crossed clauses at these positions that are not empty
 abbrev pub crossed_at : Cnf → Variables → List ℕ → List NumberedClause
@@ -61,7 +24,7 @@ pub crossed_are_clauses : (F : Cnf) (blocked : Variables) (ps : List ℕ) → is
     → list_all (λ (c : NumberedClause). not (is_empty c.lits) && is_clause F.vars c.lits) (crossed_at F blocked ps) ≡ true
 crossed_are_clauses F blocked [] h = refl
 crossed_are_clauses F blocked (p ∷ ps) h =
-    at (not (is_empty (crossed_out blocked (clause_at F p)))) refl (crossed_clause F.vars blocked (clause_at F p) (clause_of_formula F p h)) (crossed_are_clauses F blocked ps h)
+    at (not (is_empty (crossed_out blocked (clause_at F p)))) refl (clause_crossed blocked F.vars (clause_at F p) (form_at F p h)) (crossed_are_clauses F blocked ps h)
   where
     at : (b : Bool) → not (is_empty (crossed_out blocked (clause_at F p))) ≡ b → is_clause F.vars (crossed_out blocked (clause_at F p)) ≡ true
         → list_all (λ (c : NumberedClause). not (is_empty c.lits) && is_clause F.vars c.lits) (crossed_at F blocked ps) ≡ true
@@ -139,7 +102,3 @@ distinct_middle (y ∷ xs) x ys h =
     there : (xs : List NumberedClause) (x : NumberedClause) (ys : List NumberedClause) (n : ℕ) → n ≡ x.number → among (numbers_of (xs ++ x ∷ ys)) n ≡ true
     there [] x ys n e = or_left (x.number == n) (among (numbers_of ys) n) (eq-eqb x.number n (sym e))
     there (y ∷ xs) x ys n e = or_right (y.number == n) (among (numbers_of (xs ++ x ∷ ys)) n) (there xs x ys n e)
-
-pub nothing_left : {X : Type 0} (xs : List X) → length xs ≡ 0 → xs ≡ []
-nothing_left [] e = refl
-nothing_left (x ∷ xs) e = absurd (omega (arith, e))

@@ -1,18 +1,20 @@
 -- Lists with room for the clauses that have a literal, when one more comes.
-use Rattle.std.proofs.Common.{◌≡◌, ◌≢◌, ℕ, zero, suc, ◌+◌, ◌<◌, true, false, not, ◌||◌, nat_lt, List, [], ◌∷◌, ◌++◌, refl, sym, ◌∙◌, ap, subst, arith, ℤ, length, take, drop, get_or, set, inl, inr, ◌⊎◌, Vec, vec_len, vec_capacity}
+use Rattle.std.proofs.Common.{◌≡◌, ◌≢◌, ℕ, zero, suc, ◌+◌, ◌<◌, true, false, not, ◌||◌, nat_lt, List, [], ◌∷◌, ◌++◌, refl, sym, ◌∙◌, ap, subst, arith, ℤ, length, take, drop, get_or, set, inl, inr, ◌⊎◌, Vec, vec_capacity}
 use Rattle.std.specs.declared.alloc.Global.{Global}
 use Rattle.std.specs.List.{list_all}
 use Rattle.std.specs.Ordering.{int_eq}
 use Rattle.std.proofs.lemmas.Bool.{cases_eq, ltb-true, not-true}
-use Rattle.std.proofs.lemmas.List.{get_or-set_same, get_or-set_other, length-set, take_more, drop_more}
+use Rattle.std.proofs.lemmas.List.{get_or-set_same, get_or-set_other, length-set, take_more}
 use Rattle.std.proofs.lemmas.List.Folds.{list_any-append}
 use Rattle.lk_model.specs.Formulas.Literal.{contains, is_distinct, rank_of}
 use Rattle.lk_model.proofs.Booleans.{and_true, or_true, or_left, or_right}
 use Rattle.lk_model.proofs.Ranks.{rank_apart}
+use Rattle.lk_model.proofs.Literals.{same_int}
+use Rattle.lk_model.proofs.Lists.{drop_read}
 use Rattle.watch_prop.specs.Watchers.{count_of, with_counted}
 use Rattle.watch_prop.specs.KeptWatchers.{HasRoom}
 use Rattle.watch_prop.proofs.Roomy.{HaveRooms}
-use Rattle.watch_prop.proofs.Truths.{true_same, same_true}
+use Rattle.watch_prop.proofs.Truths.{same_true}
 
 -- THE LITERALS OF A CLAUSE, ONE AFTER ANOTHER
 
@@ -27,13 +29,10 @@ contains_more c i l k lt e h =
     elim (or_true (contains (take i c) k) (contains (l ∷ []) k) both) [
       | inl y ↦ inl y
       | inr y ↦ elim (or_true (int_eq k l) false y) [
-        | inl z ↦ inr (true_same k l z)
+        | inl z ↦ inr (same_int k l z)
         | inr z ↦ absurd (let f : ⊥ = cc in f)
       ]
     ]
-
-pub rest_split : (c : List ℤ) (i : ℕ) (l : ℤ) → i < length c → l ≡ get_or c i l → drop i c ≡ l ∷ drop (i + 1) c
-rest_split c i l lt e = drop_more c i l lt ∙ ap (λ (m : ℤ). m ∷ drop (i + 1) c) (sym e)
 
 distinct_rest : (c : List ℤ) (i : ℕ) → is_distinct c ≡ true → is_distinct (drop i c) ≡ true
 distinct_rest c zero h = h
@@ -43,7 +42,7 @@ distinct_rest (l ∷ c) (suc i) h = distinct_rest c i (and_true (not (contains c
 -- it is none of those after it
 pub none_after : (c : List ℤ) (i : ℕ) (l : ℤ) → is_distinct c ≡ true → i < length c → l ≡ get_or c i l → contains (drop (i + 1) c) l ≡ false
 none_after c i l h lt e =
-    let d : is_distinct (l ∷ drop (i + 1) c) ≡ true = subst (λ (ls : List ℤ). is_distinct ls ≡ true) (rest_split c i l lt e) (distinct_rest c i h) in
+    let d : is_distinct (l ∷ drop (i + 1) c) ≡ true = subst (λ (ls : List ℤ). is_distinct ls ≡ true) (drop_read c i l lt e) (distinct_rest c i h) in
     not-true (contains (drop (i + 1) c) l) (and_true (not (contains (drop (i + 1) c) l)) (is_distinct (drop (i + 1) c)) d).0
 
 pub rank_at : (c : List ℤ) (i n : ℕ) (l : ℤ) → HaveRanks c n → i < length c → l ≡ get_or c i l → rank_of l < n
@@ -93,7 +92,7 @@ count_at counts (l ∷ c) r d h =
     at (stays none e) out low = elim (cases_eq (rank_of l) r) [
       | inl y ↦ rises l (or_left (int_eq l l) (contains c l) (same_true l l refl)) y (e ∙ here y low)
       | inr y ↦ stays (λ k there. elim (or_true (int_eq k l) (contains c k) there) [
-        | inl z ↦ (λ q. y (ap rank_of (sym (true_same k l z)) ∙ q))
+        | inl z ↦ (λ q. y (ap rank_of (sym (same_int k l z)) ∙ q))
         | inr z ↦ none k z
       ]) (e ∙ other y)
     ]

@@ -1,5 +1,5 @@
 -- What a clause asks for, and what comes of it.
-use Rattle.std.proofs.Common.{◌≡◌, ◌≢◌, ℕ, zero, suc, ◌+◌, ◌<◌, ◌≤◌, Bool, true, false, not, ◌&&◌, ◌||◌, List, [], ◌∷◌, ◌++◌, cond, sym, ◌∙◌, ap, subst, arith, ℤ, pos, Some, length, get_or, refl, inl, inr}
+use Rattle.std.proofs.Common.{◌≡◌, ℕ, zero, suc, ◌+◌, ◌<◌, ◌≤◌, Bool, true, false, not, ◌&&◌, ◌||◌, List, [], ◌∷◌, ◌++◌, cond, sym, ◌∙◌, ap, subst, arith, ℤ, pos, Some, length, get_or, refl, inl, inr}
 use Rattle.std.specs.List.{list_all}
 use Rattle.std.specs.Ordering.{int_eq}
 use Rattle.lk_model.specs.Lists.{among, is_empty}
@@ -7,7 +7,7 @@ use Rattle.lk_model.specs.Formulas.Literal.{contains, is_literal, is_clause}
 use Rattle.std.proofs.lemmas.Bool.{cases_Bool, cases_eq, cases_lt, not-true}
 use Rattle.std.proofs.lemmas.List.{get_or_read}
 use Rattle.lk_model.proofs.Booleans.{and_true, or_left, or_right}
-use Rattle.lk_model.proofs.ListTests.{passes_each}
+use Rattle.lk_model.proofs.ListTests.{passes_each, all_at}
 use Rattle.lk_model.proofs.Ranks.{literal_bounds}
 use Rattle.watch_prop.specs.declared.entry.Entry.{Entry}
 use Rattle.watch_prop.specs.declared.entry.NumberedClause.{NumberedClause}
@@ -24,11 +24,6 @@ use Rattle.watch_prop.proofs.Trails.{may_force, trail_path}
 use Rattle.watch_prop.proofs.States.{MayMove, stays_leads, forced_leads}
 use Rattle.watch_prop.proofs.Settling.{head_false}
 use Rattle.watch_prop.proofs.Linking.{IsMove, InList, in_list}
-
-pub all_at : {X : Type 0} (p : X → Bool) (xs : List X) (i : ℕ) (d : X) → list_all p xs ≡ true → i < length xs → p (get_or xs i d) ≡ true
-all_at p [] i d h lt = absurd (omega arith)
-all_at p (x ∷ xs) zero d h lt = (and_true (p x) (list_all p xs) h).0
-all_at p (x ∷ xs) (suc i) d h lt = all_at p xs i d (and_true (p x) (list_all p xs) h).1 (omega arith)
 
 pub all_from : {X : Type 0} (p : X → Bool) (xs : List X) (d : X) → ((i : ℕ) → i < length xs → p (get_or xs i d) ≡ true) → list_all p xs ≡ true
 all_from p [] d h = refl

@@ -1,21 +1,20 @@
 -- How lists of watchers stay linked with the clauses.
-use Rattle.std.proofs.Common.{◌≡◌, ◌≢◌, ℕ, zero, suc, ◌+◌, ◌*◌, ◌<◌, ◌≤◌, Bool, true, false, cond, not, ◌&&◌, ◌||◌, ◌==◌, List, [], ◌∷◌, ◌++◌, refl, sym, ◌∙◌, ap, subst, arith, ℤ, pos, length, drop, filter, replicate, get_or, set, inl, inr, ◌⊎◌}
+use Rattle.std.proofs.Common.{◌≡◌, ◌≢◌, ℕ, ◌+◌, ◌<◌, ◌≤◌, Bool, true, false, not, ◌==◌, List, [], ◌∷◌, ◌++◌, refl, sym, ◌∙◌, ap, subst, arith, ℤ, pos, length, drop, get_or, set, inl, inr}
 use Rattle.std.specs.Ordering.{int_eq}
-use Rattle.std.specs.List.{swap_remove, list_all}
-use Rattle.std.proofs.lemmas.Bool.{cases_Bool, cases_eq, eqb-true, false_from_ne_true, not-true}
-use Rattle.std.proofs.lemmas.List.{get_or-set_same, get_or-set_other, get_or_default, length-set, length-append, length-replicate, get_or_append_left}
+use Rattle.std.specs.List.{swap_remove}
+use Rattle.std.proofs.lemmas.Bool.{cases_Bool, cases_eq, eqb-true, false_from_ne_true}
+use Rattle.std.proofs.lemmas.List.{get_or-set_same, get_or-set_other, get_or_default, length-set}
 use Rattle.lk_model.specs.Lists.{among}
-use Rattle.lk_model.specs.Formulas.Literal.{contains, is_literal, is_clause, is_distinct, rank_of}
-use Rattle.lk_model.proofs.Booleans.{and_true, or_true, or_left, or_right, or_false}
+use Rattle.lk_model.specs.Formulas.Literal.{contains, is_literal, rank_of}
+use Rattle.lk_model.proofs.Booleans.{or_true, or_left, or_right}
 use Rattle.lk_model.proofs.Ranks.{rank_small}
-use Rattle.lk_model.proofs.ListTests.{passes_each}
+use Rattle.lk_model.proofs.Literals.{same_int}
 use Rattle.watch_prop.specs.declared.entry.NumberedClause.{NumberedClause}
 use Rattle.watch_prop.specs.declared.watch.Watch.{Watch}
 use Rattle.watch_prop.specs.Watch.{other_of}
-use Rattle.watch_prop.specs.Watchers.{Watchers, watchers, count_of, with_watcher, with_counted}
-use Rattle.watch_prop.specs.Propagation.{are_distinct}
+use Rattle.watch_prop.specs.Watchers.{Watchers, watchers, count_of, with_watcher}
 use Rattle.watch_prop.specs.Linked.{IsLinked, IsWatched, IsListed, clause_at_place, watch_at, watches_it, moved}
-use Rattle.watch_prop.proofs.Truths.{true_same, same_true, false_apart}
+use Rattle.watch_prop.proofs.Truths.{same_true, false_apart}
 use Rattle.watch_prop.proofs.Upheld.{IsOneOf, one_of, first, second, other_apart}
 use Rattle.watch_prop.proofs.Counts.{other_rank}
 use Rattle.watch_prop.proofs.Lists.{one, times, times-push, some_times, among_some, no_times, one_same, one_apart, at_most_once, distinct_from_times, among_at, times-swap_remove, times-rest, length-swap_remove, ArePlaces, no_more_places}
@@ -207,10 +206,10 @@ other_times : (lists lists' : List (List ℕ)) (l r : ℤ) (place at : ℕ) → 
 other_times lists lists' l r place at s lt stands k p apart =
     let none = one_apart place p apart in
     elim (cases_Bool (int_eq k l)) [
-      | inl y ↦ subst (λ (i : ℤ). times (watchers lists' i) p ≡ times (watchers lists i) p) (sym (true_same k l y))
+      | inl y ↦ subst (λ (i : ℤ). times (watchers lists' i) p ≡ times (watchers lists i) p) (sym (same_int k l y))
           (let t = left_times lists lists' l r place at s lt stands p in omega arith)
       | inr y ↦ elim (cases_Bool (int_eq k r)) [
-        | inl z ↦ subst (λ (i : ℤ). times (watchers lists' i) p ≡ times (watchers lists i) p) (sym (true_same k r z))
+        | inl z ↦ subst (λ (i : ℤ). times (watchers lists' i) p ≡ times (watchers lists i) p) (sym (same_int k r z))
             (let t = came_times lists lists' l r place at s p in omega arith)
         | inr z ↦ ap (λ (ps : List ℕ). times ps p) (s.other k (false_apart k l y) (false_apart k r z))
       ]
@@ -266,7 +265,7 @@ watched_here vars clauses watches w waiting place l r n at m =
     record {
       first = subst (λ (y : Watch). contains lits y.first ≡ true) same m.has_it;
       second = subst (λ (y : Watch). contains lits y.second ≡ true) same i.has_other;
-      apart = subst (λ (y : Watch). not (int_eq y.second y.first) ≡ true) same (rw (false_from_ne_true (int_eq b r) (λ e. not_r (true_same b r e))) refl);
+      apart = subst (λ (y : Watch). not (int_eq y.second y.first) ≡ true) same (rw (false_from_ne_true (int_eq b r) (λ e. not_r (same_int b r e))) refl);
       in_first = subst (λ (y : Watch). among (watchers lists' y.first) place ≡ true) same in_r;
       in_second = subst (λ (y : Watch). among (watchers lists' y.second) place ≡ true) same in_b;
     }
@@ -315,13 +314,13 @@ listed_then vars clauses watches w waiting place l r n at m k lit = record {
     long = let e = m.linked.places in let f = i.within in omega arith
 
     here_once : (b c : Bool) → int_eq k l ≡ b → int_eq k r ≡ c → times (watchers lists' k) place ≤ 1
-    here_once true c y z = subst (λ (i : ℤ). times (watchers lists' i) place ≤ 1) (sym (true_same k l y)) (let g = a.gone in omega arith)
-    here_once false true y z = subst (λ (i : ℤ). times (watchers lists' i) place ≤ 1) (sym (true_same k r z)) (let g = a.once in omega arith)
+    here_once true c y z = subst (λ (i : ℤ). times (watchers lists' i) place ≤ 1) (sym (same_int k l y)) (let g = a.gone in omega arith)
+    here_once false true y z = subst (λ (i : ℤ). times (watchers lists' i) place ≤ 1) (sym (same_int k r z)) (let g = a.once in omega arith)
     here_once false false y z = subst (λ (ps : List ℕ). times ps place ≤ 1) (sym (a.other k (false_apart k l y) (false_apart k r z))) (at_most_once (watchers w.lists k) place list.distinct)
 
     here_watched : (b c : Bool) → int_eq k l ≡ b → int_eq k r ≡ c → among (watchers lists' k) place ≡ true → watches_it x k ≡ true
     here_watched true c y z e =
-        let t = some_times (watchers lists' l) place (subst (λ (i : ℤ). among (watchers lists' i) place ≡ true) (true_same k l y) e) in
+        let t = some_times (watchers lists' l) place (subst (λ (i : ℤ). among (watchers lists' i) place ≡ true) (same_int k l y) e) in
         let g = a.gone in absurd (omega arith)
     here_watched false true y z e = or_left (int_eq k r) (int_eq k x.second) z
     here_watched false false y z e =

@@ -1,5 +1,5 @@
 -- How lists of watchers stay linked with the clauses where a clause begins to wait, or no longer waits.
-use Rattle.std.proofs.Common.{◌≡◌, ◌≢◌, ℕ, zero, suc, ◌+◌, ◌*◌, ◌<◌, ◌≤◌, Bool, true, false, cond, not, ◌&&◌, ◌||◌, List, [], ◌∷◌, ◌++◌, refl, sym, ◌∙◌, ap, subst, arith, ℤ, pos, length, filter, replicate, get_or, set, inl, inr, ◌⊎◌}
+use Rattle.std.proofs.Common.{◌≡◌, ◌≢◌, ℕ, zero, suc, ◌+◌, ◌*◌, ◌<◌, Bool, true, false, cond, not, ◌&&◌, ◌||◌, List, [], ◌∷◌, ◌++◌, refl, sym, ◌∙◌, ap, subst, arith, ℤ, pos, length, filter, replicate, get_or, set, inl, inr, ◌⊎◌}
 use Rattle.std.specs.Ordering.{int_eq}
 use Rattle.std.specs.List.{swap_remove, list_all}
 use Rattle.std.proofs.lemmas.Bool.{cases_Bool, cases_eq, false_from_ne_true, not-true}
@@ -9,12 +9,13 @@ use Rattle.lk_model.specs.Formulas.Literal.{contains, is_literal, is_clause, is_
 use Rattle.lk_model.proofs.Booleans.{and_true, or_true, or_left, or_right, or_false}
 use Rattle.lk_model.proofs.Ranks.{rank_small}
 use Rattle.lk_model.proofs.ListTests.{passes_each}
+use Rattle.lk_model.proofs.Literals.{same_int}
 use Rattle.watch_prop.specs.declared.entry.NumberedClause.{NumberedClause}
 use Rattle.watch_prop.specs.declared.watch.Watch.{Watch}
 use Rattle.watch_prop.specs.Watchers.{Watchers, watchers, count_of, with_watcher, with_counted}
 use Rattle.watch_prop.specs.Propagation.{are_distinct}
 use Rattle.watch_prop.specs.Linked.{IsLinked, IsWatched, IsListed, clause_at_place, watch_at, watches_it}
-use Rattle.watch_prop.proofs.Truths.{true_same, same_true, false_apart}
+use Rattle.watch_prop.proofs.Truths.{same_true, false_apart}
 use Rattle.watch_prop.proofs.Counts.{counted_long, other_rank}
 use Rattle.watch_prop.proofs.Lists.{one, among_at, AreLeft, are_left, distinct_push, in_push, pushed_there, from_push}
 use Rattle.watch_prop.proofs.Linking.{rank_within, room_for, watcher_here, watcher_other, watch_here, watch_other, watched_still, same_watchers}
@@ -80,8 +81,8 @@ added lists x n low high apart =
     watcher_here once x.second n (omega (arith, long, high)) ∙ ap (λ (ps : List ℕ). ps ++ n ∷ []) (watcher_other lists x.first n x.second apart) in
     record {
       here = λ k it. elim (or_true (int_eq k x.first) (int_eq k x.second) it) [
-        | inl y ↦ subst (λ (i : ℤ). watchers (listed_lists lists x n) i ≡ watchers lists i ++ n ∷ []) (sym (true_same k x.first y)) in_first
-        | inr y ↦ subst (λ (i : ℤ). watchers (listed_lists lists x n) i ≡ watchers lists i ++ n ∷ []) (sym (true_same k x.second y)) in_second
+        | inl y ↦ subst (λ (i : ℤ). watchers (listed_lists lists x n) i ≡ watchers lists i ++ n ∷ []) (sym (same_int k x.first y)) in_first
+        | inr y ↦ subst (λ (i : ℤ). watchers (listed_lists lists x n) i ≡ watchers lists i ++ n ∷ []) (sym (same_int k x.second y)) in_second
       ];
       other = λ k none.
           let b = or_false (int_eq k x.first) (int_eq k x.second) none in
@@ -210,7 +211,7 @@ counted_at vars counts (l ∷ c) k long clause =
     at : (b : Bool) → int_eq k l ≡ b → count_of (with_counted more c) k ≡ count_of more k + one (contains c k) → contains c l ≡ false → rank_of l < 2 * vars + 2
         → count_of (with_counted more c) k ≡ count_of counts k + one (b || contains c k)
     at true e h out small =
-        let same = true_same k l e in
+        let same = same_int k l e in
         let now : count_of more k ≡ count_of counts k + 1 = subst (λ (i : ℤ). count_of more i ≡ count_of counts i + 1) (sym same)
         (get_or-set_same counts (rank_of l) (count_of counts l + 1) 0 (omega arith)) in
         let none : one (contains c k) ≡ 0 = subst (λ (i : ℤ). one (contains c i) ≡ 0) (sym same) (ap one out) in

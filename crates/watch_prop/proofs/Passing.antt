@@ -4,7 +4,7 @@ use Rattle.std.specs.declared.alloc.Global.{Global}
 use Rattle.std.specs.Option.{option_map_or}
 use Rattle.std.specs.List.{list_all}
 use Rattle.std.specs.Ordering.{int_eq}
-use Rattle.std.proofs.lemmas.Bool.{cases_Bool, cases_eq, eqb-true, eq-eqb, false_from_ne_true}
+use Rattle.std.proofs.lemmas.Bool.{cases_Bool, cases_eq, eqb-true, false_from_ne_true}
 use Rattle.std.proofs.lemmas.List.{take-append-le}
 use Rattle.lk_model.specs.Lists.{among}
 use Rattle.lk_model.specs.Formulas.Literal.{variable, complement, is_literal, is_positive}
@@ -12,6 +12,7 @@ use Rattle.lk_model.specs.Formulas.Assignment.{makes_true}
 use Rattle.lk_model.proofs.Booleans.{and_true, or_true, or_false}
 use Rattle.lk_model.proofs.Ranks.{literal_bounds}
 use Rattle.lk_model.proofs.Flags.{same_false}
+use Rattle.lk_model.proofs.Literals.{complement_twice, variable_complement, same_int, complement_literal}
 use Rattle.watch_prop.specs.declared.entry.Entry.{Entry}
 use Rattle.watch_prop.specs.declared.entry.NumberedClause.{NumberedClause}
 use Rattle.watch_prop.specs.declared.watch.Watch.{Watch}
@@ -23,8 +24,8 @@ use Rattle.watch_prop.specs.Watch.{is_upheld}
 use Rattle.watch_prop.specs.Watchers.{watchers}
 use Rattle.watch_prop.specs.Linked.{clause_at_place, watch_at, watches_it}
 use Rattle.watch_prop.specs.Propagation.{assigned, is_false}
-use Rattle.watch_prop.specs.States.{IsState, IsKnown, IsAtHead, Settles, Leads, propagation_of, unseen}
-use Rattle.watch_prop.proofs.Truths.{ComeAfter, true_by_entry, true_same, same_true, complement_twice, variable_complement}
+use Rattle.watch_prop.specs.States.{IsState, IsAtHead, Settles, Leads, propagation_of, unseen}
+use Rattle.watch_prop.proofs.Truths.{ComeAfter, true_by_entry, same_true}
 use Rattle.watch_prop.proofs.Trails.{trail_path, entry_there, found_by_number}
 use Rattle.watch_prop.proofs.Upheld.{free, upheld_first, upheld_second, upheld_free, upheld_more}
 use Rattle.watch_prop.proofs.States.{leads_then, stays_leads}
@@ -85,16 +86,13 @@ literals_come vars earlier [] k h there = absurd (let f : ⊥ = cc in f)
 literals_come vars earlier (e ∷ rest) k h there =
     let both = and_true (may_come vars earlier e) _ h in
     elim (or_true (int_eq k e.lit) (true_in rest k) there) [
-      | inl y ↦ (let c = and_true _ _ both.0 in subst (λ (x : ℤ). is_literal vars x ≡ true) (sym (true_same k e.lit y)) (and_true (is_literal vars e.lit) _ c.0).0)
+      | inl y ↦ (let c = and_true _ _ both.0 in subst (λ (x : ℤ). is_literal vars x ≡ true) (sym (same_int k e.lit y)) (and_true (is_literal vars e.lit) _ c.0).0)
       | inr y ↦ literals_come vars (earlier ++ e ∷ []) rest k both.1 y
     ]
 
 pub literal_on_path : (vars : ℕ) (trail : List Entry) (k : ℤ) → is_path vars trail ≡ true → true_in trail k ≡ true → is_literal vars k ≡ true
 unfolding is_path
 literal_on_path vars trail k h there = literals_come vars [] trail k h there
-
-pub complement_literal : (vars : ℕ) (k : ℤ) → is_literal vars k ≡ true → is_literal vars (complement k) ≡ true
-complement_literal vars k h = rw (variable_complement k) h
 
 -- PASSING ON
 
@@ -150,8 +148,8 @@ passing_start clauses path s l h more is =
           let watched = h.known.linked.watched q lt ready in
           elim (cases_Bool (watches_it x l)) [
             | inl y ↦ inr (elim (or_true (int_eq l x.first) (int_eq l x.second) y) [
-              | inl a ↦ subst (λ (z : ℤ). among (watchers s.lists.lists z) q ≡ true) (sym (true_same l x.first a)) watched.in_first
-              | inr a ↦ subst (λ (z : ℤ). among (watchers s.lists.lists z) q ≡ true) (sym (true_same l x.second a)) watched.in_second
+              | inl a ↦ subst (λ (z : ℤ). among (watchers s.lists.lists z) q ≡ true) (sym (same_int l x.first a)) watched.in_first
+              | inr a ↦ subst (λ (z : ℤ). among (watchers s.lists.lists z) q ≡ true) (sym (same_int l x.second a)) watched.in_second
             ])
             | inr y ↦ inl (passed_by path.entries s.head x l at_head (h.known.upheld.ready q lt ready) y)
           ];

@@ -2,12 +2,13 @@
 use Rattle.std.proofs.Common.{replicate, ◌≡◌, ◌≢◌, ℕ, zero, suc, ◌+◌, ◌-◌, ◌<◌, ◌≤◌, Bool, true, false, cond, not, ◌&&◌, ◌==◌, List, [], ◌∷◌, ◌++◌, refl, sym, ◌∙◌, ap, subst, arith, Option, Some, None, is_some, length, length-set, length-append, set, sum_by, nat_le, take, filter, get_or, append_assoc, get_or-set_other, get_or-set_same}
 use Rattle.std.specs.Option.{option_or, option_map_or}
 use Rattle.std.specs.List.{list_all}
-use Rattle.std.proofs.lemmas.Bool.{leb-true, le-leb, eqb-true, eq-eqb}
+use Rattle.std.proofs.lemmas.Bool.{leb-true, le-leb, eqb-true, eq-eqb, lt-leb}
 use Rattle.std.proofs.lemmas.List.{append-nil}
 use Rattle.std.proofs.lemmas.List.Folds.{find-append, list_all-append, sum_by-replicate}
 use Rattle.lk_model.specs.Lists.{with_earlier}
 use Rattle.lk_model.specs.Formulas.Literal.{variable, is_literal}
 use Rattle.lk_model.proofs.Booleans.{and_true}
+use Rattle.lk_model.proofs.ListTests.{all_weaker, all_more}
 use Rattle.watch_prop.specs.declared.entry.Entry.{Entry}
 use Rattle.std.proofs.lemmas.List.Sums.{sum_by-set}
 use Rattle.watch_prop.specs.KeptTrail.{unset_one}
@@ -143,14 +144,6 @@ present_at (e ∷ f ∷ later) d lt =
     let n : length (e ∷ f ∷ later) - 1 ≡ suc (length (f ∷ later) - 1) = omega arith in
     rw n (present_at (f ∷ later) d (omega arith))
 
-pub all_weaker : {X : Type 0} (p q : X → Bool) → ((x : X) → p x ≡ true → q x ≡ true) → (xs : List X) → list_all p xs ≡ true → list_all q xs ≡ true
-all_weaker p q h [] e = refl
-all_weaker p q h (x ∷ xs) e = let b = and_true (p x) (list_all p xs) e in rw (h x b.0, all_weaker p q h xs b.1) refl
-
-pub all_more : {X : Type 0} (p : X → Bool) (xs : List X) (x : X) → list_all p xs ≡ true → p x ≡ true → list_all p (xs ++ x ∷ []) ≡ true
-all_more p [] x a e = rw e refl
-all_more p (y ∷ ys) x a e = let b = and_true (p y) (list_all p ys) a in rw (b.0) (all_more p ys x b.1 e)
-
 -- ONE ENTRY LESS
 
 pub split_last : (trail : List Entry) (e : Entry) → 0 < length trail → e ≡ get_or trail (length trail - 1) e → trail ≡ take (length trail - 1) trail ++ e ∷ []
@@ -199,23 +192,13 @@ path_less vars trail e h lt found =
 
 -- BACK TO A LEVEL
 
-pub test_le : (a b : ℕ) → a ≤ b → nat_le a b ≡ true
-test_le a b h = le-leb a b h
-
-pub test_gt : (a b : ℕ) → b < a → nat_le a b ≡ false
-test_gt a b lt = at (nat_le a b) refl
-  where
-    at : (t : Bool) → nat_le a b ≡ t → t ≡ false
-    at true e = let h = leb-true a b e in absurd (omega (arith, h, lt))
-    at false e = refl
-
 pub some_above : (level : ℕ) (trail : List Entry) → level < present_level trail → 0 < length trail
 some_above level [] lt = absurd (omega arith)
 some_above level (e ∷ trail) lt = omega arith
 
 pub back_step : (level : ℕ) (trail : List Entry) → level < present_level trail → up_to_level level (take (length trail - 1) trail) ≡ up_to_level level trail
 back_step level [] lt = refl
-back_step level (d ∷ []) lt = rw (test_gt d.level level lt) refl
+back_step level (d ∷ []) lt = rw (lt-leb d.level level lt) refl
 back_step level (d ∷ g ∷ later) lt =
     let n : length (d ∷ g ∷ later) - 1 ≡ suc (length (g ∷ later) - 1) = omega arith in
     subst (λ k. up_to_level level (take k (d ∷ g ∷ later)) ≡ up_to_level level (d ∷ g ∷ later)) (sym n)
@@ -237,10 +220,10 @@ levels_within vars earlier (e ∷ rest) a h =
     let up = level_not_below (present_level earlier) e (comes vars earlier e both.0).level in
     let last = last_level earlier e in
     let weaker : (d : Entry) → nat_le d.level (present_level earlier) ≡ true → nat_le d.level (present_level (earlier ++ e ∷ [])) ≡ true =
-    λ d t. (let t' = leb-true d.level (present_level earlier) t in test_le d.level (present_level (earlier ++ e ∷ [])) (omega (arith, t', last, up))) in
+    λ d t. (let t' = leb-true d.level (present_level earlier) t in le-leb d.level (present_level (earlier ++ e ∷ [])) (omega (arith, t', last, up))) in
     let more = all_more (λ (d : Entry). nat_le d.level (present_level (earlier ++ e ∷ []))) earlier e
     (all_weaker (λ (d : Entry). nat_le d.level (present_level earlier)) (λ (d : Entry). nat_le d.level (present_level (earlier ++ e ∷ []))) weaker earlier a)
-    (test_le e.level (present_level (earlier ++ e ∷ [])) (omega (arith, last))) in
+    (le-leb e.level (present_level (earlier ++ e ∷ [])) (omega (arith, last))) in
     subst (λ (t : List Entry). list_all (λ (d : Entry). nat_le d.level (present_level t)) t ≡ true) (append_assoc earlier (e ∷ []) rest)
     (levels_within vars (earlier ++ e ∷ []) rest more both.1)
 
@@ -260,7 +243,7 @@ back_there vars trail level h le =
     let within = levels_within vars [] trail refl h in
     keep_all (λ (e : Entry). nat_le e.level level) trail
     (all_weaker (λ (e : Entry). nat_le e.level (present_level trail)) (λ (e : Entry). nat_le e.level level)
-    (λ e t. (let t' = leb-true e.level (present_level trail) t in test_le e.level level (omega (arith, t', le)))) trail within)
+    (λ e t. (let t' = leb-true e.level (present_level trail) t in le-leb e.level level (omega (arith, t', le)))) trail within)
 
 pub same_path : (p q : Path) → p.vars ≡ q.vars → p.entries ≡ q.entries → p ≡ q
 same_path p q v t = ap (λ (n : ℕ). record { vars = n; entries = p.entries }) v ∙ ap (λ (es : List Entry). record { vars = q.vars; entries = es }) t

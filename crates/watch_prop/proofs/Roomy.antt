@@ -1,13 +1,18 @@
 -- Lists of watchers with room, when one of them changes.
-use Rattle.std.proofs.Common.{◌≡◌, ◌∙◌, ℕ, ◌<◌, ◌≤◌, ◌++◌, ◌∷◌, ℤ, List, [], length, length-set, get_or, set, get_or-set_other, get_or-set_same, sym, ap, subst, arith, inl, inr, Vec, vec_capacity}
+use Rattle.std.proofs.Common.{◌≡◌, ◌∙◌, ℕ, suc, refl, replicate, ◌<◌, ◌≤◌, ◌++◌, ◌∷◌, ℤ, List, [], length, length-set, get_or, set, get_or-set_other, get_or-set_same, sym, ap, subst, arith, inl, inr, Vec, vec_capacity}
 use Rattle.std.specs.declared.alloc.Global.{Global}
-use Rattle.std.specs.List.{swap_remove}
+use Rattle.std.specs.List.{swap_remove, All}
 use Rattle.std.proofs.lemmas.Bool.{cases_eq}
 use Rattle.std.proofs.lemmas.List.{set-get_or, get_or_read, get_or-map, map-set}
 use Rattle.lk_model.specs.Formulas.Literal.{rank_of}
 use Rattle.watch_prop.specs.Watchers.{watchers, with_watcher}
 use Rattle.watch_prop.specs.Linked.{moved}
 use Rattle.watch_prop.specs.KeptWatchers.{items_of, HasRoom}
+
+-- lists without an item
+pub items_none : (lists : List (Vec ℕ Global)) → All (λ (v : Vec ℕ Global). v.items ≡ []) lists → items_of lists ≡ replicate (length lists) []
+items_none [] h = refl
+items_none (v ∷ lists) h = rw (h 0 v (omega arith), items_none lists (λ k d lt. h (suc k) d (omega (arith, lt)))) refl
 
 -- what a read gives at another default
 pub read_at : (lists : List (Vec ℕ Global)) (r : ℕ) (v d : Vec ℕ Global) → r < length lists → v ≡ get_or lists r v → get_or lists r d ≡ v
@@ -22,12 +27,11 @@ same_items lists r v v' lt e same =
     map-set (λ (x : Vec ℕ Global). x.items) lists r v' ∙ ap (λ (ps : List ℕ). set (items_of lists) r ps) (same ∙ sym (items_at lists r v lt e)) ∙ set-get_or (items_of lists) r []
 
 -- a place comes to the end of a list
-pub items_push : (lists : List (Vec ℕ Global)) (l : ℤ) (r n : ℕ) (v v' : Vec ℕ Global) → r < length lists → v ≡ get_or lists r v → r ≡ rank_of l → v'.items ≡ v.items ++ n ∷ []
-    → items_of (set lists r v') ≡ with_watcher (items_of lists) l n
-items_push lists l r n v v' lt e rank pushed =
-    map-set (λ (x : Vec ℕ Global). x.items) lists r v'
-    ∙ ap (λ (ps : List ℕ). set (items_of lists) r ps) (pushed ∙ ap (λ (ps : List ℕ). ps ++ n ∷ []) (sym (items_at lists r v lt e)))
-    ∙ ap (λ (i : ℕ). set (items_of lists) i (get_or (items_of lists) i [] ++ n ∷ [])) rank
+pub items_push : (lists : List (Vec ℕ Global)) (l : ℤ) (n : ℕ) (v v' : Vec ℕ Global) → rank_of l < length lists → v ≡ get_or lists (rank_of l) v → v'.items ≡ v.items ++ n ∷ []
+    → items_of (set lists (rank_of l) v') ≡ with_watcher (items_of lists) l n
+items_push lists l n v v' lt e pushed =
+    map-set (λ (x : Vec ℕ Global). x.items) lists (rank_of l) v'
+    ∙ ap (λ (ps : List ℕ). set (items_of lists) (rank_of l) ps) (pushed ∙ ap (λ (ps : List ℕ). ps ++ n ∷ []) (sym (items_at lists (rank_of l) v lt e)))
 
 pub record HaveRooms (lists : List (Vec ℕ Global)) (counts : List ℕ) : Type 0 where
   pub each : (r : ℕ) (d : Vec ℕ Global) → r < length lists → HasRoom (get_or lists r d) (get_or counts r 0)

@@ -1,9 +1,10 @@
 -- Clauses that were given what they ask for when a literal is passed on are upheld.
-use Rattle.std.proofs.Common.{◌≡◌, ◌≢◌, ℕ, zero, suc, ◌<◌, Bool, true, false, cond, not, ◌||◌, List, [], ◌∷◌, refl, sym, ◌∙◌, ap, subst, arith, ℤ, pos, length, take, get_or, inl, inr, ◌⊎◌}
+use Rattle.std.proofs.Common.{◌≡◌, ◌≢◌, ℕ, zero, suc, ◌<◌, true, false, List, [], ◌∷◌, sym, ◌∙◌, ap, subst, arith, ℤ, pos, length, take, get_or, inl, inr, ◌⊎◌}
 use Rattle.std.specs.Ordering.{int_eq}
-use Rattle.std.proofs.lemmas.Bool.{cases_Bool, false_from_ne_true, not-true}
+use Rattle.std.proofs.lemmas.Bool.{false_from_ne_true, not-true}
 use Rattle.lk_model.specs.Formulas.Literal.{variable, complement}
-use Rattle.lk_model.proofs.Booleans.{and_true, or_true, or_left, or_right}
+use Rattle.lk_model.proofs.Booleans.{or_true, or_left, or_right}
+use Rattle.lk_model.proofs.Literals.{complement_twice, same_int}
 use Rattle.watch_prop.specs.declared.entry.Entry.{Entry}
 use Rattle.watch_prop.specs.declared.entry.NumberedClause.{NumberedClause}
 use Rattle.watch_prop.specs.declared.watch.Watch.{Watch}
@@ -12,7 +13,7 @@ use Rattle.watch_prop.specs.Trail.{literals_of, true_in, false_in, is_path}
 use Rattle.watch_prop.specs.Watch.{other_of, is_upheld}
 use Rattle.watch_prop.specs.Linked.{watches_it}
 use Rattle.watch_prop.specs.States.{IsAtHead, IsSettled}
-use Rattle.watch_prop.proofs.Truths.{true_same, same_true, false_apart, complement_twice, no_sign_twice}
+use Rattle.watch_prop.proofs.Truths.{same_true, no_sign_twice}
 use Rattle.watch_prop.proofs.Upheld.{free, upheld_first, upheld_second, upheld_free, one_of, IsOneOf, first, second, part_take, not_there}
 
 -- THE HEAD OF THE TRAIL
@@ -31,7 +32,7 @@ pub up_to_head : (n : ℕ) (trail : List Entry) (k : ℤ) → n < length trail �
     → (true_in (take n trail) k ≡ true) ⊎ (k ≡ get_or (literals_of trail) n (pos 0))
 up_to_head n [] k lt e = absurd (omega arith)
 up_to_head zero (d ∷ trail) k lt e = elim (or_true (int_eq k d.lit) false e) [
-  | inl y ↦ inr (true_same k d.lit y)
+  | inl y ↦ inr (same_int k d.lit y)
   | inr y ↦ absurd (let f : ⊥ = cc in f)
 ]
 up_to_head (suc n) (d ∷ trail) k lt e = elim (or_true (int_eq k d.lit) (true_in (take (suc n) trail) k) e) [

@@ -8,13 +8,14 @@ use Rattle.std.proofs.lemmas.List.{append-nil}
 use Rattle.std.proofs.lemmas.List.Folds.{list_all-append}
 use Rattle.lk_model.specs.Lists.{with_earlier, among, is_empty}
 use Rattle.lk_model.specs.Formulas.Literal.{variable, contains, is_literal, is_clause}
-use Rattle.lk_model.proofs.Booleans.{and_true, or_false, or_left, or_right}
+use Rattle.lk_model.proofs.Booleans.{and_true, or_left, or_right}
+use Rattle.lk_model.proofs.ListTests.{all_weaker, all_more}
 use Rattle.watch_prop.specs.declared.entry.Entry.{Entry}
 use Rattle.watch_prop.specs.declared.entry.NumberedClause.{NumberedClause}
 use Rattle.watch_prop.specs.Trail.{literals_of, true_in, false_in, entry_of, level_of, present_level, clause_numbered, forces, has_reason, may_come, may_follow, is_path, is_trail}
 use Rattle.watch_prop.specs.Propagation.{Propagation, IsPropagation, GoesOn, numbers_of, are_distinct}
 use Rattle.watch_prop.specs.Linked.{clause_at_place}
-use Rattle.watch_prop.proofs.Paths.{with_earlier_more, last_level, all_weaker, all_more, path_levels}
+use Rattle.watch_prop.proofs.Paths.{with_earlier_more, last_level, path_levels}
 use Rattle.watch_prop.proofs.Lists.{distinct_push}
 use Rattle.watch_prop.proofs.Truths.{one_variable, same_true}
 

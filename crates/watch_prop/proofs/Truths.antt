@@ -9,6 +9,7 @@ use Rattle.lk_model.specs.Lists.{with_earlier}
 use Rattle.lk_model.specs.Formulas.Literal.{variable, complement, contains}
 use Rattle.lk_model.proofs.Booleans.{and_true, or_true}
 use Rattle.lk_model.proofs.Flags.{same_false}
+use Rattle.lk_model.proofs.Literals.{variable_complement, same_int}
 use Rattle.watch_prop.specs.declared.entry.Entry.{Entry}
 use Rattle.watch_prop.specs.Trail.{literals_of, true_in, false_in, entry_of, may_come, is_path}
 use Rattle.watch_prop.proofs.Paths.{comes, entry_more}
@@ -22,16 +23,6 @@ one_variable (negsuc a) (pos zero) e = absurd (let f : ⊥ = cc in f)
 one_variable (negsuc a) (pos (suc b)) e = inr (ap negsuc (let f : a ≡ b = omega (arith, e) in f))
 one_variable (negsuc a) (negsuc b) e = inl (ap negsuc (let f : a ≡ b = omega (arith, e) in f))
 
-pub variable_complement : (l : ℤ) → variable (complement l) ≡ variable l
-variable_complement (pos zero) = refl
-variable_complement (pos (suc k)) = refl
-variable_complement (negsuc k) = refl
-
-pub complement_twice : (l : ℤ) → complement (complement l) ≡ l
-complement_twice (pos zero) = refl
-complement_twice (pos (suc k)) = refl
-complement_twice (negsuc k) = refl
-
 pub apart_complement : (l : ℤ) → 0 < variable l → complement l ≢ l
 apart_complement (pos zero) lt e = absurd (omega arith)
 apart_complement (pos (suc k)) lt e = (let f : ⊥ = cc in f)
@@ -39,9 +30,6 @@ apart_complement (negsuc k) lt e = (let f : ⊥ = cc in f)
 
 pub same_true : (k l : ℤ) → k ≡ l → int_eq k l ≡ true
 same_true k l e = (Decides-int_eq k l).1 e
-
-pub true_same : (k l : ℤ) → int_eq k l ≡ true → k ≡ l
-true_same k l e = (Decides-int_eq k l).0 e
 
 pub false_apart : (k l : ℤ) → int_eq k l ≡ false → k ≢ l
 false_apart k l e s = let t : true ≡ false = sym (same_true k l s) ∙ e in let f : ⊥ = cc in f
@@ -61,7 +49,7 @@ absent_before vars earlier [] l h there = absurd (let f : ⊥ = cc in f)
 absent_before vars earlier (e ∷ rest) l h there =
     let both = and_true (may_come vars earlier e) _ h in
     elim (or_true (int_eq l e.lit) (contains (literals_of rest) l) there) [
-      | inl y ↦ subst (λ (k : ℤ). entry_of earlier (variable k) ≡ None) (sym (true_same l e.lit y)) (comes vars earlier e both.0).absent
+      | inl y ↦ subst (λ (k : ℤ). entry_of earlier (variable k) ≡ None) (sym (same_int l e.lit y)) (comes vars earlier e both.0).absent
       | inr y ↦ absent_or (entry_of earlier (variable l)) _ (sym (entry_more earlier e (variable l)) ∙ absent_before vars (earlier ++ e ∷ []) rest l both.1 y)
     ]
 
@@ -113,12 +101,12 @@ signs_apart vars earlier [] l h low a b = (let f : ⊥ = cc in f)
 signs_apart vars earlier (e ∷ rest) l h low a b =
     let both = and_true (may_come vars earlier e) _ h in
     let on : (k : ℤ) → int_eq k e.lit ≡ true → variable k ≡ variable l → (variable e.lit == variable l) ≡ true =
-    λ k s v. eq-eqb (variable e.lit) (variable l) (ap variable (sym (true_same k e.lit s)) ∙ v) in
+    λ k s v. eq-eqb (variable e.lit) (variable l) (ap variable (sym (same_int k e.lit s)) ∙ v) in
     elim (or_true (int_eq l e.lit) (contains (literals_of rest) l) a) [
       | inl x ↦
           let no = none_later vars earlier rest e (complement l) both.1 (subst (λ (v : ℕ). (variable e.lit == v) ≡ true) (sym (variable_complement l)) (on l x refl)) in
           elim (or_true (int_eq (complement l) e.lit) (contains (literals_of rest) (complement l)) b) [
-            | inl y ↦ apart_complement l low (true_same (complement l) e.lit y ∙ sym (true_same l e.lit x))
+            | inl y ↦ apart_complement l low (same_int (complement l) e.lit y ∙ sym (same_int l e.lit x))
             | inr y ↦ (let z : true ≡ false = sym y ∙ no in let f : ⊥ = cc in f)
           ]
       | inr x ↦

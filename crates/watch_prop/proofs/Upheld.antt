@@ -4,12 +4,13 @@ use Rattle.std.specs.Ordering.{int_eq}
 use Rattle.std.proofs.lemmas.Bool.{cases_Bool, false_from_ne_true, not-true}
 use Rattle.lk_model.specs.Formulas.Literal.{complement}
 use Rattle.lk_model.proofs.Booleans.{and_true, or_true, or_left, or_right}
+use Rattle.lk_model.proofs.Literals.{same_int}
 use Rattle.watch_prop.specs.declared.entry.Entry.{Entry}
 use Rattle.watch_prop.specs.declared.watch.Watch.{Watch}
 use Rattle.watch_prop.specs.Trail.{true_in, false_in, up_to_level}
 use Rattle.watch_prop.specs.Watch.{other_of, is_upheld}
 use Rattle.watch_prop.specs.Linked.{watches_it}
-use Rattle.watch_prop.proofs.Truths.{true_same, same_true, false_apart}
+use Rattle.watch_prop.proofs.Truths.{same_true, false_apart}
 
 -- PARTS OF A TRAIL
 
@@ -103,11 +104,11 @@ pub data IsOneOf (w : Watch) (l : ℤ) : Type 0 where
 
 pub one_of : (w : Watch) (l : ℤ) → watches_it w l ≡ true → IsOneOf w l
 one_of w l h = elim (cases_Bool (int_eq w.first l)) [
-  | inl y ↦ first (sym (true_same w.first l y)) (ap (λ (b : Bool). cond b w.second w.first) y)
+  | inl y ↦ first (sym (same_int w.first l y)) (ap (λ (b : Bool). cond b w.second w.first) y)
   | inr y ↦ second
       (elim (or_true (int_eq l w.first) (int_eq l w.second) h) [
-        | inl z ↦ (let f : true ≡ false = sym (same_true w.first l (sym (true_same l w.first z))) ∙ y in absurd (let g : ⊥ = cc in g))
-        | inr z ↦ true_same l w.second z
+        | inl z ↦ (let f : true ≡ false = sym (same_true w.first l (sym (same_int l w.first z))) ∙ y in absurd (let g : ⊥ = cc in g))
+        | inr z ↦ same_int l w.second z
       ])
       (ap (λ (b : Bool). cond b w.second w.first) y)
 ]

@@ -8,11 +8,11 @@ abbrev pub items_of : List (Vec ℕ Global) → List (List ℕ)
 items_of lists = map (λ (v : Vec ℕ Global). v.items) lists
 
 abbrev pub watchers_seen : Inside → Watchers
-watchers_seen w = record { lists = items_of w.lists.items; counts = w.counts.items }
+watchers_seen w = record { lists = items_of w.lists; counts = w.counts }
 
 abbrev pub HasRoom : Vec ℕ Global → ℕ → Type 0
 HasRoom v n = (vec_len v ≤ n) × (n ≤ vec_capacity v)
 
 pub record HaveRoom (w : Inside) : Type 0 where
-  pub same : length w.lists.items ≡ length w.counts.items
-  pub each : (r : ℕ) (d : Vec ℕ Global) → r < length w.lists.items → HasRoom (slice_index_or w.lists.items r d) (slice_index_or w.counts.items r 0)
+  pub same : length w.lists ≡ length w.counts
+  pub each : (r : ℕ) (d : Vec ℕ Global) → r < length w.lists → HasRoom (slice_index_or w.lists r d) (slice_index_or w.counts r 0)

@@ -1,8 +1,9 @@
 //! The two literals that a clause watches, and what a clause asks for.
 //!
 //! The place at which the last search for another literal ended is kept, and the next search begins there and comes round
-//! to it, so that no literal is passed over again and again (Gent, "Optimal Implementation of Watched Literals and More
-//! General Techniques", 2013). Here the place is kept with the two literals, and not with the clause.
+//! to it, so that false literals at the front are not passed over at each search (Gent, "Optimal Implementation of Watched
+//! Literals and More General Techniques", 2013). Here the place is kept with the two literals, and not with the clause. It
+//! is a matter of speed alone: no contract speaks of it.
 ghost use Rattle.std.specs.Prelude.{◌≡◌, ◌≤◌, length, IsTrue};
 ghost use Rattle.std.specs.List.{list_all};
 ghost use Rattle.lk_model.specs.Formulas.Literal.{is_literal};

@@ -6,16 +6,16 @@ ghost use Rattle.watch_prop.specs.Watchers.{watchers, count_of, with_watcher, wi
 ghost use Rattle.watch_prop.specs.Linked.{moved};
 ghost use Rattle.watch_prop.specs.KeptWatchers.{items_of, HasRoom};
 
-use lk_model::{Lit, OutOfMemory};
+use lk_model::{Lit, LitTable, OutOfMemory};
 use std::alloc::Global;
 use std::marker::Model;
 
-/// For each literal, at its rank, the places of the clauses that watch it, and how many clauses have it. So
-/// many may come to watch it, and for so many there is room.
+/// For each literal the places of the clauses that watch it, and how many clauses have it. So many may come
+/// to watch it, and for so many there is room.
 #[derive(Drop)]
 pub(crate) struct WatcherLists {
-    lists: Vec<Vec<usize>>,
-    counts: Vec<usize>,
+    lists: LitTable<Vec<usize>>,
+    counts: LitTable<usize>,
 }
 
 impl Model for WatcherLists {
@@ -37,10 +37,9 @@ impl WatcherLists {
         ensures lists { IfOk result (λ w. w.lists ≡ replicate (2 * n + 2) []) }
         ensures counts { IfOk result (λ w. w.counts ≡ replicate (2 * n + 2) 0) }
     {
-        let ranks = 2 * n as usize + 2;
         Ok(WatcherLists {
-            lists: empty_lists(alloc, ranks)?,
-            counts: vec![in alloc; 0; ranks]?,
+            lists: LitTable::new_with(alloc, n, || Vec::new(alloc))?,
+            counts: LitTable::new(alloc, n, 0)?,
         })
     }
 
@@ -49,7 +48,7 @@ impl WatcherLists {
         requires { rank_of l < length self.now.lists }
         ensures { result.now ≡ watchers self.now.lists l }
     {
-        self.lists[l.rank()].as_slice()
+        self.lists[l].as_slice()
     }
 
     /// Counts one clause more, which has these literals, and makes room for it. Without memory for that all stays as
@@ -73,7 +72,7 @@ impl WatcherLists {
         ensures lists { self.new.lists ≡ with_watcher self.old.lists l place }
         ensures counts { self.new.counts ≡ self.old.counts }
     {
-        self.lists[l.rank()].push_reserved(place);
+        self.lists[l].push_reserved(place);
     }
 
     /// Moves the clause that stands at a place of one literal's list to that of another literal.
@@ -86,24 +85,17 @@ impl WatcherLists {
         ensures lists { self.new.lists ≡ moved self.old.lists l at to }
         ensures counts { self.new.counts ≡ self.old.counts }
     {
-        let place = self.lists[l.rank()].swap_remove(at);
-        self.lists[to.rank()].push_reserved(place);
+        let place = self.lists[l].swap_remove(at);
+        self.lists[to].push_reserved(place);
     }
-}
-
-// So many lists without a clause.
-fn empty_lists(alloc: Global, count: usize) -> Result<Vec<Vec<usize>>, OutOfMemory>
-    ensures { IfOk result (λ v. items_of v.items ≡ replicate count []) }
-{
-    let mut lists = Vec::with_capacity(alloc, count)?;
-    for _ in 0..count {
-        lists.push(Vec::new(alloc))?;
-    }
-    Ok(lists)
 }
 
 // Makes room for one clause more that has these literals.
-fn make_room(lists: &mut [Vec<usize>], counts: &[usize], lits: &[Lit]) -> Result<(), OutOfMemory>
+fn make_room(
+    lists: &mut LitTable<Vec<usize>>,
+    counts: &LitTable<usize>,
+    lits: &[Lit],
+) -> Result<(), OutOfMemory>
     requires same { length lists.old ≡ length counts.now }
     requires ranks { IsTrue (list_all (λ l. nat_lt (rank_of l) (length lists.old)) lits.now) }
     requires room { (r : ℕ) (d : Vec ℕ Global) → r < length lists.old → HasRoom (slice_index_or lists.old r d) (slice_index_or counts.now r 0) }
@@ -112,21 +104,20 @@ fn make_room(lists: &mut [Vec<usize>], counts: &[usize], lits: &[Lit]) -> Result
     ensures more { OnOk result ((l : ℤ) (d : Vec ℕ Global) → IsTrue (contains lits.now l) → count_of counts.now l < vec_capacity (slice_index_or lists.new (rank_of l) d)) }
 {
     for l in lits {
-        let rank = l.rank();
-        let more = counts[rank] - lists[rank].len() + 1;
-        lists[rank].reserve(more)?;
+        let more = counts[*l] - lists[*l].len() + 1;
+        lists[*l].reserve(more)?;
     }
     Ok(())
 }
 
 // Counts one clause more that has these literals.
-fn count_literals(counts: &mut [usize], lits: &[Lit])
+fn count_literals(counts: &mut LitTable<usize>, lits: &[Lit])
     requires ranks { IsTrue (list_all (λ l. nat_lt (rank_of l) (length counts.old)) lits.now) }
     requires distinct { IsTrue (is_distinct lits.now) }
     requires small { (l : ℤ) → IsTrue (contains lits.now l) → count_of counts.old l < 2 ^ 63 }
     ensures { counts.new ≡ with_counted counts.old lits.now }
 {
     for l in lits {
-        counts[l.rank()] += 1;
+        counts[*l] += 1;
     }
 }

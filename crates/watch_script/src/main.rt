@@ -5,8 +5,8 @@
 //!     chain | LENGTH | down
 //!     drawn | SEED
 //!
-//! Commas stand between clauses, and semicolons between moves (`moves`). A chain is one of implications, given in
-//! either order: it is told whether it was followed as it should (`chains`). Of moves that a seed draws it is told how
+//! Commas stand between clauses, and semicolons between moves (`words`). A chain is one of implications, given in
+//! either order: it is told whether it is followed as it should (`chains`). Of moves that a seed draws it is told how
 //! often a scan of all clauses agrees (`drawn`, `scans`).
 #![tactic(auto)]
 
@@ -15,64 +15,76 @@ mod drawn;
 mod moves;
 mod scans;
 mod starts;
+mod words;
 
-use crate::starts::{formula_of, start};
+use crate::chains::put_chain;
+use crate::drawn::put_scans;
+use crate::starts::start_part;
+use lk_model::Formula;
+use lk_samples::formula_of_text;
 use std::alloc::Global;
 use std::test::Fail;
+
+/// What a case begins with, and its moves.
+#[derive(Clone, Copy)]
+struct Case<'a> {
+    clauses: &'a str,
+    part: &'a str,
+    blocked: &'a str,
+    moves: &'a str,
+}
 
 /// What stands before the next bar, and what stands behind it.
 fn part_of(text: &str) -> (&str, &str) {
     text.split_once("|").unwrap_or((text, ""))
 }
 
-/// Plays the moves of a case, `VARS | CLAUSES | PART | BLOCKED | MOVES`.
-fn play(alloc: Global, text: &str, out: &mut String) -> Result<(), Fail> {
-    let (vars, text) = part_of(text);
+/// The case `CLAUSES | PART | BLOCKED | MOVES`.
+fn case_of(text: &str) -> Case<'_> {
     let (clauses, text) = part_of(text);
     let (part, text) = part_of(text);
     let (blocked, moves) = part_of(text);
-    let f = formula_of(alloc, vars.trim().parse().unwrap_or(0), clauses)?;
-    let mut p = start(alloc, &f, part, blocked)?;
-    moves::play(alloc, &mut p, f.vars(), f.len(), moves, out)
+    Case {
+        clauses,
+        part,
+        blocked,
+        moves,
+    }
 }
 
-/// What the moves of a case answer.
-fn answers(alloc: Global, text: &str) -> Result<String, Fail> {
-    let mut out = String::new(alloc);
-    play(alloc, text, &mut out)?;
-    Ok(out)
+/// Plays the moves of a case over its formula.
+fn play_over(alloc: Global, f: &Formula, case: Case, out: &mut String) -> Result<(), Fail> {
+    let mut p = start_part(alloc, f, case.part, case.blocked)?;
+    words::play(alloc, &mut p, f.vars(), f.len(), case.moves, out)
+}
+
+/// Plays the moves of a case over so many variables.
+fn play(alloc: Global, vars: u32, case: Case, out: &mut String) -> Result<(), Fail> {
+    let f = formula_of_text(alloc, vars, case.clauses)?;
+    play_over(alloc, &f, case, out)
 }
 
 /// Prints a case's name, and what its moves answer.
 fn put_case(alloc: Global, text: &str, out: &mut String) -> Result<(), Fail> {
     let (name, text) = part_of(text);
+    let (vars, text) = part_of(text);
     writeln!(out, "== {}", name.trim())?;
-    play(alloc, text, out)
+    play(alloc, number_of(vars), case_of(text), out)
 }
 
-/// Prints whether a chain is followed as it should.
-fn put_chain(alloc: Global, length: u32, is_up: bool, out: &mut String) -> Result<(), Fail> {
-    let text = chains::case(alloc, length, is_up)?;
-    let told = answers(alloc, text.as_str())?;
-    chains::put_verdict(alloc, length, is_up, told.as_str(), out)
-}
-
-/// Prints how often a scan agrees in the moves that a seed draws.
-fn put_drawn(alloc: Global, seed: u32, out: &mut String) -> Result<(), Fail> {
-    let text = drawn::case(alloc, seed)?;
-    let told = answers(alloc, text.as_str())?;
-    drawn::put_verdict(seed, told.as_str(), out)
+/// The number that a text has.
+fn number_of(text: &str) -> u32 {
+    text.trim().parse().unwrap_or(0)
 }
 
 /// Prints what a line asks for.
 fn put_line(alloc: Global, line: &str, out: &mut String) -> Result<(), Fail> {
     let (kind, text) = part_of(line);
     let (number, way) = part_of(text);
-    let number = number.trim().parse().unwrap_or(0);
     match kind.trim() {
         "case" => put_case(alloc, text, out),
-        "chain" => put_chain(alloc, number, way.trim() == "up", out),
-        "drawn" => put_drawn(alloc, number, out),
+        "chain" => put_chain(alloc, number_of(number), way.trim() == "up", out),
+        "drawn" => put_scans(alloc, number_of(number), out),
         _ => Err(Fail::from("no such line")),
     }
 }

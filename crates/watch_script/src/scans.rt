@@ -2,7 +2,7 @@
 ghost use Rattle.std.specs.Prelude.{◌≡◌};
 
 use lk_model::Lit;
-use std::alloc::Global;
+use std::alloc::{AllocError, Global};
 use std::test::Fail;
 use watch_prop::{Propagated, Propagator};
 
@@ -14,6 +14,14 @@ pub(crate) struct Wanted {
 }
 
 impl Wanted {
+    /// Has no clause, and no literal.
+    pub fn new(alloc: Global) -> Wanted {
+        Wanted {
+            clauses: Vec::new(alloc),
+            chosen: Vec::new(alloc),
+        }
+    }
+
     /// Has one clause more.
     pub fn want(&mut self, alloc: Global, lits: &[Lit]) -> Result<(), Fail> {
         self.clauses.push(Vec::from_slice(alloc, lits)?)?;
@@ -23,58 +31,88 @@ impl Wanted {
 
 /// Whether each literal of the clause is false.
 fn is_false(lits: &[Lit], clause: &[Lit]) -> bool {
-    clause.iter().all(|l| lits.contains(&l.negated()))
-}
-
-/// The only unset literal of a clause without a true one.
-fn forced_by(lits: &[Lit], clause: &[Lit]) -> Option<Lit> {
-    let mut open = clause.iter().filter(|l| !lits.contains(&l.negated()));
-    match (open.next(), open.next()) {
-        (Some(l), None) if !lits.contains(l) => Some(*l),
-        _ => None,
+    for l in clause {
+        if !lits.contains(&l.negated()) {
+            return false;
+        }
     }
+    true
 }
 
-/// The assigned literals and those that a scan of all clauses forces, again and again.
-fn scan(alloc: Global, wanted: &Wanted, vars: u32) -> Result<Vec<Lit>, Fail> {
+/// Whether some clause is false.
+fn falsify(lits: &[Lit], clauses: &[Vec<Lit>]) -> bool {
+    for clause in clauses {
+        if is_false(lits, clause.as_slice()) {
+            return true;
+        }
+    }
+    false
+}
+
+/// The only literal of a clause that is not false, if it is unset.
+fn forced_by(lits: &[Lit], clause: &[Lit]) -> Option<Lit> {
+    let mut open = None;
+    for l in clause {
+        if !lits.contains(&l.negated()) {
+            if open.is_some() || lits.contains(l) {
+                return None;
+            }
+            open = Some(*l);
+        }
+    }
+    open
+}
+
+/// Appends the literals that a scan of all clauses forces.
+fn scan(lits: &mut Vec<Lit>, clauses: &[Vec<Lit>]) -> Result<(), AllocError> {
+    for clause in clauses {
+        if let Some(l) = forced_by(lits.as_slice(), clause.as_slice()) {
+            lits.push(l)?;
+        }
+    }
+    Ok(())
+}
+
+/// The assigned literals and those that scans force, again and again.
+fn forced(alloc: Global, wanted: &Wanted, vars: u32) -> Result<Vec<Lit>, AllocError> {
     let mut lits = Vec::from_slice(alloc, wanted.chosen.as_slice())?;
     for _ in 0..vars {
-        for clause in &wanted.clauses {
-            if let Some(l) = forced_by(lits.as_slice(), clause.as_slice()) {
-                lits.push(l)?;
-            }
-        }
+        scan(&mut lits, wanted.clauses.as_slice())?;
     }
     Ok(lits)
 }
 
-/// Whether a propagation ends as the scan does.
-fn agrees(p: &mut Propagator, wanted: &Wanted, lits: &[Lit]) -> bool
+/// Whether the literals are the others, in some order.
+fn are_same(lits: &[Lit], others: &[Lit]) -> bool {
+    for l in lits {
+        if !others.contains(l) {
+            return false;
+        }
+    }
+    lits.len() == others.len()
+}
+
+/// Whether a propagation ends with these literals, or with a clause that is false.
+fn ends(p: &mut Propagator, clauses: &[Vec<Lit>], lits: &[Lit]) -> bool
     ensures vars { p.new.vars ≡ p.old.vars }
     ensures clauses { p.new.clauses ≡ p.old.clauses }
 {
-    let is_falsified = wanted.clauses.iter().any(|c| is_false(lits, c.as_slice()));
-    let end = p.propagate();
-    let same = lits.len() == p.trail().len() && lits.iter().all(|l| p.trail().contains(l));
-    match end {
-        Propagated::Quiet => !is_falsified && same,
-        Propagated::Conflict(_) => is_falsified,
+    match p.propagate() {
+        Propagated::Quiet => !falsify(lits, clauses) && are_same(lits, p.trail()),
+        Propagated::Conflict(_) => falsify(lits, clauses),
     }
 }
 
-/// Propagates, and writes `agrees` where that ends as the scan does, and else `differs`.
-pub(crate) fn put_agrees(
+/// Propagates, and tells whether that ends as the scans do.
+pub(crate) fn agrees(
     alloc: Global,
     p: &mut Propagator,
     wanted: &Wanted,
     vars: u32,
-    out: &mut String,
-) -> Result<(), Fail>
+) -> Result<bool, AllocError>
     ensures vars { p.new.vars ≡ p.old.vars }
     ensures clauses { p.new.clauses ≡ p.old.clauses }
 {
-    let lits = scan(alloc, wanted, vars)?;
-    let agrees = agrees(p, wanted, lits.as_slice());
-    writeln!(out, "{}", if agrees { "agrees" } else { "differs" })?;
-    Ok(())
+    let lits = forced(alloc, wanted, vars)?;
+    Ok(ends(p, wanted.clauses.as_slice(), lits.as_slice()))
 }

@@ -1,8 +1,9 @@
 -- Lawful lists of words and what they begin with.
-use Rattle.std.proofs.Common.{◌≡◌, ℕ, zero, suc, ◌+◌, ◌<◌, ◌≤◌, ◌∙◌, Bool, true, false, ◌&&◌, List, [], ◌∷◌, ◌++◌, length, take, Option, Some, None, refl, ap, subst, arith, option_map, ◌⊎◌, inl, inr}
+use Rattle.std.proofs.Common.{◌≡◌, ℕ, zero, suc, ◌+◌, ◌<◌, ◌≤◌, ◌∙◌, true, false, ◌&&◌, List, [], ◌∷◌, ◌++◌, length, take, Option, Some, None, refl, ap, subst, arith, option_map, ◌⊎◌, inl, inr}
 use Rattle.std.specs.Prelude.{IsSomeAnd}
 use Rattle.std.specs.Str.{bytes_eq}
 use Rattle.std.proofs.lemmas.Slice.Eq.{bytes_eq-Decides}
+use Rattle.std.proofs.lemmas.Bool.{cases_Bool}
 use Rattle.lk_model.specs.declared.class.Class.TheVariants.{Pure}
 use Rattle.lk_model.specs.Texts.Lines.{Word}
 use Rattle.lk_model.proofs.Booleans.{and_true}
@@ -11,16 +12,12 @@ use Rattle.workbench.specs.declared.options.Verb.TheVariants as verb
 use Rattle.workbench.specs.OptionPlaces.{keys_of, refused_place}
 use Rattle.workbench.proofs.LawfulOptions.{take_one, fits, options_fit, fit_options, all_pass, is_refused}
 
-true_or_false : (b : Bool) → (b ≡ true) ⊎ (b ≡ false)
-true_or_false true = inl refl
-true_or_false false = inr refl
-
 -- what is lawful has these words
 lawful_words : (first second third : Word) (words : List Word) (command : Command) → command_of (first ∷ second ∷ third ∷ words) ≡ Some command → ((first ≡ reduce) × (second ≡ pure)) ⊎ (first ≡ check)
 lawful_words first second third words command e =
-    elim (true_or_false (bytes_eq first reduce && bytes_eq second pure)) [
+    elim (cases_Bool (bytes_eq first reduce && bytes_eq second pure)) [
       | inl t ↦ let p = and_true _ _ t in inl ((bytes_eq-Decides first reduce).0 p.0, (bytes_eq-Decides second pure).0 p.1)
-      | inr f ↦ elim (true_or_false (bytes_eq first check)) [
+      | inr f ↦ elim (cases_Bool (bytes_eq first check)) [
         | inl t ↦ inr ((bytes_eq-Decides first check).0 t)
         | inr g ↦ absurd (cc (e, f, g))
       ]

@@ -3,7 +3,7 @@ use Rattle.std.proofs.Common.{◌≡◌, ℕ, ◌+◌, ◌<◌, ◌≤◌, ◌�
 use Rattle.std.specs.Prelude.{option_and_then, codes}
 use Rattle.std.specs.List.{list_any, list_all}
 use Rattle.std.specs.Str.{bytes_eq}
-use Rattle.std.proofs.lemmas.Bool.{cases_Bool}
+use Rattle.std.proofs.lemmas.Bool.{cases_Bool, not-true, and_from, or_from}
 use Rattle.lk_model.specs.Texts.Lines.{Word}
 use Rattle.lk_model.specs.Texts.NumberWords.{natural}
 use Rattle.lk_model.proofs.Booleans.{and_true, or_true, or_left, or_right, or_false}
@@ -26,18 +26,6 @@ pub record AreSettings (keys : List Key) (before words : List Word) (ss : List S
   pub once : is_once ss ≡ true
   pub free : list_all (is_free before) ss ≡ true
 
-not_true : (b : Bool) → not b ≡ true → b ≡ false
-not_true true e = absurd (let f : ⊥ = cc in f)
-not_true false e = refl
-
-both : (a b : Bool) → a ≡ true → b ≡ true → (a && b) ≡ true
-both true b e f = f
-both false b e f = absurd (let g : ⊥ = cc in g)
-
-neither : (a b : Bool) → a ≡ false → b ≡ false → (a || b) ≡ false
-neither true b e f = absurd (let g : ⊥ = cc in g)
-neither false b e f = f
-
 -- an allowed setting has an option's word
 allowed_word : (keys : List Key) (word : Word) (n : ℕ) → is_allowed keys (word, n) ≡ true → is_word_of keys word ≡ true
 allowed_word [] word n e = absurd (let f : ⊥ = cc in f)
@@ -50,10 +38,10 @@ free_of : (word : Word) (before : List Word) (ss : List Setting) → list_all (i
 free_of word before [] e = (refl, refl)
 free_of word before (s ∷ ss) e =
     let p = and_true (is_free (word ∷ before) s) (list_all (is_free (word ∷ before)) ss) e in
-    let q = or_false (bytes_eq word s.0) (has before s.0) (not_true (bytes_eq word s.0 || has before s.0) p.0) in
+    let q = or_false (bytes_eq word s.0) (has before s.0) (not-true (bytes_eq word s.0 || has before s.0) p.0) in
     let r = free_of word before ss p.1 in (
-      neither (bytes_eq word s.0) (list_any (λ (t : Setting). bytes_eq word t.0) ss) q.0 r.0,
-      both (is_free before s) (list_all (is_free before) ss) (ap not q.1) r.1,
+      or_from (bytes_eq word s.0) (list_any (λ (t : Setting). bytes_eq word t.0) ss) q.0 r.0,
+      and_from (is_free before s) (list_all (is_free before) ss) (ap not q.1) r.1,
     )
 
 free_with : (word : Word) (before : List Word) (ss : List Setting) → list_any (λ (t : Setting). bytes_eq word t.0) ss ≡ false → list_all (is_free before) ss ≡ true → list_all (is_free (word ∷ before)) ss ≡ true
@@ -61,8 +49,8 @@ free_with word before [] e f = refl
 free_with word before (s ∷ ss) e f =
     let p = or_false (bytes_eq word s.0) (list_any (λ (t : Setting). bytes_eq word t.0) ss) e in
     let q = and_true (is_free before s) (list_all (is_free before) ss) f in
-    both (is_free (word ∷ before) s) (list_all (is_free (word ∷ before)) ss)
-    (ap not (neither (bytes_eq word s.0) (has before s.0) p.0 (not_true (has before s.0) q.0)))
+    and_from (is_free (word ∷ before) s) (list_all (is_free (word ∷ before)) ss)
+    (ap not (or_from (bytes_eq word s.0) (has before s.0) p.0 (not-true (has before s.0) q.0)))
     (free_with word before ss p.1 q.1)
 
 all_free : (ss : List Setting) → list_all (is_free []) ss ≡ true
@@ -77,9 +65,9 @@ with_one keys before word value words ss n e ok new r =
     let alone = and_true (is_word_of keys word) (not (has before word)) new in
     record {
       given = ap (λ (o : Option ℕ). with_setting word o (settings_of words)) e ∙ ap (λ (m : Option (List Setting)). with_setting word (Some n) m) r.given;
-      allowed = both (is_allowed keys (word, n)) (list_all (is_allowed keys) ss) ok r.allowed;
-      once = both (not (list_any (λ (t : Setting). bytes_eq word t.0) ss)) (is_once ss) (ap not apart.0) r.once;
-      free = both (is_free before (word, n)) (list_all (is_free before) ss) alone.1 apart.1;
+      allowed = and_from (is_allowed keys (word, n)) (list_all (is_allowed keys) ss) ok r.allowed;
+      once = and_from (not (list_any (λ (t : Setting). bytes_eq word t.0) ss)) (is_once ss) (ap not apart.0) r.once;
+      free = and_from (is_free before (word, n)) (list_all (is_free before) ss) alone.1 apart.1;
     }
 
 pub record Parts (word value : Word) (words : List Word) (ss : List Setting) : Type 0 where
@@ -102,13 +90,13 @@ without_one keys before word value words n more e later r =
     let a = and_true (is_allowed keys (word, n)) (list_all (is_allowed keys) more) r.allowed in
     let o = and_true (not (list_any (λ (t : Setting). bytes_eq word t.0) more)) (is_once more) r.once in
     let f = and_true (is_free before (word, n)) (list_all (is_free before) more) r.free in (
-      both (is_word_of keys word) (not (has before word)) (allowed_word keys word n a.0) f.0,
+      and_from (is_word_of keys word) (not (has before word)) (allowed_word keys word n a.0) f.0,
       ap (is_number_for keys word) e ∙ a.0,
       record {
         given = later;
         allowed = a.1;
         once = o.1;
-        free = free_with word before more (not_true (list_any (λ (t : Setting). bytes_eq word t.0) more) o.0) f.1;
+        free = free_with word before more (not-true (list_any (λ (t : Setting). bytes_eq word t.0) more) o.0) f.1;
       },
     )
 
@@ -120,8 +108,8 @@ settings_fit keys before (word ∷ []) ss r = absurd (cc r.given)
 settings_fit keys before (word ∷ value ∷ words) ss r =
     let p = parts word value words ss r.given in
     let q = without_one keys before word value words p.n p.more p.number p.later (subst (AreSettings keys before (word ∷ value ∷ words)) p.all r) in
-    both (is_new keys before word) (is_value keys word value && fits keys (word ∷ before) words) q.0
-    (both (is_value keys word value) (fits keys (word ∷ before) words) q.1 (settings_fit keys (word ∷ before) words p.more q.2))
+    and_from (is_new keys before word) (is_value keys word value && fits keys (word ∷ before) words) q.0
+    (and_from (is_value keys word value) (fits keys (word ∷ before) words) q.1 (settings_fit keys (word ∷ before) words p.more q.2))
 
 pub fit_settings : (keys : List Key) (before words : List Word) → fits keys before words ≡ true → (ss : List Setting) × AreSettings keys before words ss
 fit_settings keys before [] e = ([], record { given = refl; allowed = refl; once = refl; free = refl })
@@ -154,7 +142,7 @@ options_fit keys words o e = by (settings_of words) refl e
 pub options_given : (keys : List Key) (words : List Word) (ss : List Setting) → AreSettings keys [] words ss → options_of keys words ≡ Some (options_by ss)
 options_given keys words ss r =
     ap (option_and_then (options_from keys)) r.given
-    ∙ ap (λ (b : Bool). cond b (Some (options_by ss)) None) (both (list_all (is_allowed keys) ss) (is_once ss) r.allowed r.once)
+    ∙ ap (λ (b : Bool). cond b (Some (options_by ss)) None) (and_from (list_all (is_allowed keys) ss) (is_once ss) r.allowed r.once)
 
 pub fit_options : (keys : List Key) (words : List Word) → fits keys [] words ≡ true → (o : Options) × (options_of keys words ≡ Some o)
 fit_options keys words e =
@@ -169,8 +157,8 @@ all_pass keys before (word ∷ []) e = elim (cases_Bool (is_new keys before word
 all_pass keys before (word ∷ value ∷ words) e = elim (cases_Bool (is_new keys before word)) [
   | inl t ↦ elim (cases_Bool (is_value keys word value)) [
     | inl v ↦ let rest : option_map (λ (i : ℕ). i + 2) (refused_place keys (word ∷ before) words) ≡ None = cc (e, t, v) in
-        both (is_new keys before word) (is_value keys word value && fits keys (word ∷ before) words) t
-        (both (is_value keys word value) (fits keys (word ∷ before) words) v (all_pass keys (word ∷ before) words (none_before (refused_place keys (word ∷ before) words) rest)))
+        and_from (is_new keys before word) (is_value keys word value && fits keys (word ∷ before) words) t
+        (and_from (is_value keys word value) (fits keys (word ∷ before) words) v (all_pass keys (word ∷ before) words (none_before (refused_place keys (word ∷ before) words) rest)))
     | inr f ↦ absurd (cc (e, t, f))
   ]
   | inr f ↦ absurd (cc (e, f))
@@ -198,14 +186,14 @@ one_allowed (key ∷ keys) word one e =
     let range = and_true (nat_le key.least 1) (nat_le 1 key.greatest) o.0 in
     let here = sets key (word, 1) && nat_le key.least 1 && nat_le 1 key.greatest in
     elim (or_true (bytes_eq key.word word) (is_word_of keys word) e) [
-      | inl h ↦ or_left here (is_allowed keys (word, 1)) (both (sets key (word, 1) && nat_le key.least 1) (nat_le 1 key.greatest) (both (sets key (word, 1)) (nat_le key.least 1) h range.0) range.1)
+      | inl h ↦ or_left here (is_allowed keys (word, 1)) (and_from (sets key (word, 1) && nat_le key.least 1) (nat_le 1 key.greatest) (and_from (sets key (word, 1)) (nat_le key.least 1) h range.0) range.1)
       | inr t ↦ or_right here (is_allowed keys (word, 1)) (one_allowed keys word o.1 t)
     ]
 
 one_fits : (keys : List Key) (before : List Word) (word : Word) → take_one keys ≡ true → is_new keys before word ≡ true → fits keys before (word ∷ codes "1" ∷ []) ≡ true
 one_fits keys before word one new =
     let alone = and_true (is_word_of keys word) (not (has before word)) new in
-    both (is_new keys before word) (is_value keys word (codes "1") && true) new (both (is_value keys word (codes "1")) true (one_allowed keys word one alone.0) refl)
+    and_from (is_new keys before word) (is_value keys word (codes "1") && true) new (and_from (is_value keys word (codes "1")) true (one_allowed keys word one alone.0) refl)
 
 old_unfit : (keys : List Key) (before : List Word) (word : Word) (rest : List Word) → is_new keys before word ≡ false → fits keys before (word ∷ rest) ≡ false
 old_unfit keys before word [] e = refl

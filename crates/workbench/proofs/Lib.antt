@@ -4,7 +4,6 @@ pub mod CheckOptions
 pub mod OptionSteps
 pub mod Streams
 pub mod InputStops
-pub mod KeptClauses
 pub mod ReadInputs
 pub mod Verdicts
 pub mod GoodInputs

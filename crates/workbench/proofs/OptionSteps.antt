@@ -1,10 +1,11 @@
 -- From one option to the next.
-use Rattle.std.proofs.Common.{◌≡◌, ℕ, ◌+◌, ◌<◌, ◌∙◌, Bool, true, false, ◌&&◌, ◌||◌, ◌≤◌, List, [], ◌∷◌, length, map, drop, get_or, Option, Some, None, refl, ap, arith, inl, inr, option_map, subst, sym, Bor}
+use Rattle.std.proofs.Common.{◌≡◌, ℕ, ◌+◌, ◌<◌, ◌∙◌, Bool, true, false, ◌≤◌, List, [], ◌∷◌, length, map, drop, get_or, Option, Some, None, refl, ap, arith, inl, inr, option_map, subst, sym, Bor}
 use Rattle.std.proofs.lemmas.Bool.{cases_Bool}
 use Rattle.std.proofs.Math.ListN.{drop_of_length-le}
 use Rattle.std.proofs.lemmas.List.{drop_more, drop-map, length-map}
 use Rattle.std.proofs.lemmas.Slice.Eq.{bytes_eq-Decides}
 use Rattle.std.specs.Str.{bytes_eq}
+use Rattle.std.proofs.Math.Bool.{and-false, or-false}
 use Rattle.lk_model.specs.Texts.Lines.{Word}
 use Rattle.lk_model.specs.Texts.NumberWords.{natural}
 use Rattle.workbench.specs.Lawful as lawful
@@ -28,34 +29,26 @@ all_left Check Conflicts = refl
 all_left Check Pivots = refl
 all_left Check Workers = refl
 
-and_false : (a : Bool) → (a && false) ≡ false
-and_false true = refl
-and_false false = refl
-
-or_false : (a : Bool) → (a || false) ≡ a
-or_false true = refl
-or_false false = refl
-
 pub fewer_left : (verb : Verb) (before : List Word) (left : Keys) (key : Key) → AreLeft verb before left → AreLeft verb ((named key).word ∷ before) (without_key left key)
-fewer_left verb before left Conflicts h Conflicts = and_false (is_word_of (keys_of verb) conflicts.word)
+fewer_left verb before left Conflicts h Conflicts = and-false (is_word_of (keys_of verb) conflicts.word)
 fewer_left verb before left Conflicts h Pivots = h Pivots
 fewer_left verb before left Conflicts h Workers = h Workers
 fewer_left verb before left Pivots h Conflicts = h Conflicts
-fewer_left verb before left Pivots h Pivots = and_false (is_word_of (keys_of verb) pivots.word)
+fewer_left verb before left Pivots h Pivots = and-false (is_word_of (keys_of verb) pivots.word)
 fewer_left verb before left Pivots h Workers = h Workers
 fewer_left verb before left Workers h Conflicts = h Conflicts
 fewer_left verb before left Workers h Pivots = h Pivots
-fewer_left verb before left Workers h Workers = and_false (is_word_of (keys_of verb) workers.word)
+fewer_left verb before left Workers h Workers = and-false (is_word_of (keys_of verb) workers.word)
 
 -- a number for an option's word lies in the range of that option
 number_for : (verb : Verb) (before : List Word) (key : Key) (n : Option ℕ) → is_new (keys_of verb) before (named key).word ≡ true → is_number_for (keys_of verb) (named key).word n ≡ is_number_of (named key) n
 number_for verb before key None new = refl
-number_for Reduce before Conflicts (Some n) new = or_false (is_number_of conflicts (Some n))
-number_for Reduce before Pivots (Some n) new = or_false (is_number_of pivots (Some n))
-number_for Reduce before Workers (Some n) new = or_false (is_number_of workers (Some n))
+number_for Reduce before Conflicts (Some n) new = or-false (is_number_of conflicts (Some n))
+number_for Reduce before Pivots (Some n) new = or-false (is_number_of pivots (Some n))
+number_for Reduce before Workers (Some n) new = or-false (is_number_of workers (Some n))
 number_for Check before Conflicts (Some n) new = absurd (let f : ⊥ = cc in f)
 number_for Check before Pivots (Some n) new = absurd (let f : ⊥ = cc in f)
-number_for Check before Workers (Some n) new = or_false (is_number_of workers (Some n))
+number_for Check before Workers (Some n) new = or-false (is_number_of workers (Some n))
 
 -- the word of the option
 pub word_of : (word : Word) (key : Key) → key_of word ≡ Some key → word ≡ (named key).word

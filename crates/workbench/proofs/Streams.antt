@@ -1,9 +1,10 @@
 -- What was written and read so far.
-use Rattle.std.proofs.Common.{◌≡◌, ℕ, ◌+◌, ◌-◌, ◌≤◌, Bool, List, [], ◌++◌, length, take, drop, Option, Some, None, sym, ap, ◌∙◌, append_assoc, arith}
+use Rattle.std.proofs.Common.{◌≡◌, ℕ, ◌+◌, ◌-◌, ◌≤◌, Bool, List, [], ◌++◌, length, take, drop, Option, Some, None, sym, ap, ◌∙◌, arith}
 use Rattle.std.specs.Prelude.{IfSome, IsTrue}
 use Rattle.std.specs.Io.KnownBytes.{Appends, Consumes, IsAtEnd}
-use Rattle.std.proofs.Math.Seq.{take-add, take-length}
-use Rattle.std.proofs.lemmas.List.{append-nil, length-drop}
+use Rattle.std.proofs.Math.Seq.{take-add}
+use Rattle.std.proofs.lemmas.List.{append-nil, length-drop, take_rest}
+use Rattle.std.proofs.KnownBytes.{Appends-trans}
 use Rattle.lk_outside.specs.Causes.{HasCause, Rose, TellsTheSame}
 use Rattle.workbench.specs.Causes.{Told}
 
@@ -26,27 +27,11 @@ pub record TakesUp (told_before told_now : Told) (before now : Option (List ℕ)
 pub Tells-then : (a b c : Told) → TellsTheSame a b → TellsTheSame b c → TellsTheSame a c
 Tells-then a b c p q = λ name. q name ∙ p name
 
--- bytes that were appended one part after the other were appended together
-pub Appends-then : (a b c : Option (List ℕ)) (xs ys : List ℕ) → Appends a b xs → Appends b c ys → Appends a c (xs ++ ys)
-Appends-then None b c xs ys p q = tt
-Appends-then (Some a) None c xs ys p q = absurd p
-Appends-then (Some a) (Some b) None xs ys p q = absurd q
-Appends-then (Some a) (Some b) (Some c) xs ys p q = q ∙ ap (λ (s : List ℕ). s ++ ys) p ∙ append_assoc a xs ys
-
-pub Consumes-then : (a b c : Option (List ℕ)) (xs ys : List ℕ) → Consumes a b xs → Consumes b c ys → Consumes a c (xs ++ ys)
-Consumes-then None b c xs ys p q = tt
-Consumes-then (Some a) None c xs ys p q = absurd p
-Consumes-then (Some a) (Some b) None xs ys p q = absurd q
-Consumes-then (Some a) (Some b) (Some c) xs ys p q = p ∙ ap (λ (s : List ℕ). xs ++ s) q ∙ sym (append_assoc xs ys c)
-
-take_rest : (text : List ℕ) (at : ℕ) → take (length text - at) (drop at text) ≡ drop at text
-take_rest text at = rw (← length-drop at text) (take-length (drop at text))
-
 -- what was taken before, and what one more write took of the rest
 pub Written-then : (a b c : Option (List ℕ)) (f g h : ℕ) (text : List ℕ) (at n : ℕ) → Written a b f g text at → n ≤ length (take (length text - at) (drop at text)) → Appends b c (take n (take (length text - at) (drop at text))) → g ≤ h → Written a c f h text (at + n)
 Written-then a b c f g h text at n w k p later = record {
   within = omega (arith, length-drop at text, ap length (take_rest text at), w.within);
-  taken = rw take-add (Appends-then a b c _ _ w.taken (rw (← take_rest text at) p));
+  taken = rw take-add (Appends-trans a b c _ _ w.taken (rw (← take_rest text at) p));
   later = omega (arith, w.later);
 }
 

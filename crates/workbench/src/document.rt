@@ -3,7 +3,7 @@ ghost use Rattle.std.specs.Prelude.{◌≡◌, IfOk, IsTrue, None};
 ghost use Rattle.lk_model.specs.Formulas.Lean.{are_positions};
 ghost use Rattle.lk_model.specs.Reduction.{Reduces};
 ghost use Rattle.lk_model.specs.declared.class.Class.TheVariants.{Pure};
-ghost use Rattle.kernel_laws.specs.ClauseLines.{clauses_at};
+ghost use Rattle.lk_model.specs.Formulas.Formula.{clauses_at};
 ghost use Rattle.kernel_laws.specs.Pure.PureResults.{IsPureResult, IsSetLine};
 
 use lk_model::{Body, DoneDocument, Formula, List, Lit, OutOfMemory, PureResult};
@@ -16,18 +16,6 @@ pub(crate) fn set_line(alloc: Global, order: &[Lit]) -> Result<List<Lit>, OutOfM
     let mut set = Vec::from_slice(alloc, order)?;
     set.sort_by_key(|l| l.var())?;
     Ok(List::from_vec(set))
-}
-
-/// The clauses at the kept positions, over the same variables.
-fn kept_clauses(alloc: Global, f: &Formula, kept: &[u32]) -> Result<Formula, OutOfMemory>
-    requires { IsTrue (are_positions f.now kept.now) }
-    ensures { IfOk result (λ g. g ≡ clauses_at f.now kept.now) }
-{
-    let mut clauses = f.empty(alloc);
-    for p in kept {
-        clauses.push_within(f.clause(*p))?;
-    }
-    Ok(clauses)
 }
 
 /// The document of what the pure reducer found, with its set line, without protected variables. It
@@ -44,7 +32,7 @@ pub(crate) fn pure_document(
     ensures reduces { IfOk result (Reduces f.now Pure 0) }
     ensures unprotected { IfOk result (λ d. d.protect ≡ None) }
 {
-    let texts = kept_clauses(alloc, f, found.kept.as_slice())?;
+    let texts = f.clauses_at(alloc, found.kept.as_slice())?;
     Ok(DoneDocument {
         vars: f.vars(),
         clauses: f.len(),

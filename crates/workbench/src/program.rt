@@ -48,7 +48,7 @@ struct Answer {
 /// - 8: a check of the document fails. `out` has the kind and the place of the first one.
 /// - 9: there was no memory. `say` has this, and `out` nothing.
 ///
-/// The result is whole before its first byte is written, and `out` is written before `say`.
+/// The code makes the whole result before it writes the first byte; no clause says so.
 pub fn run<R: Threads + Sync, H: Shelf, O: Sink, E: Sink, G: Gate>(
     rt: &R,
     alloc: Global,

@@ -15,7 +15,7 @@ pub(crate) enum Stop {
     Words(usize),
     /// The text of the formula is refused.
     Formula(Refused),
-    /// The text is no document's; the first line with which none goes on.
+    /// The text is of none of the documents that are read; the first line with which none of them goes on.
     Document(u64),
     /// A call on the shelf failed.
     Read,

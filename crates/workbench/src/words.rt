@@ -21,7 +21,7 @@ pub(crate) enum Request<'a> {
 }
 
 /// What lawful words ask for, or the number of the refused word, counted from 1: the least number of
-/// first words with which no lawful list begins.
+/// first words with which no lawful list begins, or the number after the last where one begins with all.
 pub(crate) fn request_of<'a>(words: &[&'a str]) -> Result<Request<'a>, usize>
     ensures asked { MatchResult result
         (λ request. Asks request (command_of (map (λ w. w.now) words.now)))

@@ -19,7 +19,8 @@ use Rattle.lk_model.proofs.Booleans.{and_true, or_true, or_left, or_right}
 use Rattle.lk_model.proofs.Counting.{from_filter}
 use Rattle.lk_model.proofs.Founds.{up_to_bounds}
 use Rattle.lk_model.proofs.Variables.{literal_passing}
-use Rattle.kernel_laws.proofs.Clauses.{int_self, in_filtered, from_filtered, variables_among}
+use Rattle.lk_model.proofs.Literals.{int_self}
+use Rattle.kernel_laws.proofs.Clauses.{in_filtered, from_filtered, variables_among}
 use Rattle.kernel_laws.proofs.General.Touching.{IsFair}
 use Rattle.kernel_laws.proofs.General.Chains.{AreFair, are_real}
 use Rattle.kernel_laws.proofs.General.Numbering.{AreRising, first_rise, rest_rise, premises_in, named_first, named_position}

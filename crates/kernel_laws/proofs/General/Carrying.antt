@@ -17,15 +17,18 @@ use Rattle.lk_model.specs.declared.document.Round.{Round}
 use Rattle.lk_model.proofs.Booleans.{and_true, or_true, or_left, or_right}
 use Rattle.lk_model.proofs.Founds.{up_to_bounds}
 use Rattle.lk_model.proofs.Counting.{from_filter}
+use Rattle.lk_model.proofs.Literals.{int_self}
+use Rattle.lk_model.proofs.Lists.{among_either}
 use Rattle.kernel_laws.specs.General.JoinLaw.{renumbered, renumbered_round}
-use Rattle.kernel_laws.proofs.Clauses.{int_self, from_filtered}
+use Rattle.kernel_laws.proofs.Clauses.{from_filtered}
 use Rattle.kernel_laws.proofs.Occurrences.{occurs_here}
 use Rattle.kernel_laws.proofs.General.Chains.{turned, chained, stated}
 use Rattle.kernel_laws.proofs.General.Numbering.{AreRising, first_rise, rest_rise, premises_in, named_position}
 use Rattle.kernel_laws.proofs.General.Stated.{NoneOf, NoneIn}
-use Rattle.kernel_laws.proofs.General.Reaching.{is_misstated, among_either}
+use Rattle.kernel_laws.proofs.General.Reaching.{is_misstated}
 use Rattle.kernel_laws.proofs.General.Blocking.{used_at}
 use Rattle.kernel_laws.proofs.General.Renumbering.{IsRenumbering, named_carried, step_carried, among_renumbered, reached_renumbered, refutation_renumbered}
+use Rattle.kernel_laws.proofs.Tests.{filter_same}
 
 -- WHAT STEPS NAME
 
@@ -124,13 +127,6 @@ same_filter t u (l ∷ c) h =
     ap (λ (b : Bool). cond b (l ∷ filter t c) (filter t c)) (h l (or_left _ (contains c l) (int_self l)))
     ∙ ap (λ (d : List ℤ). cond (u l) (l ∷ d) d) (same_filter t u c (λ k m. h k (or_right _ (contains c k) m)))
 
--- and of a list of numbers
-same_numbers : (t u : ℕ → Bool) (ks : List ℕ) → ((k : ℕ) → among ks k ≡ true → t k ≡ u k) → filter t ks ≡ filter u ks
-same_numbers t u [] h = refl
-same_numbers t u (k ∷ ks) h =
-    ap (λ (b : Bool). cond b (k ∷ filter t ks) (filter t ks)) (h k (or_left (k == k) (among ks k) (eq-eqb k k refl)))
-    ∙ ap (λ (js : List ℕ). cond (u k) (k ∷ js) js) (same_numbers t u ks (λ j m. h j (or_right (k == j) (among ks j) m)))
-
 -- lists that are put together from the same are the same
 same_flat_map : (f g : ℕ → List ℕ) (ks : List ℕ) → ((k : ℕ) → among ks k ≡ true → f k ≡ g k) → flat_map f ks ≡ flat_map g ks
 same_flat_map f g [] h = refl
@@ -160,7 +156,7 @@ steps_carried F f P Q b c earlier (s ∷ steps) new agree names none = (
 
 -- a round uses the same positions by new numbers
 pub used_carried : (F : Cnf) (f : ℕ → ℕ) (r : Round) → IsRenumbering (length F.clauses) f → used_positions F r ≡ used_positions F (renumbered_round f r)
-used_carried F f r new = same_numbers (among (reached r.steps)) (among (reached (map (renumbered f) r.steps))) (positions_of F) same
+used_carried F f r new = filter_same (among (reached r.steps)) (among (reached (map (renumbered f) r.steps))) (positions_of F) same
   where
     same : (p : ℕ) → among (positions_of F) p ≡ true → among (reached r.steps) p ≡ among (reached (map (renumbered f) r.steps)) p
     same p m =

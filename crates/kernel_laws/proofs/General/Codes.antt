@@ -8,9 +8,8 @@ use Rattle.std.proofs.lemmas.List.FromFn.{length-range_with_len}
 use Rattle.lk_model.specs.Lists.{among, is_empty, up_to}
 use Rattle.lk_model.specs.Formulas.Literal.{variable, complement, contains, is_literal, is_within, is_tautology}
 use Rattle.lk_model.proofs.Booleans.{and_true, or_true}
-use Rattle.lk_model.proofs.ListTests.{passes_each}
+use Rattle.lk_model.proofs.ListTests.{passes_each, passes_one}
 use Rattle.lk_model.proofs.Founds.{all_literals}
-use Rattle.lk_model.proofs.Variables.{any_literal}
 use Rattle.lk_model.proofs.Counting.{Differ, none, more, no_more, among-range}
 use Rattle.kernel_laws.specs.General.CountLaw.{is_proper, none_contains_earlier}
 
@@ -109,7 +108,7 @@ code_within n c d over apart e = all_literals (contains d) c held
         plain_held (contains d (pos v)) (contains d (neg_ℤ (pos v))) (sym (same_at (pos v) m) ∙ here)
     held (negsuc k) m =
         let other : contains c (pos (suc k)) ≡ false = false_from_ne_true (contains c (pos (suc k)))
-        (λ q. both_ways (is_tautology c) apart (any_literal (λ l. contains c (complement l)) c (negsuc k) m q)) in
+        (λ q. both_ways (is_tautology c) apart (passes_one (λ l. contains c (complement l)) c (negsuc k) m q)) in
         let here : digit_of c (suc k) ≡ negated = rw (other, m) refl in
         negated_held (contains d (pos (suc k))) (contains d (negsuc k)) (sym (same_at (negsuc k) m) ∙ here)
 

@@ -16,8 +16,9 @@ use Rattle.lk_model.specs.declared.document.Round.{Round}
 use Rattle.lk_model.specs.declared.document.Document.TheVariants.{Unfinished}
 use Rattle.lk_model.specs.declared.document.OpenDocument.{OpenDocument}
 use Rattle.lk_model.proofs.Booleans.{and_true}
+use Rattle.lk_model.proofs.Founds.{option_map-none}
 use Rattle.kernel_laws.specs.General.CountLaw.{CountLaw}
-use Rattle.kernel_laws.proofs.General.Stated.{NoneOf, NoneIn, none_in, nowhere}
+use Rattle.kernel_laws.proofs.General.Stated.{NoneOf, NoneIn, none_in}
 use Rattle.kernel_laws.proofs.General.Reaching.{is_misstated}
 use Rattle.kernel_laws.proofs.General.Learning.{is_unlearned, filled_steps, round_learns, round_learns_none, few_steps}
 use Rattle.kernel_laws.proofs.General.Unblocked.{unblocked, few_unblocked, all_blocked, round_blocks_one}
@@ -92,8 +93,8 @@ count_rounds : (F : Cnf) (base : Variables) (part : List ℕ) (rounds : List Rou
     → (not_learned base F part rounds).place ≡ None → has_progress F base rounds ≡ true → length (learned_steps rounds) ≤ F.vars * (3 ^ F.vars - 1)
 unfolding bad_step not_learned
 count_rounds F base part rounds form ends stated learned progress =
-    let few = rounds_learn F part base rounds form ends (none_in is_misstated F part base rounds (nowhere _ _ stated))
-    (none_in is_unlearned F part base rounds (nowhere _ _ learned)) progress in
+    let few = rounds_learn F part base rounds form ends (none_in is_misstated F part base rounds (option_map-none _ _ stated))
+    (none_in is_unlearned F part base rounds (option_map-none _ _ learned)) progress in
     let all : length (unblocked F.vars base) * (3 ^ F.vars - 1) ≤ F.vars * (3 ^ F.vars - 1) =
     mul-le-mul_right {m = length (unblocked F.vars base)} {n = F.vars} (3 ^ F.vars - 1) (few_unblocked F.vars base) in
     omega (arith, few, all)

@@ -22,20 +22,21 @@ use Rattle.lk_model.specs.declared.document.Step.{Step}
 use Rattle.lk_model.specs.declared.document.Turn.{Turn}
 use Rattle.lk_model.specs.declared.document.Round.{Round}
 use Rattle.lk_model.proofs.Booleans.{and_true}
-use Rattle.lk_model.proofs.ListTests.{not_zero}
-use Rattle.lk_model.proofs.Variables.{occurs, any_literal}
+use Rattle.lk_model.proofs.ListTests.{not_zero, passes_one, all_weaker}
+use Rattle.lk_model.proofs.Variables.{occurs}
+use Rattle.lk_model.proofs.Literals.{same_int}
+use Rattle.lk_model.proofs.Founds.{option_map-none}
 use Rattle.kernel_laws.specs.Accepted.{AcceptedReduces}
 use Rattle.kernel_laws.specs.General.GeneralLaw.{GeneralLaw}
-use Rattle.kernel_laws.proofs.Clauses.{same_int}
 use Rattle.kernel_laws.proofs.Lines.{none_among}
-use Rattle.kernel_laws.proofs.Tests.{all_weaker, second_passes}
+use Rattle.kernel_laws.proofs.Tests.{second_passes}
 use Rattle.kernel_laws.proofs.Occurrences.{occurring}
 use Rattle.kernel_laws.proofs.Assignments.{touching}
 use Rattle.kernel_laws.proofs.Passed.{HaveNoPlace, has_passed, accepted_form, set_autarky, exactly_removed}
 use Rattle.kernel_laws.proofs.Reductions.{lean_plain, reduces_by, reduction_of}
 use Rattle.kernel_laws.proofs.General.Chains.{are_real}
 use Rattle.kernel_laws.proofs.General.Numbering.{counts_rise}
-use Rattle.kernel_laws.proofs.General.Stated.{none_in, nowhere}
+use Rattle.kernel_laws.proofs.General.Stated.{none_in}
 use Rattle.kernel_laws.proofs.General.Reaching.{is_misstated}
 use Rattle.kernel_laws.proofs.General.Blocking.{rounds_block, used_blocked, blocked_stays}
 
@@ -65,7 +66,7 @@ unset_by_rounds F base part rounds φ steps stated a none =
     rounds_block φ F part base (length F.clauses) rounds a none (omega arith)
     (counts_rise (length F.clauses) (length F.clauses + 1) (steps_of rounds) (omega arith) both.0)
     (all_weaker (is_step F.vars) (λ (s : Step). are_real s.turns) (real_step F.vars) (steps_of rounds) both.1)
-    (none_in is_misstated F part base rounds (nowhere _ _ stated))
+    (none_in is_misstated F part base rounds (option_map-none _ _ stated))
 
 -- and so it touches no clause whose variables are all blocked
 pub lean_by_rounds : (F : Cnf) (base : Variables) (part : List ℕ) (rounds : List Round) → is_formula F ≡ true
@@ -74,7 +75,7 @@ pub lean_by_rounds : (F : Cnf) (base : Variables) (part : List ℕ) (rounds : Li
 lean_by_rounds F base part rounds form steps stated all φ a p kept touch =
     let none = unset_by_rounds F base part rounds φ steps stated a.1 a.0 in
     let w = touching φ (clause_at F p) touch in
-    let there : mentions (clause_at F p) (variable w.0) ≡ true = any_literal (λ l. variable l == variable w.0) (clause_at F p) w.0 w.1 (eq-eqb (variable w.0) (variable w.0) refl) in
+    let there : mentions (clause_at F p) (variable w.0) ≡ true = passes_one (λ l. variable l == variable w.0) (clause_at F p) w.0 w.1 (eq-eqb (variable w.0) (variable w.0) refl) in
     both_ways (is_some (φ (variable w.0))) (none (variable w.0) (all (variable w.0) (occurs F part p (variable w.0) kept there))) w.2
 
 -- ACCEPTED DOCUMENTS

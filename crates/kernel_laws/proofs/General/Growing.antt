@@ -15,9 +15,10 @@ use Rattle.lk_model.specs.Checks.RoundChecks.{bad_step, not_learned}
 use Rattle.lk_model.specs.declared.document.Step.{Step}
 use Rattle.lk_model.specs.declared.document.Round.{Round}
 use Rattle.lk_model.proofs.Booleans.{and_true}
+use Rattle.lk_model.proofs.Founds.{option_map-none}
 use Rattle.kernel_laws.specs.General.CountLaw.{are_stated, are_learned}
 use Rattle.kernel_laws.specs.General.GrowLaw.{GrowLaw}
-use Rattle.kernel_laws.proofs.General.Stated.{NoneIn, none_in, find_in, nowhere}
+use Rattle.kernel_laws.proofs.General.Stated.{NoneIn, none_in, find_in}
 use Rattle.kernel_laws.proofs.General.Reaching.{is_misstated}
 use Rattle.kernel_laws.proofs.General.Learning.{is_unlearned, none_misstated, none_unlearned}
 use Rattle.kernel_laws.proofs.General.JoinLaws.{none_joined, blocked_joined, counts_joined}
@@ -33,7 +34,7 @@ stated_more : (F : Cnf) (base : Variables) (part : List ℕ) (rounds : List Roun
 unfolding bad_step
 stated_more F base part rounds r e s =
     ap (option_map (λ (u : StepAt). u.step.number)) (find_in is_misstated F part base (rounds ++ r ∷ [])
-    (none_more is_misstated F part base rounds r (none_in is_misstated F part base rounds (nowhere _ _ e))
+    (none_more is_misstated F part base rounds r (none_in is_misstated F part base rounds (option_map-none _ _ e))
     (none_misstated F part (blocked_after F base rounds) r.steps s, tt)))
 
 -- rounds that learn, with one more that does
@@ -42,7 +43,7 @@ learned_more : (F : Cnf) (base : Variables) (part : List ℕ) (rounds : List Rou
 unfolding not_learned
 learned_more F base part rounds r e s =
     ap (option_map (λ (u : StepAt). u.step.number)) (find_in is_unlearned F part base (rounds ++ r ∷ [])
-    (none_more is_unlearned F part base rounds r (none_in is_unlearned F part base rounds (nowhere _ _ e))
+    (none_more is_unlearned F part base rounds r (none_in is_unlearned F part base rounds (option_map-none _ _ e))
     (none_unlearned F part (blocked_after F base rounds) r.steps s, tt)))
 
 -- rounds with progress, with one more that has it

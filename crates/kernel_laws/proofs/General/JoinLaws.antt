@@ -18,16 +18,16 @@ use Rattle.lk_model.specs.declared.document.Turn.{Turn}
 use Rattle.lk_model.specs.declared.document.Step.{Step}
 use Rattle.lk_model.specs.declared.document.Round.{Round}
 use Rattle.lk_model.proofs.Booleans.{and_true, or_true, or_left, or_right}
-use Rattle.lk_model.proofs.Variables.{occurs}
+use Rattle.lk_model.proofs.Variables.{occurs, position_with}
+use Rattle.lk_model.proofs.Founds.{option_map-none}
 use Rattle.kernel_laws.specs.General.JoinLaw.{renumbered_turn, renumbered, renumbered_round, moved, IsCertified, joined, JoinLaw}
 use Rattle.kernel_laws.proofs.General.Numbering.{AreRising, counts_rise}
-use Rattle.kernel_laws.proofs.General.Stated.{NoneIn, none_in, find_in, nowhere}
+use Rattle.kernel_laws.proofs.General.Stated.{NoneIn, none_in, find_in}
 use Rattle.kernel_laws.proofs.General.Reaching.{is_misstated}
 use Rattle.kernel_laws.proofs.General.Renumbering.{IsRenumbering, stay, same_rounds, whole_renumbered}
 use Rattle.kernel_laws.proofs.General.Blocking.{blocked_stays}
 use Rattle.kernel_laws.proofs.General.Wholes.{over_all}
 use Rattle.kernel_laws.proofs.General.Carrying.{NamesIn, names_more, names_of_rounds, AgreeOn, used_carried, rounds_carried, blocked_own}
-use Rattle.kernel_laws.proofs.Occurrences.{position_with}
 
 -- MANY ROUNDS
 
@@ -55,7 +55,7 @@ rising F rounds e =
 -- where the check finds no place no step is misstated
 pub misstated_none : (F : Cnf) (base : Variables) (part : List ℕ) (rounds : List Round) → (bad_step base F part rounds).place ≡ None → NoneIn is_misstated F part base rounds
 unfolding bad_step
-misstated_none F base part rounds e = none_in is_misstated F part base rounds (nowhere _ _ e)
+misstated_none F base part rounds e = none_in is_misstated F part base rounds (option_map-none _ _ e)
 
 -- and the other way round
 pub none_misstated : (F : Cnf) (base : Variables) (part : List ℕ) (rounds : List Round) → NoneIn is_misstated F part base rounds → (bad_step base F part rounds).place ≡ None

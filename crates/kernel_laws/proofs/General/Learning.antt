@@ -15,8 +15,9 @@ use Rattle.lk_model.specs.declared.document.Step.{Step}
 use Rattle.lk_model.proofs.Booleans.{and_true, or_false, or_left}
 use Rattle.lk_model.proofs.Founds.{all_literals}
 use Rattle.lk_model.proofs.ListTests.{literal_within}
+use Rattle.lk_model.proofs.Literals.{int_self}
 use Rattle.kernel_laws.specs.General.CountLaw.{is_proper, none_contains_earlier, are_stated, are_learned}
-use Rattle.kernel_laws.proofs.Clauses.{int_self, from_filtered}
+use Rattle.kernel_laws.proofs.Clauses.{from_filtered}
 use Rattle.kernel_laws.proofs.General.Numbering.{premises_in, named_first}
 use Rattle.kernel_laws.proofs.General.Stated.{step_at, NoneOf, none_of_all}
 use Rattle.kernel_laws.proofs.General.Reaching.{is_misstated}

@@ -16,9 +16,10 @@ use Rattle.lk_model.specs.Checks.Checks.{IsSound, first_failure_under}
 use Rattle.lk_model.specs.declared.document.Step.{Step}
 use Rattle.lk_model.specs.declared.document.Round.{Round}
 use Rattle.lk_model.proofs.Booleans.{or_left, or_right}
+use Rattle.lk_model.proofs.Founds.{option_map-none}
 use Rattle.kernel_laws.specs.General.JoinLaw.{IsApart}
 use Rattle.kernel_laws.specs.General.OpenResults.{IsOpenResult, open_document, OpenResultLaw}
-use Rattle.kernel_laws.proofs.General.Stated.{none_in, nowhere}
+use Rattle.kernel_laws.proofs.General.Stated.{none_in}
 use Rattle.kernel_laws.proofs.General.Reaching.{is_misstated}
 use Rattle.kernel_laws.proofs.General.Carrying.{NamesIn, names_of_rounds}
 use Rattle.kernel_laws.proofs.General.Wholes.{over_all}
@@ -75,7 +76,7 @@ steps_pass F part (s ∷ steps) n = and_from _ _ (names_pass F part (names_of s)
 -- chains over the part name no other position
 names : (F : Cnf) (part : List ℕ) (rounds : List Round) → IsOpenResult F part rounds → names_within F part rounds ≡ true
 unfolding bad_step
-names F part rounds h = steps_pass F part (steps_of rounds) (names_of_rounds F part no_variable rounds (none_in is_misstated F part no_variable rounds (nowhere _ _ h.stated)))
+names F part rounds h = steps_pass F part (steps_of rounds) (names_of_rounds F part no_variable rounds (none_in is_misstated F part no_variable rounds (option_map-none _ _ h.stated)))
 
 -- all of it
 pub open_result_law : OpenResultLaw

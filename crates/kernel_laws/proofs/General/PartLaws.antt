@@ -8,22 +8,22 @@ use Rattle.lk_model.specs.Formulas.Lean.{all_of}
 use Rattle.lk_model.specs.Formulas.Parts.{share_variable, Leads, InOnePart, IsPart, least_of}
 use Rattle.lk_model.proofs.Booleans.{or_true}
 use Rattle.lk_model.proofs.Rising.{rises, bounded}
-use Rattle.lk_model.proofs.Variables.{any_literal, literal_passing, occurs}
+use Rattle.lk_model.proofs.Variables.{literal_passing, occurs, position_with}
+use Rattle.lk_model.proofs.ListTests.{passes_one}
 use Rattle.kernel_laws.specs.General.JoinLaw.{IsApart}
 use Rattle.kernel_laws.specs.General.PartLaw.{PartLaw}
-use Rattle.kernel_laws.proofs.Occurrences.{position_with}
 
 -- clauses that mention one variable share it
 shares : (c d : List ℤ) (v : ℕ) → mentions c v ≡ true → mentions d v ≡ true → share_variable c d ≡ true
 shares c d v m n =
     let w = literal_passing (λ l. variable l == v) c m in
-    any_literal (λ l. mentions d (variable l)) c w.0 w.1 (subst (λ (u : ℕ). mentions d u ≡ true) (sym (eqb-true (variable w.0) v w.2)) n)
+    passes_one (λ l. mentions d (variable l)) c w.0 w.1 (subst (λ (u : ℕ). mentions d u ≡ true) (sym (eqb-true (variable w.0) v w.2)) n)
 
 -- and what they share both mention
 shared : (c d : List ℤ) → share_variable c d ≡ true → (v : ℕ) × (mentions c v ≡ true) × (mentions d v ≡ true)
 shared c d e =
     let w = literal_passing (λ l. mentions d (variable l)) c e in
-    (variable w.0, any_literal (λ l. variable l == variable w.0) c w.0 w.1 (eq-eqb (variable w.0) (variable w.0) refl), w.2)
+    (variable w.0, passes_one (λ l. variable l == variable w.0) c w.0 w.1 (eq-eqb (variable w.0) (variable w.0) refl), w.2)
 
 -- a chain goes on to a neighbour
 leads_more : (F : Cnf) (p q r : ℕ) (chain : List ℕ) → Leads F p chain q → share_variable (clause_at F q) (clause_at F r) ≡ true → Leads F p (chain ++ r ∷ []) r

@@ -22,7 +22,7 @@ use Rattle.lk_model.proofs.Booleans.{or_true, or_false, or_left, or_right}
 use Rattle.lk_model.proofs.Rising.{rises, bounded}
 use Rattle.lk_model.proofs.Counting.{among-range}
 use Rattle.lk_model.proofs.Founds.{is_position}
-use Rattle.lk_model.proofs.Variables.{occurs, literal_passing}
+use Rattle.lk_model.proofs.Variables.{occurs, literal_passing, position_with}
 use Rattle.kernel_laws.specs.General.JoinLaw.{IsCertified, joined, moved, renumbered}
 use Rattle.kernel_laws.specs.General.GeneralResults.{IsGeneralResult, AreGeneralResults, all_joined, AreJoined}
 use Rattle.kernel_laws.proofs.General.PartLaws as part
@@ -32,7 +32,7 @@ use Rattle.kernel_laws.proofs.General.Stated.{NoneIn}
 use Rattle.kernel_laws.proofs.General.Renumbering.{stay, same_rounds}
 use Rattle.kernel_laws.proofs.General.JoinLaws.{joined_certified, steps_joined, misstated_none, none_misstated, rising, occurs_either}
 use Rattle.kernel_laws.proofs.General.SetUnions.{satisfied_where_same}
-use Rattle.kernel_laws.proofs.Occurrences.{in_positions, position_with, occurs_more}
+use Rattle.kernel_laws.proofs.Occurrences.{in_positions, occurs_more}
 use Rattle.kernel_laws.proofs.Clauses.{mentions_of}
 
 -- PARTS WITH NO COMMON VARIABLE

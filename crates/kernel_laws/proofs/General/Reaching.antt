@@ -1,5 +1,5 @@
 -- Nothing that a refutation uses is touched.
-use Rattle.std.proofs.Common.{◌≡◌, ℕ, ◌≤◌, Bool, true, false, cond, not, ◌==◌, List, [], ◌∷◌, ◌++◌, refl, ◌∙◌, subst, ℤ, Some, ◌⊎◌, inl, inr, length, arith, append_assoc}
+use Rattle.std.proofs.Common.{◌≡◌, ℕ, ◌≤◌, Bool, true, false, cond, not, ◌==◌, List, [], ◌∷◌, ◌++◌, refl, ◌∙◌, subst, ℤ, Some, inl, inr, length, arith, append_assoc}
 use Rattle.std.specs.List.{list_all}
 use Rattle.std.proofs.lemmas.Bool.{eqb-true, not-false}
 use Rattle.lk_model.specs.Lists.{among, is_empty}
@@ -9,7 +9,8 @@ use Rattle.lk_model.specs.Chains.Chain.{clause_named, names_of, states_its_claus
 use Rattle.lk_model.specs.Chains.Rounds.{StepAt, reached, is_refutation}
 use Rattle.lk_model.specs.Formulas.Assignment.{Assignment, touches}
 use Rattle.lk_model.specs.declared.document.Step.{Step}
-use Rattle.lk_model.proofs.Booleans.{and_true, or_true, or_left, or_right}
+use Rattle.lk_model.proofs.Booleans.{and_true, or_true}
+use Rattle.lk_model.proofs.Lists.{among_either}
 use Rattle.kernel_laws.proofs.General.Touching.{IsFair}
 use Rattle.kernel_laws.proofs.General.Chains.{AreFair, IsUntouched, are_real, IsFairStep, fair_step}
 use Rattle.kernel_laws.proofs.General.Numbering.{AreRising, AreBelow, below_more, premises_in, named_kept, named_either, named_itself}
@@ -81,14 +82,6 @@ names_untouched φ F part blocked whole earlier low s steps h free k m =
 empty_free : (φ : Assignment) (c : List ℤ) → is_empty c ≡ true → touches φ c ≡ false
 empty_free φ [] e = refl
 empty_free φ (l ∷ c) e = absurd (let f : ⊥ = cc in f)
-
--- a number of two lists together is one of either
-pub among_either : (ns ms : List ℕ) (k : ℕ) → among (ns ++ ms) k ≡ true → (among ns k ≡ true) ⊎ (among ms k ≡ true)
-among_either [] ms k e = inr e
-among_either (n ∷ ns) ms k e = elim (or_true (n == k) (among (ns ++ ms) k) e) [
-  | inl here ↦ inl (or_left (n == k) (among ns k) here)
-  | inr more ↦ elim (among_either ns ms k more) [ inl there ↦ inl (or_right (n == k) (among ns k) there) | inr there ↦ inr there ]
-]
 
 -- what is reached backwards from an empty last clause is not touched
 pub reached_untouched : (φ : Assignment) (F : Cnf) (part : List ℕ) (blocked : Variables) (whole earlier : List Step) (low : ℕ) (steps : List Step)

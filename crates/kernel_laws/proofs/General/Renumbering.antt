@@ -12,10 +12,10 @@ use Rattle.lk_model.specs.declared.document.Turn.{Turn}
 use Rattle.lk_model.specs.declared.document.Step.{Step}
 use Rattle.lk_model.specs.declared.document.Round.{Round}
 use Rattle.lk_model.proofs.Booleans.{or_right}
+use Rattle.lk_model.proofs.Lists.{among_here}
 use Rattle.kernel_laws.specs.General.JoinLaw.{renumbered_turn, renumbered, renumbered_round}
 use Rattle.kernel_laws.proofs.General.Chains.{turned, chained, stated}
 use Rattle.kernel_laws.proofs.General.Numbering.{premises_in, clause_of, named_position}
-use Rattle.kernel_laws.proofs.Tests.{among_here}
 
 -- numbers stay apart, those up to m stay, and those past m stay past it
 pub record IsRenumbering (m : ℕ) (f : ℕ → ℕ) : Type 0 where

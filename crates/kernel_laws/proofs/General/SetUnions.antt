@@ -4,8 +4,10 @@ use Rattle.std.proofs.lemmas.Bool.{both_ways, false_from_ne_true}
 use Rattle.lk_model.specs.Formulas.Literal.{variable, contains, mentions}
 use Rattle.lk_model.specs.Formulas.Assignment.{assignment_of, makes_true, satisfies}
 use Rattle.lk_model.proofs.Booleans.{or_true}
-use Rattle.lk_model.proofs.Variables.{any_literal, literal_passing}
-use Rattle.kernel_laws.proofs.Clauses.{variable_complement, mentions_of}
+use Rattle.lk_model.proofs.Variables.{literal_passing}
+use Rattle.lk_model.proofs.ListTests.{passes_one}
+use Rattle.lk_model.proofs.Literals.{variable_complement}
+use Rattle.kernel_laws.proofs.Clauses.{mentions_of}
 use Rattle.kernel_laws.proofs.Assignments.{satisfied_at, satisfying}
 
 -- a variable that is set is mentioned
@@ -67,6 +69,6 @@ pub mentioned_either : (ls ms ns : List ℤ) (v : ℕ) → ((k : ℤ) → contai
 mentioned_either ls ms ns v union e =
     let w = literal_passing (λ l. variable l == v) ns e in
     elim (or_true (contains ls w.0) (contains ms w.0) (sym (union w.0) ∙ w.1)) [
-      | inl m ↦ inl (any_literal (λ l. variable l == v) ls w.0 m w.2)
-      | inr m ↦ inr (any_literal (λ l. variable l == v) ms w.0 m w.2)
+      | inl m ↦ inl (passes_one (λ l. variable l == v) ls w.0 m w.2)
+      | inr m ↦ inr (passes_one (λ l. variable l == v) ms w.0 m w.2)
     ]

@@ -1,5 +1,5 @@
 -- What a test says of the steps of rounds, step by step.
-use Rattle.std.proofs.Common.{◌≡◌, ℕ, Bool, true, false, cond, List, [], ◌∷◌, ◌++◌, refl, Option, Some, None, map, find, option_map}
+use Rattle.std.proofs.Common.{◌≡◌, ℕ, Bool, true, false, cond, List, [], ◌∷◌, ◌++◌, refl, Some, None, map, find}
 use Rattle.std.specs.Prelude.{⊤}
 use Rattle.std.specs.List.{list_all}
 use Rattle.lk_model.specs.Lists.{with_earlier}
@@ -52,11 +52,6 @@ none_in t F part blocked [] e = tt
 none_in t F part blocked (r ∷ rounds) e =
     let both = none_of t F part blocked [] r.steps (steps_in_rounds F part (blocked_after_round F blocked r) rounds) e in
     (both.0, none_in t F part (blocked_after_round F blocked r) rounds both.1)
-
--- no number of a place, no place
-pub nowhere : {X Y : Type 0} (f : X → Y) (o : Option X) → option_map f o ≡ None → o ≡ None
-nowhere f None e = refl
-nowhere f (Some x) e = absurd (let g : ⊥ = cc in g)
 
 -- THE CONVERSE
 

@@ -10,7 +10,8 @@ use Rattle.lk_model.specs.Chains.Rounds.{is_refutation, variables_used, blocked_
 use Rattle.lk_model.specs.declared.document.Round.{Round}
 use Rattle.lk_model.proofs.Booleans.{or_left, or_right}
 use Rattle.lk_model.proofs.Counting.{Differ-filter, Differ-range, no_more, fewer, in_filter, from_filter}
-use Rattle.lk_model.proofs.Variables.{in_variables, variable_bound, any_literal}
+use Rattle.lk_model.proofs.Variables.{in_variables, variable_bound}
+use Rattle.lk_model.proofs.ListTests.{passes_one}
 use Rattle.kernel_laws.proofs.Clauses.{from_filtered}
 use Rattle.kernel_laws.proofs.General.Blocking.{used_at}
 
@@ -44,7 +45,7 @@ used_open F blocked r v form m =
     let at = used_at F blocked r v m in
     let both = from_filtered (λ l. not (blocked (variable l))) (clause_at F at.position) at.literal at.held in
     let there : mentions (clause_at F at.position) (variable at.literal) ≡ true =
-    any_literal (λ l. variable l == variable at.literal) (clause_at F at.position) at.literal both.1 (eq-eqb (variable at.literal) (variable at.literal) refl) in
+    passes_one (λ l. variable l == variable at.literal) (clause_at F at.position) at.literal both.1 (eq-eqb (variable at.literal) (variable at.literal) refl) in
     subst (λ (w : ℕ). among (unblocked F.vars blocked) w ≡ true) at.on
     (in_filter (λ v. not (blocked v)) (up_to F.vars) (variable at.literal) both.0 (in_variables F.vars (variable at.literal) (variable_bound F at.position (variable at.literal) form there)))
 

@@ -13,16 +13,16 @@ use Rattle.lk_model.specs.Checks.RoundChecks.{bad_step, not_learned}
 use Rattle.lk_model.specs.declared.document.Step.{Step}
 use Rattle.lk_model.specs.declared.document.Round.{Round}
 use Rattle.lk_model.proofs.Booleans.{and_true, or_left}
-use Rattle.lk_model.proofs.ListTests.{passes_each, passes_among}
+use Rattle.lk_model.proofs.ListTests.{passes_each, passes_among, passes_one, passing}
 use Rattle.lk_model.proofs.Counting.{among-range}
 use Rattle.lk_model.proofs.Rising.{bounded}
-use Rattle.lk_model.proofs.Variables.{any_literal}
+use Rattle.lk_model.proofs.Literals.{int_self}
+use Rattle.lk_model.proofs.Founds.{option_map-none}
 use Rattle.kernel_laws.specs.General.JoinLaw.{IsApart}
-use Rattle.kernel_laws.proofs.Clauses.{int_self, from_filtered}
-use Rattle.kernel_laws.proofs.Tests.{passing}
+use Rattle.kernel_laws.proofs.Clauses.{from_filtered}
 use Rattle.kernel_laws.proofs.General.Chains.{stated}
 use Rattle.kernel_laws.proofs.General.Numbering.{premises_in, named_first}
-use Rattle.kernel_laws.proofs.General.Stated.{NoneOf, NoneIn, none_in, find_in, nowhere}
+use Rattle.kernel_laws.proofs.General.Stated.{NoneOf, NoneIn, none_in, find_in}
 use Rattle.kernel_laws.proofs.General.Reaching.{is_misstated}
 use Rattle.kernel_laws.proofs.General.Passing.{Passes, AllPass, StepsPass, steps_pass}
 use Rattle.kernel_laws.proofs.General.Learning.{is_unlearned}
@@ -42,7 +42,7 @@ apart_not_within F part blocked p c apart out pass = at_clause (crossed_out bloc
         let first : contains (l ∷ d) l ≡ true = or_left _ (contains d l) (int_self l) in
         let there = (from_filtered (λ k. not (blocked (variable k))) (clause_at F p) l (subst (λ (x : List ℤ). contains x l ≡ true) (sym e) first)).1 in
         let held : contains c l ≡ true = passes_each (contains c) (l ∷ d) l w first in
-        let on : mentions (clause_at F p) (variable l) ≡ true = any_literal (λ k. variable k == variable l) (clause_at F p) l there (eq-eqb (variable l) (variable l) refl) in
+        let on : mentions (clause_at F p) (variable l) ≡ true = passes_one (λ k. variable k == variable l) (clause_at F p) l there (eq-eqb (variable l) (variable l) refl) in
         both_ways (mentions (clause_at F p) (variable l)) (apart p (variable l) out (pass l held)) on)
 
 -- so what is learned over the part is learned over all positions
@@ -107,7 +107,7 @@ unfolding bad_step not_learned
 over_all F base part rounds rise apart stated learned =
     let both = rounds_over_all F part base rounds apart
     (λ p m. let b = bounded 0 (length F.clauses) part p rise m in let most = b.1 in among-range 1 (length F.clauses) p b.0 (omega (arith, most)))
-    (none_in is_misstated F part base rounds (nowhere _ _ stated)) (none_in is_unlearned F part base rounds (nowhere _ _ learned)) in (
+    (none_in is_misstated F part base rounds (option_map-none _ _ stated)) (none_in is_unlearned F part base rounds (option_map-none _ _ learned)) in (
       ap (option_map (λ (s : StepAt). s.step.number)) (find_in is_misstated F (positions_of F) base rounds both.0),
       ap (option_map (λ (s : StepAt). s.step.number)) (find_in is_unlearned F (positions_of F) base rounds both.1),
     )

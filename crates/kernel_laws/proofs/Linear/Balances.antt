@@ -15,8 +15,9 @@ use Rattle.lk_model.proofs.Counting.{Differ-range}
 use Rattle.lk_model.proofs.Variables.{in_variables}
 use Rattle.lk_model.proofs.Flags.{same_false}
 use Rattle.lk_model.proofs.Clauses.{form_at}
-use Rattle.kernel_laws.proofs.Linear.Sums.{mul_add, mul_swap, sum_same, sum_zero, sum_plus, sum_times, sum_exchange, sum_one}
-use Rattle.kernel_laws.proofs.Clauses.{variable_complement}
+use Rattle.lk_model.proofs.Literals.{variable_complement}
+use Rattle.lk_model.proofs.Products.{mul_add, mul_swap}
+use Rattle.kernel_laws.proofs.Linear.Sums.{sum_same, sum_zero, sum_plus, sum_times, sum_exchange, sum_one}
 
 -- INCIDENCES
 

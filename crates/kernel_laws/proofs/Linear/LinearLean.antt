@@ -14,11 +14,13 @@ use Rattle.lk_model.specs.Formulas.Autarky.{first_sign, first_balance}
 use Rattle.lk_model.specs.Formulas.Lean.{IsLean}
 use Rattle.lk_model.proofs.Booleans.{or_left, or_right}
 use Rattle.lk_model.proofs.Counting.{Differ-range}
-use Rattle.lk_model.proofs.Variables.{any_literal, literal_passing, occurs}
+use Rattle.lk_model.proofs.Variables.{literal_passing, occurs}
+use Rattle.lk_model.proofs.ListTests.{passes_one}
+use Rattle.lk_model.proofs.Literals.{variable_complement}
+use Rattle.lk_model.proofs.Products.{times_least}
 use Rattle.kernel_laws.proofs.Occurrences.{occurring, occurs_here}
-use Rattle.kernel_laws.proofs.Linear.Sums.{cancel_zero, times_least, sum_zero, sum_none, sum_one}
+use Rattle.kernel_laws.proofs.Linear.Sums.{cancel_zero, sum_zero, sum_none, sum_one}
 use Rattle.kernel_laws.proofs.Linear.Balances.{balances_exchanged, unweighted_balance, is_nonzero_zero}
-use Rattle.kernel_laws.proofs.Clauses.{variable_complement}
 
 -- what stands in a list is among its numbers
 pub among_in : (vs : List ℕ) (v : ℕ) → Contains vs v → among vs v ≡ true
@@ -29,14 +31,14 @@ among_in (w ∷ vs) v (suc k, lt, e) = or_right (w == v) (among vs v) (among_in 
 -- A VARIABLE THAT DOES NOT OCCUR
 
 -- a clause without the variable has no incidence in it
-incidence_absent : (c : List ℤ) (v : ℕ) → mentions c v ≡ false → incidence c v ≡ pos 0
+pub incidence_absent : (c : List ℤ) (v : ℕ) → mentions c v ≡ false → incidence c v ≡ pos 0
 incidence_absent c v e =
     let first : contains c (pos v) ≡ false = absent (pos v) refl in
     let second : contains c (complement (pos v)) ≡ false = absent (complement (pos v)) (variable_complement (pos v)) in
     rw (first, second) refl
   where
     absent : (l : ℤ) → variable l ≡ v → contains c l ≡ false
-    absent l s = false_from_ne_true (contains c l) (λ t. both_ways (mentions c v) e (any_literal (λ k. variable k == v) c l t (eq-eqb (variable l) v s)))
+    absent l s = false_from_ne_true (contains c l) (λ t. both_ways (mentions c v) e (passes_one (λ k. variable k == v) c l t (eq-eqb (variable l) v s)))
 
 -- so numbers at kept positions balance to 0 in a variable that does not occur there
 pub balance_absent : (F : Cnf) (kept : List ℕ) (xs : List (ℕ × ℤ)) (v : ℕ) → ((x : ℕ × ℤ) → Contains xs x → among kept x.0 ≡ true)

@@ -22,7 +22,8 @@ use Rattle.lk_model.proofs.Rising.{bounded}
 use Rattle.lk_model.proofs.Founds.{none_to, none_at, up_to_bounds}
 use Rattle.lk_model.proofs.Keys.{key_missing}
 use Rattle.lk_model.proofs.Variables.{in_variables}
-use Rattle.kernel_laws.proofs.Clauses.{variable_complement, variables_among}
+use Rattle.lk_model.proofs.Literals.{variable_complement}
+use Rattle.kernel_laws.proofs.Clauses.{variables_among}
 
 -- OUTSIDE THE VARIABLES
 

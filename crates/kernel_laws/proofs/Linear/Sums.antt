@@ -1,5 +1,4 @@
 -- Finite sums of whole numbers, and products.
-use borrow.Author.Differences.{up, down}
 use Rattle.std.proofs.Common.{◌≡◌, ◌≢◌, ℕ, zero, suc, ◌+◌, ◌*◌, Bool, true, false, ◌||◌, ◌==◌, List, [], ◌∷◌, map, ℤ, pos, negsuc, ◌+ℤ◌, ◌*ℤ◌, ◌≤ℤ◌, refl, sym, ap, ◌∙◌, subst, arith, Contains}
 use Rattle.std.proofs.lemmas.Int.{ints}
 use Rattle.std.proofs.lemmas.Bool.{eqb-true, eq-eqb}
@@ -8,42 +7,14 @@ use Rattle.lk_model.specs.Lists.{sum_of, among}
 use Rattle.lk_model.proofs.Booleans.{or_false, or_right}
 use Rattle.lk_model.proofs.Counting.{Differ, more}
 use Rattle.lk_model.proofs.Keys.{first_in, later_in}
-use Rattle.kernel_laws.proofs.Tests.{among_here}
+use Rattle.lk_model.proofs.Lists.{among_here}
+use Rattle.lk_model.proofs.Products.{mul_add}
 
 -- PRODUCTS
-
--- a product with a sum
-pub mul_add : (a b c : ℤ) → a *ℤ (b +ℤ c) ≡ a *ℤ b +ℤ a *ℤ c
-mul_add a b c =
-    let e : up (b +ℤ c) + (down b + down c) ≡ down (b +ℤ c) + (up b + up c) = omega (arith, ints) in
-    let f = ap (λ n. up a * n) e in
-    let g = ap (λ n. down a * n) e in
-    omega (arith, ints, f, g)
 
 -- a sum with a product
 pub add_mul : (a b c : ℤ) → (a +ℤ b) *ℤ c ≡ a *ℤ c +ℤ b *ℤ c
 add_mul a b c = *ℤ_comm (a +ℤ b) c ∙ mul_add c a b ∙ ap (λ z. z +ℤ c *ℤ b) (*ℤ_comm c a) ∙ ap (λ z. a *ℤ c +ℤ z) (*ℤ_comm c b)
-
--- a product of three
-pub mul_assoc : (a b c : ℤ) → a *ℤ b *ℤ c ≡ a *ℤ (b *ℤ c)
-mul_assoc a b c =
-    let e : up (a *ℤ b) + (up a * down b + down a * up b) ≡ down (a *ℤ b) + (up a * up b + down a * down b) = omega (arith, ints) in
-    let f : up (b *ℤ c) + (up b * down c + down b * up c) ≡ down (b *ℤ c) + (up b * up c + down b * down c) = omega (arith, ints) in
-    let e1 = ap (λ n. up c * n) e in
-    let e2 = ap (λ n. down c * n) e in
-    let f1 = ap (λ n. up a * n) f in
-    let f2 = ap (λ n. down a * n) f in
-    omega (arith, ints, e1, e2, f1, f2)
-
--- a factor moves past another one
-pub mul_swap : (a b c : ℤ) → a *ℤ (b *ℤ c) ≡ b *ℤ (a *ℤ c)
-mul_swap a b c = sym (mul_assoc a b c) ∙ ap (λ z. z *ℤ c) (*ℤ_comm a b) ∙ mul_assoc b a c
-
--- a product of numbers that are not negative is not
-pub times_least : (c x : ℤ) → pos 0 ≤ℤ c → pos 0 ≤ℤ x → pos 0 ≤ℤ (c *ℤ x)
-times_least (pos c) (pos x) h k = omega (arith, ints)
-times_least (negsuc c) x h k = absurd (omega (arith, ints, h))
-times_least (pos c) (negsuc x) h k = absurd (omega (arith, ints, k))
 
 -- a product of numbers above 0 is not 0
 some_product : (c x : ℕ) → suc c * suc x ≡ 0 → ⊥

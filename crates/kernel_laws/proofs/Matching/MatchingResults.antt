@@ -18,8 +18,9 @@ use Rattle.lk_model.specs.Checks.MatchingChecks.{owner_fails, bad_row, row_fails
 use Rattle.lk_model.proofs.Booleans.{and_true}
 use Rattle.lk_model.proofs.Counting.{in_filter, among-filter}
 use Rattle.lk_model.proofs.Founds.{none_found}
-use Rattle.lk_model.proofs.Variables.{any_mono, any_literal, literal_passing, variable_bound}
+use Rattle.lk_model.proofs.Variables.{any_mono, literal_passing, variable_bound}
 use Rattle.lk_model.proofs.Keys.{key_found, key_missing, key_among, none_passes}
+use Rattle.lk_model.proofs.ListTests.{passes_one}
 use Rattle.kernel_laws.specs.Matching.MatchingResults.{IsMatchingResult, own_literal, literal_on, set_line, matching_document, PassesWithin}
 use Rattle.kernel_laws.proofs.Assignments.{set_where_true}
 use Rattle.kernel_laws.proofs.FirstChecks.{same_formula, same_lines, removal_at}
@@ -81,11 +82,11 @@ no_own F part r p h kept = key_missing (λ (o : Own). o.pos) r.own p
 -- a removed clause has a true literal on its own variable
 pub holds_own : (F : Cnf) (part : List ℕ) (r : MatchingResult) (p : ℕ) → (w : HasOwn F r p)
     → list_any (λ l. makes_true (assignment_of (set_line F r.own)) l && (variable l == w.line.var)) (clause_at F p) ≡ true
-holds_own F part r p w = any_literal _ (clause_at F p) w.literal w.stands (rw (w.is_true, eq-eqb (variable w.literal) w.line.var w.on) refl)
+holds_own F part r p w = passes_one _ (clause_at F p) w.literal w.stands (rw (w.is_true, eq-eqb (variable w.literal) w.line.var w.on) refl)
 
 -- so it is touched and satisfied
 removed_satisfied : (F : Cnf) (part : List ℕ) (r : MatchingResult) (p : ℕ) → HasOwn F r p → satisfies (set_of F r) (clause_at F p) ≡ true
-removed_satisfied F part r p w = any_literal (makes_true (set_of F r)) (clause_at F p) w.literal w.stands w.is_true
+removed_satisfied F part r p w = passes_one (makes_true (set_of F r)) (clause_at F p) w.literal w.stands w.is_true
 
 removed_touched : (F : Cnf) (part : List ℕ) (r : MatchingResult) (p : ℕ) → HasOwn F r p → touches (set_of F r) (clause_at F p) ≡ true
 removed_touched F part r p w = any_mono (makes_true (set_of F r)) (λ l. is_some (set_of F r (variable l))) (clause_at F p)
@@ -97,7 +98,7 @@ kept_untouched : (F : Cnf) (part : List ℕ) (r : MatchingResult) (p : ℕ) → 
 kept_untouched F part r p h kept = false_from_ne_true (touches (set_of F r) (clause_at F p)) (λ t.
     let l = literal_passing (λ l. is_some (set_of F r (variable l))) (clause_at F p) t in
     let w = key_found (λ (o : Own). o.var) r.own (variable l.0) (set_owned F r.own (variable l.0) l.2) in
-    let there : mentions (clause_at F p) w.value.var ≡ true = any_literal (λ k. variable k == w.value.var) (clause_at F p) l.0 l.1 (eq-eqb (variable l.0) w.value.var (sym w.at)) in
+    let there : mentions (clause_at F p) w.value.var ≡ true = passes_one (λ k. variable k == w.value.var) (clause_at F p) l.0 l.1 (eq-eqb (variable l.0) w.value.var (sym w.at)) in
     h.owns_removed w.value p w.there kept there)
 
 -- at a position of the part the set line touches exactly what is removed

@@ -53,7 +53,7 @@ literal_on_it (k ∷ c) v l e = elim (cases_Bool (variable k == v)) [
 -- THE LITERALS OF THE LINE
 
 -- a literal of a list of chosen ones was chosen
-from_chosen : (h : ℕ → Option ℤ) (vs : List ℕ) (l : ℤ) → contains (filter_map h vs) l ≡ true → (v : ℕ) × (h v ≡ Some l)
+pub from_chosen : (h : ℕ → Option ℤ) (vs : List ℕ) (l : ℤ) → contains (filter_map h vs) l ≡ true → (v : ℕ) × (h v ≡ Some l)
 from_chosen h [] l e = absurd (let f : ⊥ = cc in f)
 from_chosen h (v ∷ vs) l e = at_choice (h v) refl e (from_chosen h vs l)
   where
@@ -65,7 +65,7 @@ from_chosen h (v ∷ vs) l e = at_choice (h v) refl e (from_chosen h vs l)
       | inr later ↦ rest later
     ]
 
-in_chosen : (h : ℕ → Option ℤ) (vs : List ℕ) (v : ℕ) (l : ℤ) → among vs v ≡ true → h v ≡ Some l → contains (filter_map h vs) l ≡ true
+pub in_chosen : (h : ℕ → Option ℤ) (vs : List ℕ) (v : ℕ) (l : ℤ) → among vs v ≡ true → h v ≡ Some l → contains (filter_map h vs) l ≡ true
 in_chosen h [] v l m e = absurd (let f : ⊥ = cc in f)
 in_chosen h (w ∷ vs) v l m e = elim (cases_Bool (w == v)) [
   | inl y ↦ rw (ap h (eqb-true w v y) ∙ e) (or_left (int_eq l l) _ ((Decides-int_eq l l).1 refl))
@@ -77,7 +77,7 @@ in_chosen h (w ∷ vs) v l m e = elim (cases_Bool (w == v)) [
     at_choice (Some k) there = or_right (int_eq l k) _ there
 
 -- chosen literals on the numbers of a range rise
-chosen_rise : (h : ℕ → Option ℤ) (low a n high : ℕ) → ((v : ℕ) (l : ℤ) → h v ≡ Some l → variable l ≡ v) → low < a → a + n ≤ high + 1
+pub chosen_rise : (h : ℕ → Option ℤ) (low a n high : ℕ) → ((v : ℕ) (l : ℤ) → h v ≡ Some l → variable l ≡ v) → low < a → a + n ≤ high + 1
     → rises_within low high (map variable (filter_map h (range_with_len a n))) ≡ true
 chosen_rise h low a zero high on above within = refl
 chosen_rise h low a (suc n) high on above within = at_choice (h a) refl

@@ -7,7 +7,7 @@ use Rattle.std.proofs.Math.Bool.{and_self_left}
 use Rattle.lk_model.specs.declared.class.Class.{Class}
 use Rattle.lk_model.specs.declared.class.Class.TheVariants.{Pure, Matching, Linear, General}
 use Rattle.lk_model.specs.Lists.{among, is_between, is_nonzero, rises_within}
-use Rattle.lk_model.specs.Formulas.Literal.{variable, complement, contains, is_distinct}
+use Rattle.lk_model.specs.Formulas.Literal.{variable, complement, contains}
 use Rattle.lk_model.specs.Formulas.Formula.{Cnf, clause_at}
 use Rattle.lk_model.specs.Formulas.Crossed.{Variables, crossed_out, formula_without}
 use Rattle.lk_model.specs.Formulas.Balance.{Weighting, balance}
@@ -17,9 +17,9 @@ use Rattle.lk_model.specs.Formulas.Lean.{IsLean, Kernel, all_of}
 use Rattle.lk_model.specs.Formulas.Protected.{SetsNone, IsLeanUnder, KernelUnder}
 use Rattle.lk_model.proofs.Booleans.{and_true}
 use Rattle.lk_model.proofs.Founds.{all_literals}
-use Rattle.lk_model.proofs.Crossings.{contains_crossed}
+use Rattle.lk_model.proofs.Crossings.{contains_crossed, distinct_crossed}
+use Rattle.lk_model.proofs.Literals.{variable_complement}
 use Rattle.kernel_laws.specs.Protected.CarryLaw.{restricted, AutarkyLaw}
-use Rattle.kernel_laws.proofs.Clauses.{variable_complement}
 use Rattle.kernel_laws.proofs.Assignments.{set_where_true}
 use Rattle.kernel_laws.proofs.Protected.Crossing.{same_count, clause_without, any_crossed, any_kept}
 use Rattle.kernel_laws.proofs.Tests.{any_same}
@@ -309,17 +309,6 @@ satisfies_restricted P φ c =
   where
     at_literal : (l : ℤ) → (not (P (variable l)) && makes_true (restricted P φ) l) ≡ (not (P (variable l)) && makes_true φ l)
     at_literal l = ap (λ (b : Bool). not (P (variable l)) && b) (true_restricted P φ l) ∙ and_self_left (not (P (variable l))) (makes_true φ l)
-
--- the literals of an order outside P, each once
-pub distinct_crossed : (P : Variables) (ls : List ℤ) → is_distinct ls ≡ true → is_distinct (crossed_out P ls) ≡ true
-distinct_crossed P [] d = refl
-distinct_crossed P (l ∷ ls) d =
-    let both = and_true (not (contains ls l)) (is_distinct ls) d in
-    let rest = distinct_crossed P ls both.1 in
-    elim (cases_Bool (P (variable l))) [
-      | inl y ↦ rw y rest
-      | inr n ↦ rw n (and_from (not (contains (crossed_out P ls) l)) (is_distinct (crossed_out P ls)) (ap not (held_crossed P ls l n) ∙ both.0) rest)
-    ]
 
 -- a crossed clause holds one of some literals where it holds one of those outside P
 any_outside : (P : Variables) (c ls : List ℤ) → list_any (contains (crossed_out P c)) (crossed_out P ls) ≡ list_any (contains (crossed_out P c)) ls

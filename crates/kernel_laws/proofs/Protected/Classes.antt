@@ -26,8 +26,8 @@ use Rattle.lk_model.specs.declared.verdict.Kind.TheVariants.{BadOwner, BadPair, 
 use Rattle.lk_model.specs.Formulas.Protected.{SetsNone}
 use Rattle.lk_model.specs.Formulas.PureRun.{occurs_outside}
 use Rattle.lk_model.proofs.Booleans.{and_true}
+use Rattle.lk_model.proofs.Literals.{variable_complement}
 use Rattle.kernel_laws.specs.Protected.Without.{document_without}
-use Rattle.kernel_laws.proofs.Clauses.{variable_complement}
 use Rattle.kernel_laws.proofs.Protected.Crossing.{same_positions, clause_without, mentions_crossed, occurs_without}
 use Rattle.kernel_laws.proofs.Tests.{any_same}
 use Rattle.kernel_laws.proofs.Protected.Autarkies.{owns_crossed, held_crossed}

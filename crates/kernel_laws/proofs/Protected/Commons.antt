@@ -19,8 +19,8 @@ use Rattle.lk_model.specs.declared.verdict.Kind.TheVariants.{OtherFormula, NotAu
 use Rattle.lk_model.specs.Formulas.Protected.{SetsNone}
 use Rattle.lk_model.proofs.Booleans.{and_true}
 use Rattle.lk_model.proofs.Founds.{none_found, none_to, same_itself}
+use Rattle.lk_model.proofs.Literals.{same_int}
 use Rattle.kernel_laws.specs.Protected.Without.{document_without, open_without}
-use Rattle.kernel_laws.proofs.Clauses.{same_int}
 use Rattle.kernel_laws.proofs.Lines.{none_among}
 use Rattle.kernel_laws.proofs.Protected.Crossing.{same_count, same_positions, clause_without}
 use Rattle.kernel_laws.proofs.Protected.Autarkies.{touched_without, satisfied_without, set_outside}

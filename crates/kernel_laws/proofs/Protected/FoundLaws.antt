@@ -37,7 +37,7 @@ use Rattle.lk_model.proofs.Founds.{none_to, all_literals}
 use Rattle.lk_model.proofs.Keys.{key_found}
 use Rattle.lk_model.proofs.ListTests.{passes_each}
 use Rattle.lk_model.proofs.Crossings.{formula_form, fewer_literals}
-use Rattle.kernel_laws.specs.ClauseLines.{clauses_at}
+use Rattle.lk_model.specs.Formulas.Formula.{clauses_at}
 use Rattle.kernel_laws.specs.Matching.MatchingResults.{IsMatchingResult, set_line, matching_document}
 use Rattle.kernel_laws.specs.General.GeneralResults.{IsGeneralResult, general_document}
 use Rattle.kernel_laws.specs.Protected.Without.{document_without, open_without}

@@ -20,8 +20,8 @@ use Rattle.lk_model.specs.declared.verdict.Kind.TheVariants.{BadOrder, BadStage}
 use Rattle.lk_model.specs.Formulas.Protected.{SetsNone}
 use Rattle.lk_model.proofs.Booleans.{and_true}
 use Rattle.lk_model.proofs.Founds.{none_to}
+use Rattle.lk_model.proofs.Literals.{variable_complement}
 use Rattle.kernel_laws.specs.Protected.Without.{document_without}
-use Rattle.kernel_laws.proofs.Clauses.{variable_complement}
 use Rattle.kernel_laws.proofs.Pure.Orders.{is_bad_place}
 use Rattle.kernel_laws.proofs.Protected.Crossing.{same_positions, clause_without}
 use Rattle.kernel_laws.proofs.Protected.Autarkies.{masked, all_masked, first_balance_crossed, held_crossed}

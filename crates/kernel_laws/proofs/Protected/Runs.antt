@@ -14,7 +14,7 @@ use Rattle.lk_model.specs.Formulas.Protected.{SetsNone}
 use Rattle.lk_model.proofs.Booleans.{and_true}
 use Rattle.lk_model.proofs.ListTests.{passes_each}
 use Rattle.lk_model.proofs.Crossings.{contains_crossed}
-use Rattle.kernel_laws.proofs.Clauses.{variable_complement}
+use Rattle.lk_model.proofs.Literals.{variable_complement}
 use Rattle.kernel_laws.proofs.Lines.{found_passes}
 use Rattle.kernel_laws.proofs.Protected.Crossing.{same_count, clause_without, occurs_without}
 use Rattle.kernel_laws.proofs.Protected.Autarkies.{touched_without}

@@ -9,8 +9,8 @@ use Rattle.lk_model.specs.Formulas.Formula.{Cnf, clause_at}
 use Rattle.lk_model.specs.Formulas.Autarky.{Positions, HasEarlier}
 use Rattle.lk_model.specs.Formulas.Lean.{IsLean}
 use Rattle.lk_model.proofs.Booleans.{or_true, or_false}
+use Rattle.lk_model.proofs.Literals.{same_int}
 use Rattle.kernel_laws.specs.Pure.PureLaw.{StandsIn}
-use Rattle.kernel_laws.proofs.Clauses.{same_int}
 use Rattle.kernel_laws.proofs.Assignments.{touching, true_literal}
 
 -- each literal that stands in the set has its complement there

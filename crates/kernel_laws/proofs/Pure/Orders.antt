@@ -13,12 +13,11 @@ use Rattle.lk_model.specs.Formulas.Autarky.{HasEarlier, IsPureAutarky}
 use Rattle.lk_model.specs.Formulas.Lean.{all_of}
 use Rattle.lk_model.specs.Checks.PureChecks.{breaks_order, bad_order}
 use Rattle.lk_model.specs.declared.document.DoneDocument.{DoneDocument}
-use Rattle.lk_model.proofs.Booleans.{or_true, or_false}
-use Rattle.lk_model.proofs.Literals.{int_eq-same, new_at}
+use Rattle.lk_model.proofs.Booleans.{or_true, or_false, same_tests}
+use Rattle.lk_model.proofs.Literals.{int_eq-same, new_at, same_int, int_self}
 use Rattle.lk_model.proofs.Founds.{none_found, none_to, none_clause, no_clause, up_to_bounds, all_literals}
 use Rattle.lk_model.proofs.ListTests.{passes_each}
 use Rattle.kernel_laws.specs.Pure.PureLaw.{IsOrderOf}
-use Rattle.kernel_laws.proofs.Clauses.{same_int, int_self}
 use Rattle.kernel_laws.proofs.ApartLiterals.{rising_apart, true_is}
 use Rattle.kernel_laws.proofs.Tests.{second_passes}
 
@@ -108,12 +107,6 @@ has_earlier F earlier (l ∷ order) h = (
     by_one a true c e = refl
     by_one true false c e = refl
     by_one false false c e = e
-
--- two tests that hold together are one
-same_tests : (a b : Bool) → (a ≡ true → b ≡ true) → (b ≡ true → a ≡ true) → a ≡ b
-same_tests true b f g = sym (f refl)
-same_tests false true f g = absurd (let e = g refl in let h : ⊥ = cc in h)
-same_tests false false f g = refl
 
 pub order_by_check : (F : Cnf) (d : DoneDocument) (order : List ℤ) → (bad_order F d order).place ≡ None → IsOrderOf F d.set order
 order_by_check F d order none =

@@ -20,9 +20,8 @@ use Rattle.lk_model.specs.Checks.PureChecks.{bad_pair}
 use Rattle.lk_model.proofs.Booleans.{and_true, or_true, or_false}
 use Rattle.lk_model.proofs.Counting.{among-filter}
 use Rattle.lk_model.proofs.Founds.{none_found, first_found, pair_found, filtered_rise, up_to_bounds}
-use Rattle.lk_model.proofs.ListTests.{passes_among, literal_within, not_zero}
+use Rattle.lk_model.proofs.ListTests.{passes_among, literal_within, not_zero, passing}
 use Rattle.kernel_laws.specs.Pure.PureLaw.{StandsIn}
-use Rattle.kernel_laws.proofs.Tests.{passing}
 use Rattle.kernel_laws.proofs.Lines.{none_among, has_line}
 use Rattle.kernel_laws.proofs.Clauses.{mentions_or}
 use Rattle.kernel_laws.proofs.Occurrences.{occurring, occurs_here}

@@ -1,5 +1,5 @@
 -- A pure autarky satisfies what it touches.
-use Rattle.std.proofs.Common.{◌≡◌, ℕ, zero, suc, true, List, [], ◌∷◌, refl, ◌∙◌, ap, subst, inl, inr, ◌⊎◌, ℤ, pos, negsuc}
+use Rattle.std.proofs.Common.{◌≡◌, ℕ, true, List, [], ◌∷◌, ◌∙◌, ap, subst, inl, inr, ◌⊎◌, ℤ}
 use Rattle.std.specs.Ordering.{int_eq}
 use Rattle.lk_model.specs.Formulas.Literal.{complement, contains}
 use Rattle.lk_model.specs.Formulas.Formula.{Cnf, clause_at, is_formula}
@@ -8,13 +8,8 @@ use Rattle.lk_model.specs.Formulas.Autarky.{Positions, HasEarlier, IsAutarky, Is
 use Rattle.lk_model.proofs.Booleans.{or_true, or_left, or_right}
 use Rattle.lk_model.proofs.Variables.{literal_passing}
 use Rattle.lk_model.proofs.ListTests.{literal_within, not_zero}
-use Rattle.kernel_laws.proofs.Clauses.{same_int}
+use Rattle.lk_model.proofs.Literals.{same_int, complement_twice}
 use Rattle.kernel_laws.proofs.Assignments.{touching, satisfied_at, true_literal}
-
-complement_twice : (l : ℤ) → complement (complement l) ≡ l
-complement_twice (pos zero) = refl
-complement_twice (pos (suc k)) = refl
-complement_twice (negsuc k) = refl
 
 -- a clause with the complement of a literal of the order holds another literal of it, or one before it
 held_by_order : (F : Cnf) (S : Positions) (earlier order : List ℤ) → HasEarlier F S earlier order → (k : ℤ) → contains order k ≡ true → (p : ℕ) → S p ≡ true

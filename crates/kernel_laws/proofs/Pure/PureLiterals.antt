@@ -13,8 +13,9 @@ use Rattle.lk_model.specs.Formulas.Assignment.{assignment_of, touches}
 use Rattle.lk_model.specs.Formulas.PureRun.{is_pure_at, least_pure}
 use Rattle.lk_model.proofs.Booleans.{and_true}
 use Rattle.lk_model.proofs.ListTests.{passes_among}
+use Rattle.lk_model.proofs.Literals.{variable_complement}
 use Rattle.kernel_laws.proofs.Tests.{any_same, any_or}
-use Rattle.kernel_laws.proofs.Clauses.{variable_complement, mentions_or}
+use Rattle.kernel_laws.proofs.Clauses.{mentions_or}
 
 -- THE LEAST PURE LITERAL
 

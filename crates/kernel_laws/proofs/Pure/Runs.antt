@@ -15,8 +15,7 @@ use Rattle.lk_model.specs.Formulas.PureRun.{untouched, least_pure, RunsOn, IsPur
 use Rattle.lk_model.proofs.Booleans.{and_true, or_true, or_left, or_right}
 use Rattle.lk_model.proofs.Founds.{filtered_rise}
 use Rattle.lk_model.proofs.Counting.{among-filter}
-use Rattle.lk_model.proofs.ListTests.{passes_one}
-use Rattle.kernel_laws.proofs.Tests.{passing}
+use Rattle.lk_model.proofs.ListTests.{passes_one, passing}
 use Rattle.kernel_laws.proofs.Occurrences.{in_positions}
 use Rattle.kernel_laws.proofs.ApartLiterals.{AreApart, distinct, true_is}
 use Rattle.kernel_laws.proofs.Pure.PureLiterals.{least_literal, least_is_pure, no_complement, touches_is, touches_more, touches_none, mentions_is}

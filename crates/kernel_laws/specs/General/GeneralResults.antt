@@ -18,7 +18,7 @@ use Rattle.lk_model.specs.declared.document.Body.TheVariants.{General}
 use Rattle.lk_model.specs.declared.document.Round.{Round}
 use Rattle.lk_model.specs.declared.document.DoneDocument.{DoneDocument}
 use Rattle.lk_model.specs.declared.result.GeneralResult.{GeneralResult}
-use Rattle.kernel_laws.specs.ClauseLines.{clauses_at}
+use Rattle.lk_model.specs.Formulas.Formula.{clauses_at}
 use Rattle.kernel_laws.specs.General.JoinLaw.{IsCertified, joined}
 
 -- Some positions of the part are kept, and the rounds show that they are lean. The literals satisfy each other clause of

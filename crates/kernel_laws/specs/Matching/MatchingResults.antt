@@ -18,7 +18,7 @@ use Rattle.lk_model.specs.declared.document.MatchRow.{MatchRow}
 use Rattle.lk_model.specs.declared.document.Body.TheVariants.{Matching}
 use Rattle.lk_model.specs.declared.document.DoneDocument.{DoneDocument}
 use Rattle.lk_model.specs.declared.result.MatchingResult.{MatchingResult}
-use Rattle.kernel_laws.specs.ClauseLines.{clauses_at}
+use Rattle.lk_model.specs.Formulas.Formula.{clauses_at}
 
 -- the positions of a list that are not among the kept ones
 abbrev pub removed_of : List ℕ → List ℕ → List ℕ

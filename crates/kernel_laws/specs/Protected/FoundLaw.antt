@@ -13,7 +13,7 @@ use Rattle.lk_model.specs.declared.document.DoneDocument.{DoneDocument}
 use Rattle.lk_model.specs.declared.document.OpenDocument.{OpenDocument}
 use Rattle.lk_model.specs.declared.result.MatchingResult.{MatchingResult}
 use Rattle.lk_model.specs.declared.result.GeneralResult.{GeneralResult}
-use Rattle.kernel_laws.specs.ClauseLines.{clauses_at}
+use Rattle.lk_model.specs.Formulas.Formula.{clauses_at}
 use Rattle.kernel_laws.specs.Matching.MatchingResults.{IsMatchingResult, matching_document}
 use Rattle.kernel_laws.specs.General.GeneralResults.{IsGeneralResult, general_document}
 

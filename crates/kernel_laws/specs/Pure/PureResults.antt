@@ -11,7 +11,7 @@ use Rattle.lk_model.specs.declared.class.Class.TheVariants as class
 use Rattle.lk_model.specs.declared.document.Body.TheVariants.{Pure}
 use Rattle.lk_model.specs.declared.document.DoneDocument.{DoneDocument}
 use Rattle.lk_model.specs.declared.result.PureResult.{PureResult}
-use Rattle.kernel_laws.specs.ClauseLines.{clauses_at}
+use Rattle.lk_model.specs.Formulas.Formula.{clauses_at}
 
 -- the literals of the pure run, the positions that they leave untouched, and the least pairs of these
 pub record IsPureResult (F : Cnf) (r : PureResult) : Type 0 where

@@ -1,4 +1,4 @@
--- Which documents are in form: those that have a text.
+-- Which documents are in form: those whose text is the text of a document.
 use Rattle.std.specs.Prelude.{ℕ, ◌+◌, ◌*◌, ◌^◌, ◌-◌, Bool, true, false, not, if◌then◌else◌, ◌&&◌, ◌==◌, nat_lt, nat_le, List, [], ◌∷◌, map, length, ℤ, Option, Some, None}
 use Rattle.std.specs.List.{list_all}
 use Rattle.lk_model.specs.Lists.{is_empty, is_between, is_nonzero, rises_within}

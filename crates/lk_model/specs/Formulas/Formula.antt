@@ -1,6 +1,6 @@
 -- A formula in conjunctive normal form (DIMACS CNF 1993). Positions count from 1, and equal clauses at two positions are
 -- two clauses.
-use Rattle.std.specs.Prelude.{ℕ, zero, suc, ◌≤◌, Bool, ℤ, List, [], ◌∷◌, ◌++◌, length, filter, sum_by, slice_index_or}
+use Rattle.std.specs.Prelude.{ℕ, zero, suc, ◌≤◌, Bool, ℤ, List, [], ◌∷◌, ◌++◌, length, map, filter, sum_by, slice_index_or}
 use Rattle.std.specs.List.{list_any, list_all}
 use Rattle.lk_model.specs.Lists.{up_to}
 use Rattle.lk_model.specs.Limits.{max_vars, max_clauses, max_literals}
@@ -47,6 +47,14 @@ variable_occurs F ps v = list_any (λ p. mentions (clause_at F p) v) ps
 -- the variables that occur there
 abbrev pub variables_at : Cnf → List ℕ → List ℕ
 variables_at F ps = filter (variable_occurs F ps) (variables_to F.vars)
+
+-- how many variables occur in the formula
+abbrev pub occurring_count : Cnf → ℕ
+occurring_count F = length (variables_at F (positions_of F))
+
+-- the clauses at the positions, over the same variables
+abbrev pub clauses_at : Cnf → List ℕ → Cnf
+clauses_at F ps = record { vars = F.vars; clauses = map (clause_at F) ps }
 
 -- the formula with one more clause at its end
 abbrev pub with_clause : Cnf → List ℤ → Cnf

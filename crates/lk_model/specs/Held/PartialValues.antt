@@ -1,5 +1,5 @@
 -- How the code holds a partial assignment: a value for each variable that is set.
-use Rattle.std.specs.Prelude.{ℕ, zero, suc, ◌-◌, Bool, List, ℤ, Option, Some, None, slice_index_or, slice_set}
+use Rattle.std.specs.Prelude.{zero, suc, ◌-◌, Bool, List, ℤ, Option, Some, None, slice_index_or, slice_set}
 use Rattle.lk_model.specs.Formulas.Literal.{variable, is_positive}
 use Rattle.lk_model.specs.Formulas.Assignment.{Assignment}
 

@@ -1,7 +1,7 @@
 -- The linear run of a formula with a stated number of pivots.
 use Rattle.std.specs.Prelude.{ℕ, zero, suc, ◌+◌, ◌*◌, ◌^◌, Bool, true, false, ◌==◌, nat_lt, List, [], ◌∷◌, ◌++◌, length}
 use Rattle.std.specs.Option.{option_map_or}
-use Rattle.lk_model.specs.Formulas.Formula.{Cnf, positions_of, variables_at}
+use Rattle.lk_model.specs.Formulas.Formula.{Cnf, positions_of, occurring_count}
 use Rattle.lk_model.specs.Formulas.Crossed.{Variables, formula_without}
 use Rattle.lk_model.specs.Linear.Arithmetic.{first_wide}
 use Rattle.lk_model.specs.Linear.Rows.{TableauRows, start_of}
@@ -67,7 +67,7 @@ linear_run F budget = run_from (budget + length F.clauses + 1) F budget (record 
 
 -- the rows would have more than 2^24 entries
 abbrev pub is_too_large : Cnf → Bool
-is_too_large F = let r = length (variables_at F (positions_of F)) in nat_lt (2 ^ 24) ((r + 1) * (length F.clauses + r + 2))
+is_too_large F = let r = occurring_count F in nat_lt (2 ^ 24) ((r + 1) * (length F.clauses + r + 2))
 
 -- UNDER A SET P OF PROTECTED VARIABLES
 

@@ -1,5 +1,5 @@
 use Rattle.std.proofs.Common.{◌≡◌, ◌+◌, [], length, refl, ap, Some}
-use Rattle.std.proofs.lemmas.Result.{err_from_is_err_and, IfErr-weaker}
+use Rattle.std.proofs.lemmas.Result.{err_from_is_err_and, IfErr-weaker, IfOk-weaker}
 use Rattle.lk_model.specs.declared.text_fault.Fault.{Fault}
 use Rattle.dimacs_reader.specs.Contents.{lines_from}
 use Rattle.dimacs_reader.specs.FirstFaults.{fault_behind}
@@ -7,7 +7,7 @@ use Rattle.dimacs_reader.specs.ReadStates.{HasRead, HasFaultFrom, HasFaultAtEnd}
 use Rattle.dimacs_reader.specs.declared.clauses.ReadState.{ReadState}
 use Rattle.dimacs_reader.proofs.StateLemmas.{at_first}
 use Rattle.dimacs_reader.proofs.Wholes.{fault_of_end, read_to_end}
-use Rattle.dimacs_reader.proofs.Stopping.{for_fault_weaker, if_ok_weaker}
+use Rattle.dimacs_reader.proofs.Stopping.{for_fault_weaker}
 use Rattle.dimacs_reader.proofs.clauses.read_clauses.Goals as goal
 
 pub returns-in_err-end-clause-fault : goal.returns-in_err-end-clause-fault
@@ -22,7 +22,7 @@ pub returns-clause-ok : goal.returns-clause-ok
 returns-clause-ok c =
     let start : ReadState = record { formula = c.args.formula; growing = c.in_ok-growing.growing; stated = c.args.stated; written = 0 } in
     let first : HasRead [] start = at_first start c.requires.empty (ap (λ g. g.literals) c.in_ok-growing.ensures) refl in
-    if_ok_weaker c.finish.result _ _ (λ F. read_to_end c.args.text.now c.args.begin c.in_ok-end.end start c.add_lines.new.state F first c.in_ok-end.ensures.ok) c.finish.ensures.ok
+    IfOk-weaker c.finish.result _ _ (λ F. read_to_end c.args.text.now c.args.begin c.in_ok-end.end start c.add_lines.new.state F first c.in_ok-end.ensures.ok) c.finish.ensures.ok
 
 pub returns-clause-fault : goal.returns-clause-fault
 returns-clause-fault c =

@@ -2,8 +2,8 @@ use Rattle.std.proofs.Common.{pos, ◌<ℤ◌, int_div, sym, ap, ◌∙◌, subs
 use Rattle.std.specs.Int.RustNames.{FitsSigned}
 use mir.Syntax.{w128}
 use Rattle.std.proofs.lemmas.Int.{to_z-of_z}
-use Rattle.exact_pivot.proofs.Joins.{reduced_some}
 use Rattle.exact_pivot.proofs.ends.reduced.Goals as goal
+use Rattle.exact_pivot.proofs.Clearing.{reduced_some}
 
 pub returns-clause-positive : goal.returns-clause-positive
 returns-clause-positive c h =

@@ -11,15 +11,14 @@ use Rattle.lean_checker.proofs.pairs.bad_pair.Goals as goal
 pub returns : goal.returns
 returns c =
     let F = c.args.f.now in
-    let named = c.in_ok-named.named.items in
+    let named = c.in_ok-named.named in
     let occurring = c.in_ok-seen.seen.occurring in
     let shown = c.in_ok-seen.seen.shown in
     let kept = c.as_slice.ensures in
-    let seen_shown = subst (λ (ps : List ℕ). AreShown F ps c.as_slice-2.result.now shown) kept c.in_ok-seen.ensures.shown in
     let tables : AreTables F c.args.d.now.kept c.args.pairs.now named occurring shown = record {
       named_so = subst (λ (n : ℕ). AreNamed n c.args.pairs.now named) c.vars.ensures.value c.in_ok-named.ensures;
       occurring_so = subst (λ (ps : List ℕ). AreOccurring F ps occurring) kept c.in_ok-seen.ensures.occurring;
-      shown_so = subst (λ (ns : List ℕ). AreShown F c.args.d.now.kept ns shown) c.as_slice-2.ensures.value seen_shown;
+      shown_so = subst (λ (ps : List ℕ). AreShown F ps named shown) kept c.in_ok-seen.ensures.shown;
     } in
     let places = YieldsList-from_range {s = record { start = 1; end = c.vars-2.result + 1 }} 1 _ F.vars refl (omega (arith, c.vars-2.ensures.value)) in
     let first = find_from_yields_List (is_bad_at named occurring shown) _ _ c.find.result c.find.ensures.ran places (λ x b q k. search (rules, tests)) in

@@ -4,4 +4,4 @@ use Rattle.lk_model.proofs.Flags.{Flagged-pop}
 use Rattle.lk_model.proofs.open_clause.take_all.Goals as goal
 
 pub loop-l-preserved : goal.loop-l-preserved
-loop-l-preserved c = rw c.rank.ensures.value (Flagged-pop _ _ _ _ (subst (λ (s : List ℤ). AreFlagged c.args.vars s c.loop-l.flags.items) c.in-Some.ensures.items c.loop-l.invariant))
+loop-l-preserved c = Flagged-pop _ _ _ _ (subst (λ (s : List ℤ). AreFlagged c.args.vars s c.loop-l.flags) c.in-Some.ensures.items c.loop-l.invariant)

@@ -4,4 +4,4 @@ use Rattle.pure_strip.proofs.holders.holders_of.Given as goal
 
 -- the positions of the clauses so far
 abbrev pub invariant-loop-i : goal.invariant-loop-i
-invariant-loop-i l = AreHolders l.f (up_to l.i) l.table.items
+invariant-loop-i l = AreHolders l.f (up_to l.i) l.table

@@ -1,4 +1,4 @@
-use Rattle.std.proofs.Common.{◌∙◌, List, Bool, ℕ, length, [], map, sym, ap, subst, true, IsTrue}
+use Rattle.std.proofs.Common.{◌∙◌, List, Bool, ℕ, length, [], sym, ap, subst, true, IsTrue}
 use Rattle.std.specs.Prelude.{replicate, filter}
 use Rattle.lk_model.specs.Formulas.Lean.{are_positions}
 use Rattle.lk_model.specs.Lists.{up_to}
@@ -9,15 +9,16 @@ use Rattle.lk_model.specs.Formulas.PureRun.{least_pure}
 use Rattle.lk_model.specs.Reduction.{ReducesBy}
 use Rattle.lk_model.specs.declared.class.Class.TheVariants.{Pure}
 use Rattle.pure_strip.specs.Live.{is_live}
-use Rattle.pure_strip.proofs.Starts.{Counted-start, Untouched-start, run_leaves, untouched_rise, kept_is}
+use Rattle.pure_strip.proofs.Starts.{Counted-start, Untouched-start, kept_is}
 use Rattle.pure_strip.proofs.Runs.{live_is_untouched}
 use Rattle.kernel_laws.proofs.Pure.PureLaws.{pure_law}
+use Rattle.kernel_laws.proofs.Pure.Runs.{run_leaves, untouched_rise}
 use Rattle.pure_strip.proofs.kernel.pure_kernel.Goals as goal
 
 pub pure_order-requires-clause-counted : goal.pure_order-requires-clause-counted
 pure_order-requires-clause-counted c =
     let up = c.in_ok-live.ensures.items_if_clones_equal (λ y e. e) ∙ ap (λ (m : ℕ). replicate m true) c.len.ensures.value in
-    let counts = c.in_ok-counts.ensures ∙ (λ i. record { vars = c.vars.ensures.value i; counts = (c.in_ok-lengths.ensures ∙ ap (map length) c.as_slice.ensures.value) i }) in
+    let counts = c.in_ok-counts.ensures ∙ (λ i. record { vars = c.vars.ensures.value i; counts = c.in_ok-lengths.ensures i }) in
     Counted-start c.args.f.now _ _ _ up c.in_ok-holders.ensures counts
 
 pub pure_order-requires-clause-untouched : goal.pure_order-requires-clause-untouched
@@ -26,25 +27,25 @@ pure_order-requires-clause-untouched c =
 
 pub pairs_of-requires-clause-lean : goal.pairs_of-requires-clause-lean
 pairs_of-requires-clause-lean c =
-    let live = c.as_slice-5.ensures.value in
+    let live = c.as_slice-2.ensures.value in
     ap (λ (s : List Bool). least_pure c.args.f.now (filter (is_live s) (positions_of c.args.f.now))) live
     ∙ ap (least_pure c.args.f.now) (live_is_untouched c.args.f.now c.in_ok-order.order _ c.in_ok-order.ensures.untouched)
     ∙ run_leaves c.args.f.now [] c.in_ok-order.order c.in_ok-order.ensures.run
 
 pub returns-clause-kept : goal.returns-clause-kept
 returns-clause-kept c =
-    c.in_ok-kept.ensures ∙ ap (λ (s : List Bool). filter (is_live s) (up_to (length s))) c.as_slice-3.ensures.value
+    c.in_ok-kept.ensures ∙ ap (λ (s : List Bool). filter (is_live s) (up_to (length s))) c.as_slice.ensures.value
     ∙ kept_is c.args.f.now c.in_ok-order.order _ c.in_ok-order.ensures.untouched
 
 pub returns-clause-positions : goal.returns-clause-positions
 returns-clause-positions c =
     subst (λ (ps : List ℕ). IsTrue (are_positions c.args.f.now ps))
-    (sym (c.in_ok-kept.ensures ∙ ap (λ (s : List Bool). filter (is_live s) (up_to (length s))) c.as_slice-3.ensures.value ∙ kept_is c.args.f.now c.in_ok-order.order _ c.in_ok-order.ensures.untouched))
+    (sym (c.in_ok-kept.ensures ∙ ap (λ (s : List Bool). filter (is_live s) (up_to (length s))) c.as_slice.ensures.value ∙ kept_is c.args.f.now c.in_ok-order.order _ c.in_ok-order.ensures.untouched))
     (untouched_rise c.args.f.now c.in_ok-order.order)
 
 pub returns-clause-kernel : goal.returns-clause-kernel
 returns-clause-kernel c =
     subst (λ (ps : List ℕ). ReducesBy no_variable Pure c.args.f.now ps (assignment_of c.in_ok-order.order))
-    (sym (c.in_ok-kept.ensures ∙ ap (λ (s : List Bool). filter (is_live s) (up_to (length s))) c.as_slice-3.ensures.value
+    (sym (c.in_ok-kept.ensures ∙ ap (λ (s : List Bool). filter (is_live s) (up_to (length s))) c.as_slice.ensures.value
     ∙ kept_is c.args.f.now c.in_ok-order.order _ c.in_ok-order.ensures.untouched))
     (pure_law.run c.args.f.now c.in_ok-order.order c.len.ensures.formula c.in_ok-order.ensures.run)

@@ -3,10 +3,11 @@ use Rattle.std.proofs.lemmas.List.{length_push}
 use Rattle.std.proofs.lemmas.Iterator.Adapters.{YieldsList-from_vec}
 use Rattle.std.proofs.lemmas.Iterator.Consumers.{YieldsList-turn}
 use Rattle.lk_model.specs.declared.document.Step.{Step}
+use Rattle.lk_model.proofs.ListTests.{all_at}
 use Rattle.refutation_log.specs.Derivation.{names_lower}
 use Rattle.refutation_log.specs.Trimmed.{with_numbers}
 use Rattle.refutation_log.specs.Numbers.{number_in, is_marked}
-use Rattle.refutation_log.proofs.Steps.{all_get, number_get}
+use Rattle.refutation_log.proofs.Steps.{number_get}
 use Rattle.refutation_log.proofs.Marking.{names_all}
 use Rattle.refutation_log.proofs.Renumbering.{more_passes}
 use Rattle.refutation_log.proofs.numbers.kept_steps.Goals as goal
@@ -33,7 +34,7 @@ with_new_numbers-requires c =
     let s = c.in-Some.step in
     let bound = c.args.first + length c.args.numbers.now in
     let lower : IsTrue (names_lower s) =
-    subst (λ (u : Step). IsTrue (names_lower u)) (sym t.1) (all_get names_lower c.args.steps.items (length c.loop-step.yielded) s c.requires.names t.0) in
+    subst (λ (u : Step). IsTrue (names_lower u)) (sym t.1) (all_at names_lower c.args.steps.items (length c.loop-step.yielded) s c.requires.names t.0) in
     names_all s bound lower (omega (arith, number, t.0, c.requires.numbers))
 
 pub loop-step-preserved-in-Continue-1 : goal.loop-step-preserved-in-Continue-1

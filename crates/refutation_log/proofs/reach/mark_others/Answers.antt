@@ -1,7 +1,8 @@
 use Rattle.std.proofs.Common.{◌≡◌, ◌+◌, ◌-◌, ◌∙◌, sym, subst, arith, length, false, true, IsTrue, slice_index_or}
 use Rattle.lk_model.specs.declared.document.Step.{Step}
+use Rattle.lk_model.proofs.ListTests.{all_at}
 use Rattle.refutation_log.specs.Derivation.{names_lower}
-use Rattle.refutation_log.proofs.Steps.{all_get, number_get}
+use Rattle.refutation_log.proofs.Steps.{number_get}
 use Rattle.refutation_log.proofs.Marking.{names_below, more_marked, none_marked, read_mark, HaveSameShape-trans}
 use Rattle.refutation_log.proofs.reach.mark_others.Goals as goal
 
@@ -13,7 +14,7 @@ mark_names-requires c =
     let e : s ≡ slice_index_or steps (c.loop-at.at - 1) s = c.index-steps-at.is in
     let number = number_get c.args.marks.now.first steps (c.loop-at.at - 1) s c.requires.numbers (omega arith) e in
     names_below s (m.first + length m.steps.items)
-    (subst (λ (u : Step). IsTrue (names_lower u)) (sym e) (all_get names_lower steps (c.loop-at.at - 1) s c.requires.names (omega arith)))
+    (subst (λ (u : Step). IsTrue (names_lower u)) (sym e) (all_at names_lower steps (c.loop-at.at - 1) s c.requires.names (omega arith)))
     (omega (arith, number, c.loop-at.invariant.shape.first, c.loop-at.invariant.shape.steps, c.requires.count))
 
 pub loop-at-preserved-then-index : goal.loop-at-preserved-then-index

@@ -1,7 +1,8 @@
 use Rattle.std.proofs.Common.{◌+◌, ◌-◌, ◌<◌, sym, subst, arith, length, IsTrue}
 use Rattle.lk_model.specs.declared.document.Step.{Step}
+use Rattle.lk_model.proofs.ListTests.{all_at}
 use Rattle.refutation_log.specs.Derivation.{names_lower}
-use Rattle.refutation_log.proofs.Steps.{all_get, number_get}
+use Rattle.refutation_log.proofs.Steps.{number_get}
 use Rattle.refutation_log.proofs.Marking.{names_below, last_marked, nothing_marked}
 use Rattle.refutation_log.proofs.reach.marks_of.Goals as goal
 use Rattle.refutation_log.proofs.reach.marks_of.Goals.{in-Some, in_default}
@@ -20,7 +21,7 @@ mark_names-requires c =
     let some : 0 < length steps = c.in-Some.ensures.item.3.0 in
     let number = number_get c.args.first steps (length steps - 1) s c.requires.numbers (omega arith) c.in-Some.ensures.item.1 in
     names_below s (c.mark.new.self.first + length c.mark.new.self.steps.items)
-    (subst (λ (u : Step). IsTrue (names_lower u)) (sym c.in-Some.ensures.item.1) (all_get names_lower steps (length steps - 1) s c.requires.names (omega arith)))
+    (subst (λ (u : Step). IsTrue (names_lower u)) (sym c.in-Some.ensures.item.1) (all_at names_lower steps (length steps - 1) s c.requires.names (omega arith)))
     (omega (arith, number, c.in_ok-marks.ensures.shape.first_is, c.in_ok-marks.ensures.shape.steps, c.mark.ensures.shape.first, c.mark.ensures.shape.steps))
 
 pub mark_others-requires-clause-last : goal.mark_others-requires-clause-last

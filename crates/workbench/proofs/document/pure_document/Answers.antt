@@ -3,7 +3,7 @@ use Rattle.lk_model.specs.declared.class.Class.TheVariants.{Pure}
 use Rattle.lk_model.specs.declared.document.Body.TheVariants as body
 use Rattle.lk_model.specs.declared.document.DoneDocument.{DoneDocument}
 use Rattle.lk_model.specs.Reduction.{Reduces}
-use Rattle.kernel_laws.specs.ClauseLines.{clauses_at}
+use Rattle.lk_model.specs.Formulas.Formula.{clauses_at}
 use Rattle.kernel_laws.proofs.Pure.PureResults.{pure_result_law}
 use Rattle.workbench.proofs.document.pure_document.Goals as goal
 

@@ -1,5 +1,6 @@
 use Rattle.std.proofs.lemmas.Result.{err_from_is_err_and}
-use Rattle.workbench.proofs.Streams.{Consumes-then, Tells-then}
+use Rattle.std.proofs.KnownBytes.{Consumes-trans}
+use Rattle.workbench.proofs.Streams.{Tells-then}
 use Rattle.workbench.proofs.InputStops.{stops_at_end, stops_in_midst}
 use Rattle.workbench.proofs.input.read_started.Goals as goal
 
@@ -13,7 +14,7 @@ pub returns-in_err-feed-clause-stop : goal.returns-in_err-feed-clause-stop
 returns-in_err-feed-clause-stop g c =
     let left = g.H.Shelf.left in
     let p = err_from_is_err_and c.from_residual-in_err-feed.result c.from_residual-in_err-feed.ensures.1 in
-    let fed = Consumes-then (left c.args.shelf.now) (left c.pieces.shelf) (left c.read_piece.new.shelf) c.pieces.reader.fed _ c.pieces.invariant.taken.consumed c.in_ok-count.ensures.bytes.0 in
+    let fed = Consumes-trans (left c.args.shelf.now) (left c.pieces.shelf) (left c.read_piece.new.shelf) c.pieces.reader.fed _ c.pieces.invariant.taken.consumed c.in_ok-count.ensures.bytes.0 in
     rw (p.1, p.2) (stops_in_midst (left c.args.shelf.now) (left c.read_piece.new.shelf) _ (g.H.Shelf.ailing c.read_piece.new.shelf) c.in_err-feed.field-0.0 fed (c.in_err-feed.ensures.cause c.pieces.invariant.going))
 
 pub returns-in_err-count-clause-told : goal.returns-in_err-count-clause-told

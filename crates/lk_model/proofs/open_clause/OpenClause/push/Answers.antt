@@ -1,6 +1,6 @@
-use Rattle.std.proofs.Common.{◌≡◌, subst, sym, false, true, IsTrue}
+use Rattle.std.proofs.Common.{◌≡◌, subst, sym, false, IsTrue}
 use Rattle.lk_model.specs.Formulas.Literal.{contains, is_literal}
-use Rattle.lk_model.specs.Held.Growing.{Growing, IsHeld}
+use Rattle.lk_model.specs.Held.Growing.{Growing}
 use Rattle.lk_model.proofs.Flags.{Held-more}
 use Rattle.lk_model.proofs.open_clause.OpenClause.push.Goals as goal
 

@@ -1,5 +1,5 @@
 use Rattle.std.proofs.Common.{◌≡◌, true, sym, ◌∙◌, ap, pos, Some}
-use Rattle.lk_model.specs.Formulas.Literal.{is_literal, complement, rank_of}
+use Rattle.lk_model.specs.Formulas.Literal.{is_literal, complement}
 use Rattle.pure_strip.specs.Counted.{count_of, least_lone}
 use Rattle.pure_strip.proofs.LoneLemmas.{Lone-none, Lone-literal, Lone-first_positive, Lone-first_negative, count-at}
 use Rattle.pure_strip.proofs.counts.Counts.least_lone.Goals as goal
@@ -13,7 +13,7 @@ pub returns-then-index-eq0 : goal.returns-then-index-eq0
 returns-then-index-eq0 c =
     let same : c.in_ok-l.l ≡ pos c.in_ok-first.field-0.now = cc (c.in_ok-l.ensures) in
     let lit : is_literal c.self.inside.vars (pos c.in_ok-first.field-0.now) ≡ true = Lone-literal _ _ _ _ c.self.invariant c.in_ok-first.ensures.member in
-    let now : c.index.result.now ≡ count_of c.self.inside.counts.items (pos c.in_ok-first.field-0.now) = count-at _ _ (pos c.in_ok-first.field-0.now) _ _ c.self.invariant.size lit (c.rank.ensures.value ∙ ap rank_of same) c.index.ensures in
+    let now : c.index.result.now ≡ count_of c.self.inside.counts (pos c.in_ok-first.field-0.now) = count-at _ _ (pos c.in_ok-first.field-0.now) _ _ c.self.invariant.size lit same c.index.ensures in
     ap Some (c.negated.ensures ∙ ap complement same)
     ∙ sym (Lone-first_negative _ _ _ _ c.self.invariant c.in_ok-first.ensures.member c.in_ok-first.ensures.least (sym now ∙ c.if-index-eq0.true))
     ∙ ap least_lone c.self.view_is
@@ -22,7 +22,7 @@ pub returns-else-index-eq0 : goal.returns-else-index-eq0
 returns-else-index-eq0 c =
     let same : c.in_ok-l.l ≡ pos c.in_ok-first.field-0.now = cc (c.in_ok-l.ensures) in
     let lit : is_literal c.self.inside.vars (pos c.in_ok-first.field-0.now) ≡ true = Lone-literal _ _ _ _ c.self.invariant c.in_ok-first.ensures.member in
-    let now : c.index.result.now ≡ count_of c.self.inside.counts.items (pos c.in_ok-first.field-0.now) = count-at _ _ (pos c.in_ok-first.field-0.now) _ _ c.self.invariant.size lit (c.rank.ensures.value ∙ ap rank_of same) c.index.ensures in
+    let now : c.index.result.now ≡ count_of c.self.inside.counts (pos c.in_ok-first.field-0.now) = count-at _ _ (pos c.in_ok-first.field-0.now) _ _ c.self.invariant.size lit same c.index.ensures in
     ap Some same
     ∙ sym (Lone-first_positive _ _ _ _ c.self.invariant c.in_ok-first.ensures.member c.in_ok-first.ensures.least (λ e. c.if-index-eq0.false (now ∙ e)))
     ∙ ap least_lone c.self.view_is

@@ -1,7 +1,8 @@
 use Rattle.std.proofs.Common.{◌≤◌, ◌<◌, ◌+◌, ◌-◌, ◌∙◌, length, ap, subst, sym, arith, IsSome, Some, IsTrue}
 use Rattle.lk_model.specs.declared.document.Step.{Step}
+use Rattle.lk_model.proofs.ListTests.{all_at}
 use Rattle.refutation_log.specs.Derivation.{Derivation, clause_of_step, is_ascending}
-use Rattle.refutation_log.proofs.Steps.{found_within, clause_at_place, all_get}
+use Rattle.refutation_log.proofs.Steps.{found_within, clause_at_place}
 use Rattle.refutation_log.proofs.log.Log.clause.Goals as goal
 
 within : (c : goal.After-self) → (c.self.inside.first ≤ c.args.k) × (c.args.k < c.self.inside.first + length c.self.inside.steps.items)
@@ -30,4 +31,4 @@ returns-clause-order c =
     (subst (λ (d : Derivation). IsSome (clause_of_step d.steps c.args.k)) (sym c.self.view_is) c.requires) in
     let place = c.args.k - c.self.inside.first in
     rw (c.as_slice.ensures) (subst (λ (s : Step). IsTrue (is_ascending s.clause)) (sym c.index.ensures)
-    (all_get (λ (s : Step). is_ascending s.clause) steps place c.index.result.now c.self.invariant.derivation.clauses (omega (arith, w.0, w.1))))
+    (all_at (λ (s : Step). is_ascending s.clause) steps place c.index.result.now c.self.invariant.derivation.clauses (omega (arith, w.0, w.1))))

@@ -1,12 +1,13 @@
 use Rattle.std.proofs.Common.{◌≡◌, ◌∙◌, ◌&&◌, ℕ, ◌++◌, ◌∷◌, [], List, not, length, sym, ap, subst, arith, IsTrue, append_assoc, append-nil}
 use Rattle.std.specs.Vec.Iter.{into_iter_items}
 use Rattle.std.specs.List.{list_all}
+use Rattle.std.proofs.lemmas.List.{nil_from_length}
 use Rattle.lk_model.specs.Held.VariableSets.{is_in}
 use Rattle.lk_model.specs.Lists.{among, is_empty}
 use Rattle.lk_model.specs.Formulas.Literal.{is_clause}
 use Rattle.watch_prop.specs.declared.entry.NumberedClause.{NumberedClause}
 use Rattle.watch_prop.specs.Propagation.{Propagation, numbers_of, crossed_clauses, with_held, are_distinct}
-use Rattle.watch_prop.proofs.Beginnings.{propagation_at_start, all_middle, distinct_middle, nothing_left}
+use Rattle.watch_prop.proofs.Beginnings.{propagation_at_start, all_middle, distinct_middle}
 use Rattle.watch_prop.proofs.propagator.Propagator.new.Goals as goal
 
 pub loop-clause-init : goal.loop-clause-init
@@ -64,7 +65,7 @@ pub returns-clause-clauses : goal.returns-clause-clauses
 returns-clause-clauses c =
     let inv = c.loop-clause.invariant in
     let none = c.in-None.ensures.steps in
-    let empty : into_iter_items c.loop-clause.clause-iterator ≡ [] = nothing_left _ (sym inv.long ∙ none.0) in
+    let empty : into_iter_items c.loop-clause.clause-iterator ≡ [] = nil_from_length _ (sym inv.long ∙ none.0) in
     inv.clauses ∙ sym (append-nil c.loop-clause.yielded) ∙ ap (λ (cs : List NumberedClause). c.loop-clause.yielded ++ cs) (sym empty) ∙ inv.rest
 
 pub returns-clause-trail : goal.returns-clause-trail

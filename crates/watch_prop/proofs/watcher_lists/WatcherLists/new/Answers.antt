@@ -1,30 +1,30 @@
-use Rattle.std.proofs.Common.{◌≡◌, ◌∙◌, ℕ, ◌+◌, ◌*◌, ◌<◌, List, [], get_or, length, replicate, sym, ap, arith, rules, Vec, vec_len}
+use Rattle.std.proofs.Common.{◌≡◌, ◌∙◌, ℕ, ◌<◌, List, [], get_or, length, replicate, ap, sym, arith, rules, Vec, vec_len}
 use Rattle.std.specs.declared.alloc.Global.{Global}
-use Rattle.std.proofs.lemmas.List.{length-map, length-replicate, get_or-replicate, get_or-map}
-use Rattle.watch_prop.specs.KeptWatchers.{items_of, HasRoom}
+use Rattle.std.specs.List.{All}
+use Rattle.std.proofs.lemmas.List.{length-replicate, get_or-replicate}
+use Rattle.watch_prop.specs.KeptWatchers.{HasRoom}
+use Rattle.watch_prop.proofs.Roomy.{items_none}
 use Rattle.watch_prop.proofs.watcher_lists.WatcherLists.new.Goals as goal
 
 -- lists without an item have room for none
-none : (lists : List (Vec ℕ Global)) (counts : List ℕ) (n r : ℕ) (d : Vec ℕ Global) → items_of lists ≡ replicate n [] → counts ≡ replicate n 0 → r < length lists
+none : (lists : List (Vec ℕ Global)) (counts : List ℕ) (r : ℕ) (d : Vec ℕ Global) → All (λ (v : Vec ℕ Global). v.items ≡ []) lists → counts ≡ replicate (length lists) 0 → r < length lists
     → HasRoom (get_or lists r d) (get_or counts r 0)
-none lists counts n r d empty zero lt =
-    let long : length lists ≡ n = sym (length-map lists (λ (v : Vec ℕ Global). v.items)) ∙ ap (λ (ls : List (List ℕ)). length ls) empty ∙ length-replicate n [] in
-    let counts : get_or counts r 0 ≡ 0 = ap (λ (ns : List ℕ). get_or ns r 0) zero ∙ get_or-replicate n r 0 0 (omega arith) in
+none lists counts r d empty zero lt =
     let v = get_or lists r d in
-    let items : v.items ≡ [] = sym (get_or-map (λ (x : Vec ℕ Global). x.items) lists r d [] lt) ∙ ap (λ (ls : List (List ℕ)). get_or ls r []) empty
-    ∙ get_or-replicate n r [] [] (omega arith) in
-    let len : vec_len v ≡ 0 = v.ok.0 ∙ ap (λ (ps : List ℕ). length ps) items in
-    (omega arith, omega arith)
+    let count : get_or counts r 0 ≡ 0 = ap (λ (ns : List ℕ). get_or ns r 0) zero ∙ get_or-replicate (length lists) r 0 0 lt in
+    let len : vec_len v ≡ 0 = v.ok.0 ∙ ap (λ (ps : List ℕ). length ps) (empty r d lt) in
+    (omega (arith, count, len), omega (arith, count))
 
 pub invariant_of-result : goal.invariant_of-result
 invariant_of-result c =
-    let lists = c.in_ok-empty_lists.field-0.items in
-    let counts = c.in_ok-vec.field-0.items in
-    let n = 2 * c.args.n + 2 in
-    let empty : items_of lists ≡ replicate n [] = c.in_ok-empty_lists.ensures in
-    let zero : counts ≡ replicate n 0 = search rules in
-    record {
-      same = sym (length-map lists (λ (v : Vec ℕ Global). v.items)) ∙ ap (λ (ls : List (List ℕ)). length ls) empty ∙ length-replicate n []
-          ∙ sym (ap (λ (ns : List ℕ). length ns) zero ∙ length-replicate n 0);
-      each = λ r d lt. none lists counts n r d empty zero lt;
-    }
+    let lists = c.in_ok-new_with.field-0 in
+    let counts = c.in_ok-new.field-0 in
+    let empty : All (λ (v : Vec ℕ Global). v.items ≡ []) lists = λ k d lt. (let made = c.in_ok-new_with.ensures.made k d lt in search rules) in
+    let zero : counts ≡ replicate (length lists) 0 = search rules in
+    record { same = sym (ap (λ (ns : List ℕ). length ns) zero ∙ length-replicate (length lists) 0); each = λ r d lt. none lists counts r d empty zero lt }
+
+pub returns-clause-lists : goal.returns-clause-lists
+returns-clause-lists c =
+    let lists = c.in_ok-new_with.field-0 in
+    let empty : All (λ (v : Vec ℕ Global). v.items ≡ []) lists = λ k d lt. (let made = c.in_ok-new_with.ensures.made k d lt in search rules) in
+    items_none lists empty ∙ ap (λ (n : ℕ). replicate n []) c.in_ok-new_with.ensures.size

@@ -1,0 +1,240 @@
+//! Moves on a propagator, as words. Each has a number, from the first free one on.
+//!
+//! | move | what it does, and what it answers |
+//! |---|---|
+//! | `propagate K..` | propagates: `quiet`, or which clause is false, but `one of these` where its number is given |
+//! | `assign L` | propagates, and makes the literal true if that ends quiet and it is unset: whether it does |
+//! | `behind L` | the same, with a clause added in between that is true already and so not looked at yet |
+//! | `add L..` | adds a clause under the move's number: whether it may be held |
+//! | `retract N` | takes back what came above a level: whether there is so high a level |
+//! | `trail` | the true literals |
+//! | `end` | how many literals are true, and the level of the last one |
+//! | `told V..` | of each of the variables its value, its level and its reason |
+ghost use Rattle.std.specs.Prelude.{◌≡◌, ◌<◌, ◌≤◌, ℕ, not, IsTrue};
+ghost use Rattle.lk_model.specs.Lists.{among};
+ghost use Rattle.watch_prop.specs.Propagation.{numbers_of};
+
+use crate::moves::{add, assign, assign_behind, retract};
+use crate::scans::Wanted;
+use crate::starts::last_level;
+use lk_model::Lit;
+use lk_samples::literals_of_text;
+use std::alloc::{AllocError, Global};
+use std::test::Fail;
+use watch_prop::{Propagated, Propagator};
+
+/// Writes whether something is so.
+fn put(is_so: bool, out: &mut String) -> Result<(), AllocError> {
+    writeln!(out, "{is_so}")
+}
+
+/// Writes the trail.
+fn put_trail(trail: &[Lit], out: &mut String) -> Result<(), AllocError> {
+    for l in trail {
+        write!(out, " {}", l.get())?;
+    }
+    writeln!(out)
+}
+
+/// Writes how many literals are true, and the level of the last one.
+fn put_end(count: usize, level: u32, out: &mut String) -> Result<(), AllocError> {
+    writeln!(out, " {count} at level {level}")
+}
+
+/// Writes the value, the level and the reason of a variable.
+fn put_entry(
+    v: u32,
+    value: Option<bool>,
+    level: Option<u32>,
+    reason: Option<u64>,
+    out: &mut String,
+) -> Result<(), AllocError> {
+    writeln!(out, " {v} {value:?} {level:?} {reason:?}")
+}
+
+/// Writes what is told of a variable.
+fn put_variable(p: &Propagator, vars: u32, v: u32, out: &mut String) -> Result<(), AllocError>
+    requires { p.now.vars ≡ vars }
+{
+    if v == 0 || v > vars {
+        return writeln!(out, "no variable");
+    }
+    put_entry(v, p.value(v), p.level(v), p.reason(v), out)
+}
+
+/// Writes what is told of the variables that a text has.
+fn put_told(p: &Propagator, vars: u32, text: &str, out: &mut String) -> Result<(), AllocError>
+    requires { p.now.vars ≡ vars }
+{
+    for word in text.split_whitespace() {
+        put_variable(p, vars, word.parse().unwrap_or(0), out)?;
+    }
+    Ok(())
+}
+
+/// Whether a text has the number.
+fn has(text: &str, number: u64) -> bool {
+    for word in text.split_whitespace() {
+        if word.parse().unwrap_or(0) == number {
+            return true;
+        }
+    }
+    false
+}
+
+/// Writes how a propagation ends.
+fn put_ending(end: Propagated, given: &str, out: &mut String) -> Result<(), AllocError> {
+    match end {
+        Propagated::Quiet => writeln!(out, "quiet"),
+        Propagated::Conflict(k) => put_conflict(k, has(given, k), out),
+    }
+}
+
+fn put_conflict(number: u64, is_given: bool, out: &mut String) -> Result<(), AllocError> {
+    if is_given {
+        writeln!(out, "one of these")
+    } else {
+        writeln!(out, "conflict {number}")
+    }
+}
+
+/// Writes what is seen of a propagator that stays as it is.
+fn put_seen(
+    p: &Propagator,
+    vars: u32,
+    word: &str,
+    rest: &str,
+    out: &mut String,
+) -> Result<(), AllocError>
+    requires { p.now.vars ≡ vars }
+{
+    match word {
+        "trail" => put_trail(p.trail(), out),
+        "end" => put_end(p.trail().len(), last_level(p, vars), out),
+        "told" => put_told(p, vars, rest, out),
+        _ => writeln!(out, "no move"),
+    }
+}
+
+/// Adds a clause of these literals, or assigns the only one: whether it may.
+fn takes(
+    alloc: Global,
+    p: &mut Propagator,
+    wanted: &mut Wanted,
+    vars: u32,
+    number: u64,
+    word: &str,
+    lits: &[Lit],
+) -> Result<bool, Fail>
+    requires vars { p.old.vars ≡ vars }
+    requires free { (n : ℕ) → number ≤ n → IsTrue (not (among (numbers_of p.old.clauses) n)) }
+    ensures vars { p.new.vars ≡ vars }
+    ensures free { (n : ℕ) → number < n → IsTrue (not (among (numbers_of p.new.clauses) n)) }
+{
+    match lits.first() {
+        Some(l) if word == "assign" => assign(p, wanted, vars, *l),
+        Some(l) if word == "behind" => assign_behind(alloc, p, wanted, vars, number, *l),
+        _ => add(alloc, p, wanted, vars, number, lits),
+    }
+}
+
+/// Takes the literals that a text has, and writes whether it may.
+fn put_taken(
+    alloc: Global,
+    p: &mut Propagator,
+    wanted: &mut Wanted,
+    vars: u32,
+    number: u64,
+    word: &str,
+    rest: &str,
+    out: &mut String,
+) -> Result<(), Fail>
+    requires vars { p.old.vars ≡ vars }
+    requires free { (n : ℕ) → number ≤ n → IsTrue (not (among (numbers_of p.old.clauses) n)) }
+    ensures vars { p.new.vars ≡ vars }
+    ensures free { (n : ℕ) → number < n → IsTrue (not (among (numbers_of p.new.clauses) n)) }
+{
+    let lits = literals_of_text(alloc, rest)?;
+    let is_taken = takes(alloc, p, wanted, vars, number, word, lits.as_slice())?;
+    put(is_taken, out)?;
+    Ok(())
+}
+
+/// Makes a move that adds no clause and assigns nothing, and writes what it answers.
+fn put_moved(
+    p: &mut Propagator,
+    wanted: &mut Wanted,
+    vars: u32,
+    word: &str,
+    rest: &str,
+    out: &mut String,
+) -> Result<(), AllocError>
+    requires { p.old.vars ≡ vars }
+    ensures vars { p.new.vars ≡ vars }
+    ensures clauses { p.new.clauses ≡ p.old.clauses }
+{
+    match word {
+        "propagate" => put_ending(p.propagate(), rest, out),
+        "retract" => put(retract(p, wanted, vars, rest.parse().unwrap_or(0)), out),
+        _ => put_seen(p, vars, word, rest, out),
+    }
+}
+
+/// Makes one move, and writes what it answers.
+fn make(
+    alloc: Global,
+    p: &mut Propagator,
+    wanted: &mut Wanted,
+    vars: u32,
+    number: u64,
+    text: &str,
+    out: &mut String,
+) -> Result<(), Fail>
+    requires vars { p.old.vars ≡ vars }
+    requires free { (n : ℕ) → number ≤ n → IsTrue (not (among (numbers_of p.old.clauses) n)) }
+    ensures vars { p.new.vars ≡ vars }
+    ensures free { (n : ℕ) → number < n → IsTrue (not (among (numbers_of p.new.clauses) n)) }
+{
+    let (word, rest) = text.split_once(" ").unwrap_or((text, ""));
+    match word {
+        "add" | "assign" | "behind" => put_taken(alloc, p, wanted, vars, number, word, rest, out),
+        _ => Ok(put_moved(p, wanted, vars, word, rest, out)?),
+    }
+}
+
+/// Makes the moves of a text, and writes what they answer. The numbers from above a last one are free.
+fn make_all(
+    alloc: Global,
+    p: &mut Propagator,
+    wanted: &mut Wanted,
+    vars: u32,
+    last: u32,
+    moves: &str,
+    out: &mut String,
+) -> Result<(), Fail>
+    requires vars { p.old.vars ≡ vars }
+    requires free { (n : ℕ) → last < n → IsTrue (not (among (numbers_of p.old.clauses) n)) }
+{
+    let mut number = u64::from(last);
+    for text in moves.split(";") {
+        number = number.checked_add(1).ok_or("no number")?;
+        make(alloc, p, wanted, vars, number, text.trim(), out)?;
+    }
+    Ok(())
+}
+
+/// Does so where no clause was added and no literal assigned before.
+pub(crate) fn play(
+    alloc: Global,
+    p: &mut Propagator,
+    vars: u32,
+    last: u32,
+    moves: &str,
+    out: &mut String,
+) -> Result<(), Fail>
+    requires vars { p.old.vars ≡ vars }
+    requires free { (n : ℕ) → last < n → IsTrue (not (among (numbers_of p.old.clauses) n)) }
+{
+    let mut wanted = Wanted::new(alloc);
+    make_all(alloc, p, &mut wanted, vars, last, moves, out)
+}
