@@ -1,4 +1,4 @@
-pub mod LineTexts
+pub mod PrintedTexts
 pub mod NumberTexts
 pub mod FieldTexts
 pub mod ListSteps
@@ -20,3 +20,4 @@ pub mod ProblemSteps
 pub mod ClauseSteps
 pub mod LineSteps
 pub mod Takings
+pub mod Models

@@ -1,4 +1,4 @@
--- Which documents are printed and read so far.
+-- Which documents are read so far.
 use Rattle.std.specs.Prelude.{◌≡◌, ⊤, None}
 use Rattle.lk_model.specs.declared.document.Body.{Body}
 use Rattle.lk_model.specs.declared.document.Body.TheVariants.{Pure, Matching, Linear, General}
@@ -6,7 +6,7 @@ use Rattle.lk_model.specs.declared.document.DoneDocument.{DoneDocument}
 use Rattle.lk_model.specs.declared.document.Document.{Document}
 use Rattle.lk_model.specs.declared.document.Document.TheVariants.{Done, Unfinished}
 
--- a class whose lines are written
+-- a class whose lines are read
 abbrev pub IsBuiltBody : Body → Type 0
 IsBuiltBody (Pure order pairs) = ⊤
 IsBuiltBody (Matching own rows) = ⊥

@@ -1,8 +1,9 @@
 pub mod Built
-pub mod Spaced
+pub mod Printed
 pub mod Drafts
 pub mod Fields
 pub mod FieldLists
 pub mod Readings
 pub mod Taking
 pub mod LastVars
+pub mod ModelTexts

@@ -1,17 +1,16 @@
 //! The texts of documents, both ways.
 #![tactic(auto)]
 
-mod document;
 mod draft;
 mod fields;
-mod formula;
 mod laws;
-mod line;
 mod lists;
-mod pure;
+mod model;
+mod printing;
 mod reading;
 mod steps;
 
-pub use document::print;
 pub use laws::text_law;
+pub use model::read_model;
+pub use printing::print;
 pub use reading::read;

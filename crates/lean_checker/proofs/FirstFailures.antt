@@ -32,10 +32,10 @@ abbrev pub failure : Kind → ℕ → Why
 failure kind place = record { kind = kind; place = place }
 
 -- the first of some checks, where the first of them fails or not
-fails_first : (c : Check) (cs : List Check) (p : ℕ) → Some p ≡ c.place → Some (failure c.kind p) ≡ first_of (c ∷ cs)
+pub fails_first : (c : Check) (cs : List Check) (p : ℕ) → Some p ≡ c.place → Some (failure c.kind p) ≡ first_of (c ∷ cs)
 fails_first c cs p e = rw (← e) refl
 
-passes_first : (c : Check) (cs : List Check) → None ≡ c.place → first_of cs ≡ first_of (c ∷ cs)
+pub passes_first : (c : Check) (cs : List Check) → None ≡ c.place → first_of cs ≡ first_of (c ∷ cs)
 passes_first c cs e = rw (← e) refl
 
 -- of two lists of checks, the first failure of the one, else of the other

@@ -1,5 +1,4 @@
 pub mod Sizes
-pub mod Reduced
 pub mod LiteralSetLemmas
 pub mod ClauseLines
 pub mod OtherFormulas
@@ -9,4 +8,7 @@ pub mod OrderPlaces
 pub mod OrderBreaks
 pub mod OrderChecks
 pub mod PairTables
+pub mod FirstTables
+pub mod MatchingChecks
 pub mod FirstFailures
+pub mod MatchingFailures

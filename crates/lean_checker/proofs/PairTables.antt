@@ -108,7 +108,7 @@ named_more n pairs i d named up lt h =
 -- THE TEST OF A VARIABLE
 
 -- a position that is named is shown where it is kept and holds the literal
-shown_is : (t : ℕ → Bool) (ks : List ℕ) (x : ℕ) → list_any (λ p. p == x && t p) ks ≡ (among ks x && t x)
+pub shown_is : (t : ℕ → Bool) (ks : List ℕ) (x : ℕ) → list_any (λ p. p == x && t p) ks ≡ (among ks x && t x)
 shown_is t [] x = refl
 shown_is t (k ∷ ks) x = elim (cases_eq k x) [
   | inl same ↦

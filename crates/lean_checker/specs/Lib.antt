@@ -6,3 +6,4 @@ pub mod LiteralSets
 pub mod Flags
 pub mod Order
 pub mod Pairs
+pub mod Matching

@@ -6,23 +6,27 @@ ghost use Rattle.lk_model.specs.Documents.Form.{is_done_in_form, is_in_form};
 ghost use Rattle.lk_model.specs.Checks.Checks.{first_failure, first_five, class_checks};
 ghost use Rattle.lk_model.specs.Checks.Check.{first_of};
 ghost use Rattle.lk_model.specs.declared.document.Document.TheVariants.{Done};
-ghost use Rattle.lk_model.specs.declared.document.Body.TheVariants.{Pure};
+ghost use Rattle.lk_model.specs.declared.document.Body.TheVariants.{Pure, Matching};
 ghost use Rattle.lean_checker.specs.Verdicts.{verdict_of};
 ghost use Rattle.lean_checker.specs.Accepted.{HasSizes, IsReducedBy};
 ghost use Rattle.lean_checker.specs.Checked.{IsChecked, IsCheckedBody};
 
 use crate::common::{assignment_of, kept_clause, kept_flags, not_exactly_removed, other_formula};
+use crate::matching::{bad_owner, bad_row};
 use crate::order::bad_order;
 use crate::pairs::bad_pair;
 use crate::verdict::Verdict;
-use lk_model::{Body, Document, DoneDocument, Formula, Kind, Lit, OutOfMemory, Pair, Why};
+use lk_model::{
+    Body, Document, DoneDocument, Formula, Kind, Lit, MatchRow, OutOfMemory, Own, Pair, Why,
+};
 use lk_outside::Gate;
 use std::alloc::Global;
 use std::thread::Threads;
 
 /// What the checks say of a document and a formula: the first failing check, or that none fails. The
 /// document may be anybody's, if it is in form, as every document is that was read from a text; so far
-/// it is a finished one of the class pure without protected variables. The answer is the same for each number of workers.
+/// it is a finished one of the class pure or matching without protected variables. The answer is the same
+/// for each number of workers.
 ///
 /// Where it is `Accepted`, the kept clauses are the kernel of the document's class, the set line is an
 /// autarky of the class that touches exactly the removed clauses, and every model of the kept clauses,
@@ -112,6 +116,9 @@ fn class_failure(alloc: Global, f: &Formula, d: &DoneDocument) -> Result<Option<
         Body::Pure { order, pairs } => {
             pure_failure(alloc, f, d, order.as_slice(), pairs.as_slice())
         }
+        Body::Matching { own, rows } => {
+            matching_failure(alloc, f, d, own.as_slice(), rows.as_slice())
+        }
         _ => unreachable!(),
     }
 }
@@ -137,6 +144,28 @@ fn pure_failure(
     }
     match bad_pair(alloc, f, d, pairs)? {
         Some(place) => Ok(failure(Kind::BadPair, place)),
+        None => Ok(None),
+    }
+}
+
+/// The first failing check of those of the class matching.
+fn matching_failure(
+    alloc: Global,
+    f: &Formula,
+    d: &DoneDocument,
+    own: &[Own],
+    rows: &[MatchRow],
+) -> Result<Option<Why>, OutOfMemory>
+    requires form { IsTrue (is_done_in_form d.now) }
+    requires body { d.now.body ≡ Matching own.now rows.now }
+    requires sizes { HasSizes f.now d.now }
+    ensures { IfOk result (λ why. why ≡ first_of (class_checks no_variable f.now d.now (Matching own.now rows.now))) }
+{
+    if let Some(place) = bad_owner(alloc, f, d, own)? {
+        return Ok(failure(Kind::BadOwner, place));
+    }
+    match bad_row(alloc, f, d, rows)? {
+        Some(place) => Ok(failure(Kind::BadRow, place)),
         None => Ok(None),
     }
 }

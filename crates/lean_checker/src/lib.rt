@@ -4,6 +4,7 @@
 mod checking;
 mod common;
 mod literal_set;
+mod matching;
 mod order;
 mod pairs;
 mod verdict;

@@ -14,19 +14,19 @@ use Rattle.kernel_laws.specs.General.JoinLaw.{IsApart}
 use Rattle.kernel_laws.specs.General.PartLaw.{PartLaw}
 
 -- clauses that mention one variable share it
-shares : (c d : List ℤ) (v : ℕ) → mentions c v ≡ true → mentions d v ≡ true → share_variable c d ≡ true
+pub shares : (c d : List ℤ) (v : ℕ) → mentions c v ≡ true → mentions d v ≡ true → share_variable c d ≡ true
 shares c d v m n =
     let w = literal_passing (λ l. variable l == v) c m in
     passes_one (λ l. mentions d (variable l)) c w.0 w.1 (subst (λ (u : ℕ). mentions d u ≡ true) (sym (eqb-true (variable w.0) v w.2)) n)
 
 -- and what they share both mention
-shared : (c d : List ℤ) → share_variable c d ≡ true → (v : ℕ) × (mentions c v ≡ true) × (mentions d v ≡ true)
+pub shared : (c d : List ℤ) → share_variable c d ≡ true → (v : ℕ) × (mentions c v ≡ true) × (mentions d v ≡ true)
 shared c d e =
     let w = literal_passing (λ l. mentions d (variable l)) c e in
     (variable w.0, passes_one (λ l. variable l == variable w.0) c w.0 w.1 (eq-eqb (variable w.0) (variable w.0) refl), w.2)
 
 -- a chain goes on to a neighbour
-leads_more : (F : Cnf) (p q r : ℕ) (chain : List ℕ) → Leads F p chain q → share_variable (clause_at F q) (clause_at F r) ≡ true → Leads F p (chain ++ r ∷ []) r
+pub leads_more : (F : Cnf) (p q r : ℕ) (chain : List ℕ) → Leads F p chain q → share_variable (clause_at F q) (clause_at F r) ≡ true → Leads F p (chain ++ r ∷ []) r
 leads_more F p q r [] e s = (subst (λ (x : ℕ). share_variable (clause_at F x) (clause_at F r) ≡ true) (sym e) s, refl)
 leads_more F p q r (x ∷ chain) h s = (h.0, leads_more F x q r chain h.1 s)
 

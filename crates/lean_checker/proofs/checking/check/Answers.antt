@@ -3,8 +3,7 @@ use Rattle.lk_model.specs.Documents.Form.{is_in_form}
 use Rattle.lk_model.specs.declared.document.Document.{Document}
 use Rattle.std.proofs.Common.{◌≡◌, true}
 use Rattle.lean_checker.specs.Accepted.{IsReducedBy}
-use Rattle.lean_checker.specs.Checked.{IsChecked}
-use Rattle.lean_checker.proofs.Reduced.{accepted_reduces}
+use Rattle.kernel_laws.proofs.Protected.AcceptedLaws.{accepted_law}
 use Rattle.lean_checker.proofs.checking.check.Goals as goal
 
 pub returns-in-None-clause-reduction : goal.returns-in-None-clause-reduction
@@ -12,6 +11,5 @@ returns-in-None-clause-reduction g c = λ _.
     let F = c.args.f.now in
     let d = c.in-Done.done in
     let form = subst (λ (e : Document). is_in_form e ≡ true) c.in-Done.is c.requires.form in
-    let checked = subst (λ (e : Document). IsChecked e) c.in-Done.is c.requires.checked in
     subst (λ (e : Document). IsReducedBy F e) (sym c.in-Done.is)
-    (accepted_reduces F d c.in_ok-why-in-Done.ensures.formula checked (record { form = form; checks = sym (sym c.in-None.is ∙ c.in_ok-why-in-Done.ensures.first) }))
+    (accepted_law.reduces F d c.in_ok-why-in-Done.ensures.formula (record { form = form; checks = sym (sym c.in-None.is ∙ c.in_ok-why-in-Done.ensures.first) }))

@@ -1,8 +1,0 @@
--- Words as they are written.
-use Rattle.std.specs.Prelude.{ℕ, List, [], ◌∷◌, ◌++◌}
-use Rattle.std.specs.List.{flat_map}
-use Rattle.lk_model.specs.Texts.Lines.{Word}
-
--- the words in a row, each with a space behind it
-abbrev pub spaced : List Word → List ℕ
-spaced words = flat_map (λ word. word ++ 32 ∷ []) words

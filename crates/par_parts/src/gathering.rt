@@ -1,0 +1,36 @@
+//! The parts of a formula.
+ghost use Rattle.std.specs.Prelude.{◌≡◌, ◌≢◌, ◌+◌, ◌<◌, ◌≤◌, ℕ, length, slice_index, IfOk};
+ghost use Rattle.lk_model.specs.Formulas.Parts.{AreParts};
+ghost use Rattle.lk_model.specs.Limits.{max_clauses};
+ghost use Rattle.par_parts.specs.Numbering.{gathered};
+
+use crate::incidence::empty_lists;
+use crate::search::number_parts;
+use lk_model::{Formula, List, OutOfMemory};
+use std::alloc::Global;
+
+/// The parts of a formula: two positions are in one part where a chain of positions leads from one to the
+/// other in which neighbours share a variable. They are ordered by their least positions, and each is
+/// ascending. An empty clause is a part by itself.
+pub fn parts(alloc: Global, f: &Formula) -> Result<List<List<u32>>, OutOfMemory>
+    ensures { IfOk result (λ parts. AreParts f.now parts) }
+{
+    let found = number_parts(alloc, f)?;
+    let lists = gather(alloc, &found.labels, found.roots.len())?;
+    Ok(List::from_vec(lists))
+}
+
+// The positions of each number.
+fn gather(alloc: Global, labels: &[u32], count: usize) -> Result<Vec<List<u32>>, OutOfMemory>
+    requires some { 0 < length labels.now }
+    requires few { length labels.now ≤ max_clauses + 1 }
+    requires labels { (p : ℕ) → 0 < p → p < length labels.now → slice_index labels.now p ≢ 0 }
+    requires count { (p : ℕ) → slice_index labels.now p ≤ count }
+    ensures { IfOk result (λ v. v.items ≡ gathered labels.now count) }
+{
+    let mut parts = empty_lists(alloc, count)?;
+    for p in 1..labels.len() as u32 {
+        parts[labels[p as usize] as usize - 1].push(p)?;
+    }
+    Ok(parts)
+}

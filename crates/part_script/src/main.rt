@@ -1,0 +1,57 @@
+//! Finds the parts of formulas, works on lists in halves, and prints what comes out.
+//!
+//! A line of standard input is a command. It is printed again, and behind it stand the answers, each in a
+//! line that begins with `=`. A line that begins with `#` is a remark.
+//!
+//! - `parts N; CLAUSES` tells the parts of a formula: the number of its variables, and its clauses with
+//!   commas between them, 0 for an empty one.
+//! - `drawn N` compares the parts of so many drawn formulas with those that a plain program finds.
+//! - `units N` counts the parts of a unit clause for each of so many variables, and `chain N` those of the
+//!   clauses of two neighbouring ones, each four times.
+//! - `halves N; NUMBERS` adds to each number its index, with so many workers.
+//! - `meet N; NUMBERS` does it with a gate that holds each half until the other one has entered, and tells
+//!   how often each half entered and whether it met the other one.
+//! - `sides N; NUMBERS` does it with a gate that holds half 1 until the first number was worked on, and
+//!   tells whether it was.
+#![tactic(auto)]
+
+mod formulas;
+mod gates;
+mod halves;
+mod plain_parts;
+
+use crate::formulas::{tell_chain, tell_drawn, tell_parts, tell_units};
+use crate::halves::tell_halves;
+use std::alloc::Global;
+use std::test::Fail;
+use std::thread::Threads;
+
+/// Writes what the command of a line answers.
+fn tell<R: Threads + Sync>(
+    rt: &R,
+    alloc: Global,
+    line: &str,
+    out: &mut String,
+) -> Result<(), Fail> {
+    let (word, text) = line.split_once(" ").unwrap_or((line, ""));
+    let (number, others) = text.split_once(";").unwrap_or((text, ""));
+    let number = number.trim().parse().unwrap_or(0);
+    match word {
+        "parts" => tell_parts(alloc, number, others, out),
+        "drawn" => tell_drawn(alloc, number, out),
+        "units" => tell_units(alloc, number, out),
+        "chain" => tell_chain(alloc, number, out),
+        "halves" | "meet" | "sides" => tell_halves(rt, alloc, word, number, others, out),
+        _ => Ok(()),
+    }
+}
+
+fn main(rt: HostRuntime) -> Result<(), Fail> {
+    for line in rt.lines(rt.alloc()) {
+        let line = line?;
+        let mut out = String::new(rt.alloc());
+        tell(&rt, rt.alloc(), line.as_str(), &mut out)?;
+        print!(rt; "{line}\n{out}")?;
+    }
+    Ok(())
+}
