@@ -26,11 +26,12 @@ any_push_cases t xs x e = elim (or_true (list_any t xs) (list_any t (x ∷ [])) 
 pub same_number : (p : ℕ) → (p == p) ≡ true
 same_number p = eq-eqb p p refl
 
--- an element that is written, or another one
+-- the element that is written
 pub record IsWritten {X : Type 0} (xs ys : List X) (k : ℕ) (y : X) (d : X) (i : ℕ) : Type 0 where
   pub here : i ≡ k
   pub is : get_or ys i d ≡ y
 
+-- another element
 pub record IsOther {X : Type 0} (xs ys : List X) (k : ℕ) (d : X) (i : ℕ) : Type 0 where
   pub away : i ≢ k
   pub is : get_or ys i d ≡ get_or xs i d

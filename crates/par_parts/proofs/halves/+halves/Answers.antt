@@ -14,6 +14,6 @@ returns g t c =
     IfOk-weaker c.appended.result (λ v. v.items ≡ us ++ ws) (λ v. GivesFrom g.F.Fn c.args.f.now c.args.from c.args.items.now v.items)
     (λ v is. gives_halves g.F.Fn c.args.f.now c.args.from (c.args.from + h) h c.args.items.now left right us ws v.items
     c.split_at.ensures.front c.split_at.ensures.back c.split_at.ensures.front_len (omega arith) is
-    (IfOk-at_ok (λ v. GivesFrom g.F.Fn c.args.f.now c.args.from left v.items) c.in_ok-left_answers.was c.join-on_left.ensures.first)
-    (IfOk-at_ok (λ v. GivesFrom g.F.Fn c.args.f.now (c.args.from + h) right v.items) c.in_ok-right_answers.was c.join-on_left.ensures.second))
+    (IfOk-at_ok (λ v. GivesFrom g.F.Fn c.args.f.now c.args.from left v.items) {r = c.join-on_left.result.0} c.in_ok-left_answers.was c.join-on_left.ensures.first)
+    (IfOk-at_ok (λ v. GivesFrom g.F.Fn c.args.f.now (c.args.from + h) right v.items) {r = c.join-on_left.result.1} c.in_ok-right_answers.was c.join-on_left.ensures.second))
     c.appended.ensures

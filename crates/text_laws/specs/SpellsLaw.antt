@@ -1,0 +1,23 @@
+-- What leank writes is DIMACS: a formula in plain text, and a document.
+use Rattle.std.specs.Prelude.{◌≤◌, length, IsTrue}
+use Rattle.lk_model.specs.Limits.{max_bytes}
+use Rattle.lk_model.specs.Formulas.Formula.{Cnf, is_formula, IsWithinLimits}
+use Rattle.lk_model.specs.Texts.PlainText.{plain_text}
+use Rattle.lk_model.specs.Texts.Dimacs.{Spells}
+use Rattle.lk_model.specs.Documents.Form.{is_in_form}
+use Rattle.lk_model.specs.Documents.Text.{text_of}
+use Rattle.lk_model.specs.declared.document.Document.{Document}
+use Rattle.lk_model.specs.declared.document.Document.TheVariants.{Done, Unfinished}
+
+-- the clauses of a document: the kept ones, or the whole formula of an unfinished one
+abbrev pub texts_of : Document → Cnf
+texts_of (Done d) = d.texts
+texts_of (Unfinished d) = d.texts
+
+-- the plain text of a formula within the limits spells it, where it is not too long to be read
+abbrev pub PlainLaw : Type 0
+PlainLaw = (F : Cnf) → IsTrue (is_formula F) → IsWithinLimits F → length (plain_text F) ≤ max_bytes → Spells (plain_text F) F
+
+-- the text of a document in form spells its clauses, where it is not too long to be read
+abbrev pub SpellsLaw : Type 0
+SpellsLaw = (d : Document) → IsTrue (is_in_form d) → length (text_of d) ≤ max_bytes → Spells (text_of d) (texts_of d)

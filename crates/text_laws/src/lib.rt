@@ -1,0 +1,6 @@
+//! Laws of the texts that leank writes: they are DIMACS.
+#![tactic(auto)]
+
+mod laws;
+
+pub use laws::{plain_law, spells_law};
