@@ -4,7 +4,7 @@ ghost use Rattle.std.specs.Prelude.{◌≡◌, length, IfOk};
 use crate::parts::{Parts, number_of};
 use lk_model::Lit;
 use lk_samples::{formula_of_text, literals_of_text, makes_clause};
-use partial_assign::Partial;
+use partial_assign::{Partial, compose, extend_total};
 use std::alloc::{AllocError, Global};
 use std::test::Fail;
 
@@ -95,4 +95,30 @@ fn first_of(alloc: Global, n: u32, parts: Parts) -> Result<Option<u32>, Fail> {
     let assignment = assignment_of(alloc, n, parts.second)?;
     let f = formula_of_text(alloc, n, parts.third)?;
     Ok(assignment.first_unsatisfied_touched(&f))
+}
+
+/// `compose N | LITERALS | LITERALS`: the values that the first assignment gives, else the second.
+pub(crate) fn put_composed(alloc: Global, parts: Parts, out: &mut String) -> Result<(), Fail> {
+    let n = number_of(parts.first);
+    let first = assignment_of(alloc, n, parts.second)?;
+    let second = assignment_of(alloc, n, parts.third)?;
+    put_each(&compose(alloc, &first, &second)?, out)?;
+    Ok(())
+}
+
+/// `extend N | LITERALS | LITERALS`: a literal for each variable, by the first assignment, else by the
+/// second, else negative.
+pub(crate) fn put_extended(alloc: Global, parts: Parts, out: &mut String) -> Result<(), Fail> {
+    let n = number_of(parts.first);
+    let phi = assignment_of(alloc, n, parts.second)?;
+    let psi = assignment_of(alloc, n, parts.third)?;
+    put_literals(extend_total(alloc, &phi, &psi)?.as_slice(), out)?;
+    Ok(())
+}
+
+fn put_literals(literals: &[Lit], out: &mut String) -> Result<(), AllocError> {
+    for l in literals {
+        write!(out, " {}", l.get())?;
+    }
+    Ok(())
 }

@@ -28,6 +28,8 @@ fn put_answer(alloc: Global, word: &str, parts: Parts, out: &mut String) -> Resu
         "values" => assignments::put_values(alloc, parts, out),
         "clause" => assignments::put_clause(alloc, parts, out),
         "first" => assignments::put_first(alloc, parts, out),
+        "compose" => assignments::put_composed(alloc, parts, out),
+        "extend" => assignments::put_extended(alloc, parts, out),
         _ => put_model(alloc, word, parts, out),
     }
 }

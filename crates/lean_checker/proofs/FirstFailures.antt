@@ -1,14 +1,14 @@
 -- The first failing check, from the places of the checks in their order.
 use Rattle.std.proofs.Common.{◌≡◌, ◌∙◌, ℕ, true, List, [], ◌∷◌, ◌++◌, length, map, refl, sym, ap, subst, arith, ℤ, Option, Some, None}
-use Rattle.std.specs.Prelude.{◌==◌, nat_le, find, false}
+use Rattle.std.specs.Prelude.{◌==◌, nat_le}
 use Rattle.std.specs.List.{list_all}
 use Rattle.std.specs.Option.{option_map_or, option_or}
 use Rattle.std.proofs.lemmas.Bool.{eqb-true, le-leb}
 use Rattle.lk_model.specs.Lists.{rises_within}
 use Rattle.lk_model.specs.Formulas.Literal.{variable, is_literal}
 use Rattle.lk_model.specs.Limits.{max_literals}
-use Rattle.lk_model.specs.Formulas.Formula.{Cnf, is_formula, literal_count, variables_to}
-use Rattle.lk_model.specs.Formulas.Crossed.{no_variable, protected_by}
+use Rattle.lk_model.specs.Formulas.Formula.{Cnf, is_formula, literal_count}
+use Rattle.lk_model.specs.Formulas.Crossed.{Variables, no_variable, protected_by}
 use Rattle.lk_model.specs.Formulas.Assignment.{assignment_of, first_unsatisfied}
 use Rattle.lk_model.specs.Documents.Form.{is_done_in_form, is_body, is_pair, are_clause_lines}
 use Rattle.lk_model.specs.Checks.Check.{Check, first_of}
@@ -21,7 +21,7 @@ use Rattle.lk_model.specs.declared.document.Body.TheVariants.{Pure}
 use Rattle.lk_model.specs.declared.document.Document.TheVariants.{Done}
 use Rattle.lk_model.specs.declared.document.DoneDocument.{DoneDocument}
 use Rattle.lk_model.specs.declared.verdict.Kind.{Kind}
-use Rattle.lk_model.specs.declared.verdict.Kind.TheVariants.{OtherFormula, KeptClause, NotAutarky, NotExactlyRemoved, BadOrder, BadPair}
+use Rattle.lk_model.specs.declared.verdict.Kind.TheVariants.{OtherFormula, KeptClause, ProtectedSet, NotAutarky, NotExactlyRemoved, BadOrder, BadPair}
 use Rattle.lk_model.specs.declared.verdict.Why.{Why}
 use Rattle.lk_model.proofs.Booleans.{and_true}
 use Rattle.lk_model.proofs.Rising.{rises}
@@ -47,15 +47,7 @@ first_of-append (c ∷ cs) ds = at_place c.kind c.place (first_of cs) (first_of 
     at_place k None x y z e = e
     at_place k (Some p) x y z e = refl
 
--- THE FIRST FIVE, of which no set line fails the third where nothing is protected
-
-never : (ns : List ℕ) → find (λ n. false) ns ≡ None
-never [] = refl
-never (n ∷ ns) = never ns
-
-protected_passes : (F : Cnf) (d : DoneDocument) → None ≡ (protected_set no_variable F d).place
-unfolding protected_set
-protected_passes F d = sym (never (variables_to F.vars))
+-- THE FIRST FIVE, under a set P
 
 other_kind : (F : Cnf) (d : DoneDocument) → (other_formula F d.vars d.clauses).kind ≡ OtherFormula
 unfolding other_formula
@@ -64,6 +56,10 @@ other_kind F d = refl
 kept_kind : (F : Cnf) (d : DoneDocument) → (kept_clause F d).kind ≡ KeptClause
 unfolding kept_clause
 kept_kind F d = refl
+
+protected_kind : (P : Variables) (F : Cnf) (d : DoneDocument) → (protected_set P F d).kind ≡ ProtectedSet
+unfolding protected_set
+protected_kind P F d = refl
 
 autarky_kind : (F : Cnf) (d : DoneDocument) → (not_autarky F d).kind ≡ NotAutarky
 unfolding not_autarky
@@ -81,40 +77,54 @@ unsatisfied_is F d = refl
 abbrev behind_third : Cnf → DoneDocument → List Check
 behind_third F d = not_autarky F d ∷ not_exactly_removed F d ∷ []
 
-abbrev behind_second : Cnf → DoneDocument → List Check
-behind_second F d = protected_set no_variable F d ∷ behind_third F d
+abbrev behind_second : Variables → Cnf → DoneDocument → List Check
+behind_second P F d = protected_set P F d ∷ behind_third F d
 
-abbrev behind_first : Cnf → DoneDocument → List Check
-behind_first F d = kept_clause F d ∷ behind_second F d
+abbrev behind_first : Variables → Cnf → DoneDocument → List Check
+behind_first P F d = kept_clause F d ∷ behind_second P F d
 
--- where the first two pass, the first failure of all is that of what stands behind the third
-behind_two : (F : Cnf) (d : DoneDocument) → None ≡ (other_formula F d.vars d.clauses).place → None ≡ (kept_clause F d).place
-    → first_of (behind_third F d) ≡ first_of (first_five no_variable F d)
-behind_two F d a b = passes_first (protected_set no_variable F d) (behind_third F d) (protected_passes F d)
-    ∙ passes_first (kept_clause F d) (behind_second F d) b ∙ passes_first (other_formula F d.vars d.clauses) (behind_first F d) a
+-- the first two of them pass
+pub record PassTwo (F : Cnf) (d : DoneDocument) : Type 0 where
+  pub formula : None ≡ (other_formula F d.vars d.clauses).place
+  pub lines : None ≡ (kept_clause F d).place
 
-pub first_fails : (F : Cnf) (d : DoneDocument) (p : ℕ) → Some p ≡ (other_formula F d.vars d.clauses).place → Some (failure OtherFormula p) ≡ first_of (first_five no_variable F d)
-first_fails F d p e = ap (λ (k : Kind). Some (failure k p)) (sym (other_kind F d)) ∙ fails_first (other_formula F d.vars d.clauses) (behind_first F d) p e
+-- the first three
+pub record PassThree (P : Variables) (F : Cnf) (d : DoneDocument) : Type 0 where
+  pub two : PassTwo F d
+  pub unset : None ≡ (protected_set P F d).place
 
-pub second_fails : (F : Cnf) (d : DoneDocument) (p : ℕ) → None ≡ (other_formula F d.vars d.clauses).place → Some p ≡ (kept_clause F d).place → Some (failure KeptClause p) ≡ first_of (first_five no_variable F d)
-second_fails F d p a e =
-    ap (λ (k : Kind). Some (failure k p)) (sym (kept_kind F d)) ∙ fails_first (kept_clause F d) (behind_second F d) p e
-    ∙ passes_first (other_formula F d.vars d.clauses) (behind_first F d) a
+-- then the first failure of all is that of what stands behind these
+behind_two : (P : Variables) (F : Cnf) (d : DoneDocument) → PassTwo F d → first_of (behind_second P F d) ≡ first_of (first_five P F d)
+behind_two P F d h = passes_first (kept_clause F d) (behind_second P F d) h.lines ∙ passes_first (other_formula F d.vars d.clauses) (behind_first P F d) h.formula
 
-pub autarky_fails_first : (F : Cnf) (d : DoneDocument) (p : ℕ) → None ≡ (other_formula F d.vars d.clauses).place → None ≡ (kept_clause F d).place → Some p ≡ (not_autarky F d).place
-    → Some (failure NotAutarky p) ≡ first_of (first_five no_variable F d)
-autarky_fails_first F d p a b e =
-    ap (λ (k : Kind). Some (failure k p)) (sym (autarky_kind F d)) ∙ fails_first (not_autarky F d) (not_exactly_removed F d ∷ []) p e ∙ behind_two F d a b
+behind_three : (P : Variables) (F : Cnf) (d : DoneDocument) → PassThree P F d → first_of (behind_third F d) ≡ first_of (first_five P F d)
+behind_three P F d h = passes_first (protected_set P F d) (behind_third F d) h.unset ∙ behind_two P F d h.two
 
-pub removal_fails_first : (F : Cnf) (d : DoneDocument) (p : ℕ) → None ≡ (other_formula F d.vars d.clauses).place → None ≡ (kept_clause F d).place → None ≡ (not_autarky F d).place
-    → Some p ≡ (not_exactly_removed F d).place → Some (failure NotExactlyRemoved p) ≡ first_of (first_five no_variable F d)
-removal_fails_first F d p a b c e =
+pub first_fails : (P : Variables) (F : Cnf) (d : DoneDocument) (p : ℕ) → Some p ≡ (other_formula F d.vars d.clauses).place → Some (failure OtherFormula p) ≡ first_of (first_five P F d)
+first_fails P F d p e = ap (λ (k : Kind). Some (failure k p)) (sym (other_kind F d)) ∙ fails_first (other_formula F d.vars d.clauses) (behind_first P F d) p e
+
+pub second_fails : (P : Variables) (F : Cnf) (d : DoneDocument) (p : ℕ) → None ≡ (other_formula F d.vars d.clauses).place → Some p ≡ (kept_clause F d).place → Some (failure KeptClause p) ≡ first_of (first_five P F d)
+second_fails P F d p a e =
+    ap (λ (k : Kind). Some (failure k p)) (sym (kept_kind F d)) ∙ fails_first (kept_clause F d) (behind_second P F d) p e
+    ∙ passes_first (other_formula F d.vars d.clauses) (behind_first P F d) a
+
+pub protected_fails_first : (P : Variables) (F : Cnf) (d : DoneDocument) (p : ℕ) → PassTwo F d → Some p ≡ (protected_set P F d).place → Some (failure ProtectedSet p) ≡ first_of (first_five P F d)
+protected_fails_first P F d p h e =
+    ap (λ (k : Kind). Some (failure k p)) (sym (protected_kind P F d)) ∙ fails_first (protected_set P F d) (behind_third F d) p e ∙ behind_two P F d h
+
+pub autarky_fails_first : (P : Variables) (F : Cnf) (d : DoneDocument) (p : ℕ) → PassThree P F d → Some p ≡ (not_autarky F d).place → Some (failure NotAutarky p) ≡ first_of (first_five P F d)
+autarky_fails_first P F d p h e =
+    ap (λ (k : Kind). Some (failure k p)) (sym (autarky_kind F d)) ∙ fails_first (not_autarky F d) (not_exactly_removed F d ∷ []) p e ∙ behind_three P F d h
+
+pub removal_fails_first : (P : Variables) (F : Cnf) (d : DoneDocument) (p : ℕ) → PassThree P F d → None ≡ (not_autarky F d).place
+    → Some p ≡ (not_exactly_removed F d).place → Some (failure NotExactlyRemoved p) ≡ first_of (first_five P F d)
+removal_fails_first P F d p h c e =
     ap (λ (k : Kind). Some (failure k p)) (sym (removed_kind F d)) ∙ fails_first (not_exactly_removed F d) [] p e
-    ∙ passes_first (not_autarky F d) (not_exactly_removed F d ∷ []) c ∙ behind_two F d a b
+    ∙ passes_first (not_autarky F d) (not_exactly_removed F d ∷ []) c ∙ behind_three P F d h
 
-pub none_of_five : (F : Cnf) (d : DoneDocument) → None ≡ (other_formula F d.vars d.clauses).place → None ≡ (kept_clause F d).place → None ≡ (not_autarky F d).place
-    → None ≡ (not_exactly_removed F d).place → None ≡ first_of (first_five no_variable F d)
-none_of_five F d a b c e = passes_first (not_exactly_removed F d) [] e ∙ passes_first (not_autarky F d) (not_exactly_removed F d ∷ []) c ∙ behind_two F d a b
+pub none_of_five : (P : Variables) (F : Cnf) (d : DoneDocument) → PassThree P F d → None ≡ (not_autarky F d).place → None ≡ (not_exactly_removed F d).place
+    → None ≡ first_of (first_five P F d)
+none_of_five P F d h c e = passes_first (not_exactly_removed F d) [] e ∙ passes_first (not_autarky F d) (not_exactly_removed F d ∷ []) c ∙ behind_three P F d h
 
 -- THE CLASS PURE
 
@@ -137,17 +147,17 @@ none_of_pure F d order pairs a e = passes_first (bad_pair no_variable F d pairs)
 
 -- ALL
 
-failure_is : (F : Cnf) (d : DoneDocument) → d.protect ≡ None → option_or (first_of (first_five no_variable F d)) (first_of (class_checks no_variable F d d.body)) ≡ first_failure F (Done d)
+failure_is : (F : Cnf) (d : DoneDocument) → d.protect ≡ None → option_or (first_of (first_five (protected_by d.protect) F d)) (first_of (class_checks no_variable F d d.body)) ≡ first_failure F (Done d)
 unfolding first_failure_under
-failure_is F d none = sym (first_of-append (first_five no_variable F d) (class_checks no_variable F d d.body))
-    ∙ ap (λ (o : Option (List ℕ)). first_of (first_five (protected_by o) F d ++ class_checks (protected_by o) F d d.body)) (sym none)
+failure_is F d none = sym (first_of-append (first_five (protected_by d.protect) F d) (class_checks no_variable F d d.body))
+    ∙ ap (λ (o : Option (List ℕ)). first_of (first_five (protected_by d.protect) F d ++ class_checks (protected_by o) F d d.body)) (sym none)
 
 -- one of the five is the first that fails
-pub common_found : (F : Cnf) (d : DoneDocument) (why : Why) → d.protect ≡ None → Some why ≡ first_of (first_five no_variable F d) → Some why ≡ first_failure F (Done d)
+pub common_found : (F : Cnf) (d : DoneDocument) (why : Why) → d.protect ≡ None → Some why ≡ first_of (first_five (protected_by d.protect) F d) → Some why ≡ first_failure F (Done d)
 common_found F d why none e = ap (λ (o : Option Why). option_or o (first_of (class_checks no_variable F d d.body))) e ∙ failure_is F d none
 
 -- or the first of those of the class
-pub class_found : (F : Cnf) (d : DoneDocument) (o : Option Why) → d.protect ≡ None → None ≡ first_of (first_five no_variable F d) → o ≡ first_of (class_checks no_variable F d d.body) → o ≡ first_failure F (Done d)
+pub class_found : (F : Cnf) (d : DoneDocument) (o : Option Why) → d.protect ≡ None → None ≡ first_of (first_five (protected_by d.protect) F d) → o ≡ first_of (class_checks no_variable F d d.body) → o ≡ first_failure F (Done d)
 class_found F d o unprotected none e = e ∙ ap (λ (w : Option Why). option_or w (first_of (class_checks no_variable F d d.body))) none ∙ failure_is F d unprotected
 
 -- WHAT THE FORM GIVES

@@ -12,3 +12,5 @@ pub mod FirstTables
 pub mod MatchingChecks
 pub mod FirstFailures
 pub mod MatchingFailures
+pub mod ProtectedSets
+pub mod ExtendFailures

@@ -1,7 +1,7 @@
 //! The whole check.
 ghost use Rattle.std.specs.Prelude.{◌≡◌, ◌<◌, None, IfOk, IsTrue};
 ghost use Rattle.lk_model.specs.Formulas.Formula.{is_formula};
-ghost use Rattle.lk_model.specs.Formulas.Crossed.{no_variable};
+ghost use Rattle.lk_model.specs.Formulas.Crossed.{no_variable, protected_by};
 ghost use Rattle.lk_model.specs.Documents.Form.{is_done_in_form, is_in_form};
 ghost use Rattle.lk_model.specs.Checks.Checks.{first_failure, first_five, class_checks};
 ghost use Rattle.lk_model.specs.Checks.Check.{first_of};
@@ -15,6 +15,7 @@ use crate::common::{assignment_of, kept_clause, kept_flags, not_exactly_removed,
 use crate::matching::{bad_owner, bad_row};
 use crate::order::bad_order;
 use crate::pairs::bad_pair;
+use crate::protected::protected_set;
 use crate::verdict::Verdict;
 use lk_model::{
     Body, Document, DoneDocument, Formula, Kind, Lit, MatchRow, OutOfMemory, Own, Pair, Why,
@@ -72,9 +73,13 @@ fn first_failure(alloc: Global, f: &Formula, d: &DoneDocument) -> Result<Option<
 }
 
 /// The first failing check of those that every finished document has.
-fn common_failure(alloc: Global, f: &Formula, d: &DoneDocument) -> Result<Option<Why>, OutOfMemory>
+pub(crate) fn common_failure(
+    alloc: Global,
+    f: &Formula,
+    d: &DoneDocument,
+) -> Result<Option<Why>, OutOfMemory>
     requires { IsTrue (is_done_in_form d.now) }
-    ensures first { IfOk result (λ why. why ≡ first_of (first_five no_variable f.now d.now)) }
+    ensures first { IfOk result (λ why. why ≡ first_of (first_five (protected_by d.now.protect) f.now d.now)) }
     ensures sizes { IfOk result (λ why. why ≡ None → HasSizes f.now d.now) }
     ensures formula { IsTrue (is_formula f.now) }
 {
@@ -85,6 +90,9 @@ fn common_failure(alloc: Global, f: &Formula, d: &DoneDocument) -> Result<Option
         return Ok(failure(Kind::KeptClause, place));
     }
     let values = assignment_of(alloc, f.vars(), d.set.as_slice())?;
+    if let Some(place) = protected_set(d, &values) {
+        return Ok(failure(Kind::ProtectedSet, place));
+    }
     if let Some(place) = values.first_unsatisfied_touched(f) {
         return Ok(failure(Kind::NotAutarky, place));
     }
@@ -96,7 +104,7 @@ fn common_failure(alloc: Global, f: &Formula, d: &DoneDocument) -> Result<Option
 }
 
 /// The failure of a kind at a position or variable.
-fn failure(kind: Kind, place: u32) -> Option<Why>
+pub(crate) fn failure(kind: Kind, place: u32) -> Option<Why>
     ensures { result ≡ Some (record { kind = kind; place = place }) }
 {
     Some(Why {

@@ -3,11 +3,14 @@
 
 mod checking;
 mod common;
+mod extend;
 mod literal_set;
 mod matching;
 mod order;
 mod pairs;
+mod protected;
 mod verdict;
 
 pub use checking::check;
+pub use extend::check_extend;
 pub use verdict::{Verdict, VerdictText, put_verdict};

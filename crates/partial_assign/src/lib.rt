@@ -2,5 +2,7 @@
 #![tactic(auto)]
 
 mod assignment;
+mod extension;
 
 pub use assignment::Partial;
+pub use extension::{compose, extend_total};

@@ -6,6 +6,10 @@
 //! `matching N; CLAUSES; KEPT; SET; OWN; ROWS` has the number of variables, the clauses with commas between
 //! them, the kept positions, the literals of the set line, and the lines `own` and `row`, each as its numbers,
 //! with commas between them. The clause lines are those of the formula.
+//!
+//! `extend CLASS N M; PROTECT; KEPT; SET; LINES; N; CLAUSES; MODEL` has a document without lines of its class:
+//! the numbers that it states, its protected variables or `none`, the kept positions, the set line and the
+//! clause lines; then the formula, and the literals of a model that is to be extended.
 #![tactic(auto)]
 
 ghost use Rattle.std.specs.Prelude.{◌≤◌, IsTrue};
@@ -13,10 +17,12 @@ ghost use Rattle.lk_model.specs.Documents.Form.{is_in_form};
 ghost use Rattle.lean_checker.specs.Checked.{IsChecked};
 
 mod documents;
+mod extension;
 mod form;
 mod parts;
 
 use crate::documents::matching_document;
+use crate::extension::extension_failure;
 use crate::parts::{formula_of, lines_of, split};
 use lean_checker::{Verdict, VerdictText, check, put_verdict};
 use lk_model::{Document, Formula, OutOfMemory};
@@ -67,11 +73,21 @@ fn print_over<R: Threads + Sync + AllocGlobal + Print>(
     Ok(print_text(rt, &put_verdict(&verdict))?)
 }
 
+/// Prints the first failing check of the document and the model that the text of a line has.
+fn print_extension<R: AllocGlobal + Print>(rt: &R, text: &str) -> Result<(), Fail> {
+    match extension_failure(rt.alloc(), text)? {
+        Some(why) => print_text(rt, &put_verdict(&Verdict::No(why)))?,
+        None => println!(rt; "= none fails")?,
+    }
+    Ok(())
+}
+
 /// Prints a line, and the verdict where it has a document.
 fn tell<R: Threads + Sync + AllocGlobal + Print>(rt: &R, line: &str) -> Result<(), Fail> {
     println!(rt; "{line}")?;
     match line.split_once(" ") {
         Some(("matching", text)) => print_matching(rt, text),
+        Some(("extend", text)) => print_extension(rt, text),
         _ => Ok(()),
     }
 }

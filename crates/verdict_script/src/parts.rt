@@ -55,7 +55,7 @@ fn push_numbers(numbers: &mut Vec<u32>, text: &str) -> Result<(), Fail> {
 }
 
 /// The numbers that a text has.
-fn numbers_of(alloc: Global, text: &str) -> Result<Vec<u32>, Fail> {
+pub(crate) fn numbers_of(alloc: Global, text: &str) -> Result<Vec<u32>, Fail> {
     let mut numbers = Vec::new(alloc);
     push_numbers(&mut numbers, text)?;
     Ok(numbers)

@@ -1,0 +1,6 @@
+pub mod Orders
+pub mod Sources
+pub mod JoinedLaws
+pub mod Tables
+pub mod PartItems
+pub mod Results

@@ -1,0 +1,54 @@
+-- What the matching reducer finds in the parts of a formula, joined.
+use Rattle.std.specs.Prelude.{◌≡◌, ◌^◌, ℕ, List, [], ◌∷◌, ⊤, length, map, Contains, IsTrue}
+use Rattle.std.specs.List.{flat_map}
+use Rattle.lk_model.specs.Lists.{rises_within}
+use Rattle.lk_model.specs.Formulas.Formula.{Cnf, positions_of}
+use Rattle.lk_model.specs.Formulas.Parts.{AreParts}
+use Rattle.lk_model.specs.declared.document.Own.{Own}
+use Rattle.lk_model.specs.declared.document.MatchRow.{MatchRow}
+use Rattle.lk_model.specs.declared.result.MatchingResult.{MatchingResult}
+use Rattle.kernel_laws.specs.Matching.MatchingResults.{IsMatchingResult}
+
+-- one result for each of these parts
+abbrev pub AreMatchingResults : Cnf → List (List ℕ) → List MatchingResult → Type 0
+AreMatchingResults F [] [] = ⊤
+AreMatchingResults F (part ∷ parts) (r ∷ found) = IsMatchingResult F part r × AreMatchingResults F parts found
+AreMatchingResults F _ _ = ⊥
+
+-- results for the parts of a formula of m clauses
+pub record AreOfParts (m : ℕ) (found : List MatchingResult) : Type 0 where
+  pub formula : Cnf
+  pub parts : List (List ℕ)
+  pub count : length formula.clauses ≡ m
+  pub are : AreParts formula parts
+  pub results : AreMatchingResults formula parts found
+
+-- exactly the items of a list, by their keys, which rise from above 0 to at most high
+pub record AreInOrder {X : Type 0} (key : X → ℕ) (high : ℕ) (items ordered : List X) : Type 0 where
+  pub rising : IsTrue (rises_within 0 high (map key ordered))
+  pub only : (x : X) → Contains ordered x → Contains items x
+  pub every : (x : X) → Contains items x → Contains ordered x
+
+-- what all results keep, their own lines and their rows
+abbrev pub all_kept : List MatchingResult → List ℕ
+all_kept found = flat_map (λ (r : MatchingResult). r.kept) found
+
+abbrev pub all_own : List MatchingResult → List Own
+all_own found = flat_map (λ (r : MatchingResult). r.own) found
+
+abbrev pub all_rows : List MatchingResult → List MatchRow
+all_rows found = flat_map (λ (r : MatchingResult). r.rows) found
+
+-- A result made of them all: the positions that they keep and their own lines by position, their rows by variable. The
+-- variables are numbers of 32 bits.
+pub record AreJoined (m : ℕ) (found : List MatchingResult) (t : MatchingResult) : Type 0 where
+  pub kept : AreInOrder (λ p. p) m (all_kept found) t.kept
+  pub own : AreInOrder (λ (o : Own). o.pos) m (all_own found) t.own
+  pub rows : AreInOrder (λ (w : MatchRow). w.var) (2 ^ 32) (all_rows found) t.rows
+
+-- THE LAW
+
+-- What the matching reducer finds in the parts of a formula is, joined, what it finds in all positions.
+pub record JoinedMatchingLaw : Type 0 where
+  pub whole : (F : Cnf) (parts : List (List ℕ)) (found : List MatchingResult) (t : MatchingResult) → AreParts F parts
+      → AreMatchingResults F parts found → AreJoined (length F.clauses) found t → IsMatchingResult F (positions_of F) t

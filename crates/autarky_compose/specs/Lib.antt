@@ -1,0 +1,2 @@
+pub mod JoinedMatching
+pub mod Tables

@@ -1,0 +1,9 @@
+//! Results for the parts of a formula, joined.
+#![tactic(auto)]
+
+mod laws;
+mod matching;
+mod ordering;
+
+pub use laws::joined_matching_law;
+pub use matching::join_matching;

@@ -1,0 +1,39 @@
+//! Joins what is found in the parts of formulas, and prints it.
+//!
+//! A line of standard input is a command. It is printed again, and behind it stands the answer, in a line
+//! that begins with `=`. A line that begins with `#` is a remark.
+//!
+//! - `kernel N; CLAUSES` tells the matching kernel of a formula, found in each part by itself: the kept
+//!   positions, the own lines and the variables of the rows. The number of variables comes first, then the
+//!   clauses with commas between them, 0 for an empty one.
+//! - `drawn N` compares the kernels of so many drawn formulas with those that are found in one piece.
+#![tactic(auto)]
+
+mod joining;
+mod telling;
+
+use crate::telling::{tell_drawn, tell_kernel};
+use std::alloc::Global;
+use std::test::Fail;
+
+/// Writes what the command of a line answers.
+fn tell(alloc: Global, line: &str, out: &mut String) -> Result<(), Fail> {
+    let (word, text) = line.split_once(" ").unwrap_or((line, ""));
+    let (number, clauses) = text.split_once(";").unwrap_or((text, ""));
+    let number = number.trim().parse().unwrap_or(0);
+    match word {
+        "kernel" => tell_kernel(alloc, number, clauses, out),
+        "drawn" => tell_drawn(alloc, number, out),
+        _ => Ok(()),
+    }
+}
+
+fn main(rt: HostRuntime) -> Result<(), Fail> {
+    for line in rt.lines(rt.alloc()) {
+        let line = line?;
+        let mut out = String::new(rt.alloc());
+        tell(rt.alloc(), line.as_str(), &mut out)?;
+        print!(rt; "{line}\n{out}")?;
+    }
+    Ok(())
+}

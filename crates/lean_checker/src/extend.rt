@@ -1,0 +1,59 @@
+//! The check of a model that is to be extended.
+ghost use Rattle.std.specs.Prelude.{◌≡◌, ℕ, None, false, length, unwrap_or, IfOk, IsTrue};
+ghost use Rattle.lk_model.specs.Formulas.Assignment.{assignment_of, extended, extended_value};
+ghost use Rattle.lk_model.specs.Formulas.Crossed.{protected_by};
+ghost use Rattle.lk_model.specs.Formulas.Lean.{all_of, are_positions};
+ghost use Rattle.lk_model.specs.Held.PartialValues.{assignment_by};
+ghost use Rattle.lk_model.specs.Documents.Form.{is_done_in_form};
+ghost use Rattle.lk_model.specs.Checks.CommonChecks.{model_fails};
+ghost use Rattle.lk_model.specs.Checks.Checks.{first_failure_to_extend};
+ghost use Rattle.lk_model.specs.Reduction.{IsModel};
+
+use crate::checking::{common_failure, failure};
+use lk_model::{DoneDocument, Formula, Kind, OutOfMemory, Why};
+use partial_assign::Partial;
+use std::alloc::Global;
+
+/// The first failing check of those that are made before a model of the kept clauses is extended by a
+/// finished document, of any class and with any protected variables. The lines of the class and whether
+/// the kept clauses are lean do not matter to it.
+///
+/// Where none fails, the set line is an autarky that touches exactly the removed clauses, and the model
+/// satisfies the kept ones. So the model, overridden by the set line, satisfies the formula (Handbook of
+/// Satisfiability, Kleine Büning and Kullmann), and the protected variables keep its values.
+pub fn check_extend(
+    alloc: Global,
+    f: &Formula,
+    d: &DoneDocument,
+    psi: &Partial,
+) -> Result<Option<Why>, OutOfMemory>
+    requires form { IsTrue (is_done_in_form d.now) }
+    requires vars { length psi.now ≡ f.now.vars }
+    ensures first { IfOk result (λ why. why ≡ first_failure_to_extend f.now d.now (assignment_by psi.now)) }
+    ensures extends { result ≡ Ok None
+        → IsModel f.now (all_of f.now) (extended (assignment_of d.now.set) (assignment_by psi.now) f.now.vars) }
+    ensures protected { result ≡ Ok None → (v : ℕ) → IsTrue (protected_by d.now.protect v)
+        → extended_value (assignment_of d.now.set) (assignment_by psi.now) v ≡ unwrap_or (assignment_by psi.now v) false }
+{
+    if let Some(why) = common_failure(alloc, f, d)? {
+        return Ok(Some(why));
+    }
+    match model_fails(f, d, psi) {
+        Some(place) => Ok(failure(Kind::ModelFails, place)),
+        None => Ok(None),
+    }
+}
+
+/// The first kept position whose clause the model by itself does not satisfy.
+fn model_fails(f: &Formula, d: &DoneDocument, psi: &Partial) -> Option<u32>
+    requires positions { IsTrue (are_positions f.now d.now.kept) }
+    requires vars { length psi.now ≡ f.now.vars }
+    ensures { result ≡ (model_fails f.now d.now (assignment_by psi.now)).place }
+{
+    for p in d.kept.as_slice() {
+        if !psi.satisfies(f.clause(*p)) {
+            return Some(*p);
+        }
+    }
+    None
+}
