@@ -11,7 +11,7 @@ use Rattle.lk_model.specs.Texts.PlainText.{line}
 use Rattle.lk_model.specs.Documents.Reading.{cut_lines}
 use Rattle.lk_model.proofs.Booleans.{and_true}
 use Rattle.lk_text.specs.Cutting.{is_one_line}
-use Rattle.cert_text.specs.Drafts.{fields}
+use Rattle.cert_text.specs.Fields.{fields}
 use Rattle.cert_text.specs.Fields.{has_no_space}
 use Rattle.cert_text.proofs.FieldTexts.{one_field, field_then}
 use Rattle.cert_text.proofs.LineCuts.{cut_nothing, cut_line}

@@ -1,5 +1,5 @@
 -- What is read word by word is what is written.
-use Rattle.std.proofs.Common.{◌≡◌, ℕ, ◌+◌, ◌<◌, ◌≤◌, ◌∙◌, Bool, true, false, not, cond, ◌&&◌, ◌||◌, List, [], ◌∷◌, ◌++◌, map, refl, sym, ap, arith, inl, inr, ℤ, pos, negsuc, Option, Some, None, append_assoc}
+use Rattle.std.proofs.Common.{◌≡◌, ℕ, ◌+◌, ◌<◌, ◌≤◌, ◌^◌, ◌∙◌, Bool, true, false, not, cond, ◌&&◌, ◌||◌, List, [], ◌∷◌, ◌++◌, map, refl, sym, ap, arith, inl, inr, ℤ, pos, negsuc, Option, Some, None, append_assoc}
 use Rattle.std.specs.Prelude.{option_map, nat_lt, nat_le, codes, decimal}
 use Rattle.std.specs.List.{list_all}
 use Rattle.std.specs.Str.{bytes_eq}
@@ -66,6 +66,11 @@ number_read low high n small a b =
     ap (number_within low high) (plain_spelled (pos n) (omega (arith, small, b)))
     ∙ rw (le-leb low n a, le-leb n high b) refl
 
+pub number_back : (low high n : ℕ) → n < 10 ^ 64 → low ≤ n → n ≤ high → number_within low high (plain_number (decimal n)) ≡ Some n
+number_back low high n small a b =
+    ap (number_within low high) (plain_spelled (pos n) small)
+    ∙ rw (le-leb low n a, le-leb n high b) refl
+
 pub rising_form : (last high : ℕ) (words : List Word) (ns : List ℕ) → rising_from last high words ≡ Some ns → (words ≡ ended (number_words ns)) × (rises_within last high ns ≡ true)
 rising_form last high [] ns e = absurd (let f : ⊥ = cc in f)
 rising_form last high (word ∷ []) ns e =
@@ -100,7 +105,7 @@ rising_back last high (n ∷ ns) small h =
 -- LITERALS
 
 -- a literal that was read from a word
-read_literal : (n : ℕ) (l : ℤ) (o : Option ℤ) → literal_within n o ≡ Some l → (o ≡ Some l) × (is_literal n l ≡ true)
+pub read_literal : (n : ℕ) (l : ℤ) (o : Option ℤ) → literal_within n o ≡ Some l → (o ≡ Some l) × (is_literal n l ≡ true)
 read_literal n l None e = absurd (let f : ⊥ = cc in f)
 read_literal n l (Some x) e = by_test (is_literal n x) refl e
   where
@@ -108,7 +113,7 @@ read_literal n l (Some x) e = by_test (is_literal n x) refl e
     by_test true t h = let same = same_Some x l h in (h, ap (is_literal n) (sym same) ∙ t)
     by_test false t h = absurd (let f : ⊥ = cc in f)
 
-literal_read : (n : ℕ) (l : ℤ) → n ≤ 1000000 → is_literal n l ≡ true → literal_within n (plain_number (signed_decimal l)) ≡ Some l
+pub literal_read : (n : ℕ) (l : ℤ) → n ≤ 1000000 → is_literal n l ≡ true → literal_within n (plain_number (signed_decimal l)) ≡ Some l
 literal_read n l small h =
     let below = leb-true (variable l) n (and_true _ _ h).1 in
     ap (literal_within n) (plain_spelled l (omega (arith, small, below))) ∙ ap (λ (b : Bool). cond b (Some l) None) h

@@ -8,7 +8,7 @@ use Rattle.lk_model.specs.Formulas.Literal.{variable, contains}
 use Rattle.lk_model.proofs.Booleans.{and_true}
 use Rattle.lk_model.specs.Texts.Lines.{Word}
 use Rattle.lk_model.specs.Texts.NumberWords.{plain_number}
-use Rattle.cert_text.specs.Drafts.{fields}
+use Rattle.cert_text.specs.Fields.{fields}
 use Rattle.cert_text.specs.Fields.{number_within, literal_within}
 use Rattle.cert_text.specs.FieldLists.{in_front, in_order, if_new, rising_from, literals_from, clause_from}
 

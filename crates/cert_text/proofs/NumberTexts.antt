@@ -5,12 +5,13 @@ use Rattle.std.specs.List.{list_all}
 use Rattle.std.specs.Fmt.{decimal, signed_decimal}
 use Rattle.std.specs.Str.{bytes_eq}
 use Rattle.std.specs.Char.{is_ascii_digit}
-use Rattle.std.proofs.lemmas.Bool.{cases_Bool, eqb-true, le-leb}
-use Rattle.std.proofs.lemmas.Fmt.{decimal_by_steps}
+use Rattle.std.proofs.lemmas.Bool.{cases_Bool, eqb-true, le-leb, leb-true}
+use Rattle.std.proofs.lemmas.Fmt.{decimal_by_steps_wide}
 use Rattle.std.proofs.lemmas.List.Folds.{list_all-append}
 use Rattle.std.proofs.lemmas.List.Sums.{fold-append}
 use Rattle.std.proofs.lemmas.Slice.Eq.{bytes_eq-Decides}
 use Rattle.lk_model.proofs.Booleans.{and_true}
+use Rattle.lk_model.specs.Limits.{is_in_range}
 use Rattle.lk_model.specs.Lists.{is_empty}
 use Rattle.lk_model.specs.Texts.Lines.{Word}
 use Rattle.lk_text.specs.Kinds.{if_in_range}
@@ -43,8 +44,8 @@ more_digits n ds h s =
       some = joined_some ds (48 + n % 10);
     }
 
-pub spelling : (n : ℕ) → n < 2 ^ 64 → IsSpelling n (decimal n)
-spelling n h = decimal_by_steps IsSpelling one_digit more_digits n h
+pub spelling : (n : ℕ) → n < 10 ^ 64 → IsSpelling n (decimal n)
+spelling n h = decimal_by_steps_wide IsSpelling one_digit more_digits n h
 
 natural_by : (n : ℕ) (ds : List ℕ) → IsSpelling n ds → natural ds ≡ Some n
 natural_by n [] s = absurd (let some = s.some in let f : ⊥ = cc in f)
@@ -62,12 +63,16 @@ number_by n [] s = absurd (let some = s.some in let f : ⊥ = cc in f)
 number_by n (d ∷ ds) s =
     ap (λ (b : Bool). cond b (negated (natural ds)) (not_negated (natural (d ∷ ds)))) (digit_first d ds s.digits) ∙ ap not_negated (natural_by n (d ∷ ds) s)
 
-number_spelled : (x : ℤ) → unsigned_abs x < 2 ^ 63 → number (signed_decimal x) ≡ Some x
+number_spelled : (x : ℤ) → unsigned_abs x < 10 ^ 64 → number (signed_decimal x) ≡ Some x
 number_spelled (pos n) h = number_by n (decimal n) (spelling n (omega (arith, h)))
 number_spelled (negsuc k) h = ap negated (natural_by (suc k) (decimal (suc k)) (spelling (suc k) (omega (arith, h))))
 
+-- the code's numbers are short enough
+pub in_range : (x : ℤ) → is_in_range x ≡ true → unsigned_abs x < 10 ^ 64
+in_range x h = omega (arith, leb-true (unsigned_abs x) (2 ^ 127 - 1) h)
+
 -- the shortest spelling of a number, read
-pub plain_spelled : (x : ℤ) → unsigned_abs x < 2 ^ 63 → plain_number (signed_decimal x) ≡ Some x
+pub plain_spelled : (x : ℤ) → unsigned_abs x < 10 ^ 64 → plain_number (signed_decimal x) ≡ Some x
 plain_spelled x h =
     ap (option_and_then (λ (y : ℤ). cond (bytes_eq (signed_decimal x) (signed_decimal y)) (Some y) None)) (number_spelled x h)
     ∙ ap (λ (b : Bool). cond b (Some x) None) ((bytes_eq-Decides (signed_decimal x) (signed_decimal x)).1 refl)
@@ -85,7 +90,7 @@ spelled word x e = by_number (number word) e
     by_number (Some y) h = by_test y (bytes_eq word (signed_decimal y)) refl h
 
 -- such a number is read back
-pub read_back : (word : Word) (x : ℤ) → unsigned_abs x < 2 ^ 63 → word ≡ signed_decimal x → if_in_range (plain_number word) ≡ Some x
+pub read_back : (word : Word) (x : ℤ) → is_in_range x ≡ true → word ≡ signed_decimal x → if_in_range (plain_number word) ≡ Some x
 read_back word x h e =
-    ap (λ (w : Word). if_in_range (plain_number w)) e ∙ ap if_in_range (plain_spelled x h)
-    ∙ ap (λ (b : Bool). cond b (Some x) None) (le-leb (unsigned_abs x) (2 ^ 127 - 1) (omega (arith, h)))
+    ap (λ (w : Word). if_in_range (plain_number w)) e ∙ ap if_in_range (plain_spelled x (in_range x h))
+    ∙ ap (λ (b : Bool). cond b (Some x) None) h

@@ -1,30 +1,32 @@
--- What was read of a finished document of the class pure without protected variables, line by line.
-use Rattle.std.specs.Prelude.{◌≡◌, ◌≢◌, ℕ, ◌+◌, ◌<◌, ◌≤◌, List, [], ◌∷◌, ◌++◌, map, length, ℤ, codes, IsTrue, None}
-use Rattle.std.specs.List.{slice_split, list_all}
-use Rattle.std.specs.Prelude.{◌==◌, ◌⊎◌}
+-- What was read of a document, line by line, and what the next line leads to.
+use Rattle.std.specs.Prelude.{ℕ, ◌+◌, ◌-◌, ◌^◌, Bool, true, false, ◌&&◌, ◌==◌, nat_lt, nat_le, if◌then◌else◌, List, [], ◌∷◌, ◌++◌, map, length, ℤ, codes, Option, Some, None, option_map, option_and_then}
+use Rattle.std.specs.Option.{option_zip, option_map_or}
+use Rattle.std.specs.Str.{bytes_eq}
 use Rattle.lk_model.specs.Texts.Lines.{Word}
-use Rattle.lk_model.specs.Lists.{rises_within}
-use Rattle.lk_model.specs.Limits.{max_literals}
-use Rattle.lk_model.specs.Formulas.Literal.{variable, is_literal, is_clause}
-use Rattle.lk_model.specs.Formulas.Formula.{is_formula, literal_count, with_clause}
+use Rattle.lk_model.specs.Limits.{max_vars, max_clauses, max_literals}
+use Rattle.lk_model.specs.Formulas.Formula.{literal_count, with_clause}
 use Rattle.lk_model.specs.Texts.PlainText.{ended, literal_words, number_words}
-use Rattle.lk_model.specs.Documents.Text.{comment, pair_line}
-use Rattle.lk_model.specs.Documents.Form.{is_size, is_pair}
-use Rattle.lk_model.specs.declared.document.Pair.{Pair}
-use Rattle.lk_model.specs.declared.document.Body.TheVariants.{Pure}
+use Rattle.lk_model.specs.Documents.Text.{comment, version, first_lines}
 use Rattle.lk_model.specs.declared.document.DoneDocument.{DoneDocument}
+use Rattle.lk_model.specs.declared.document.OpenDocument.{OpenDocument}
+use Rattle.lk_model.specs.declared.document.Document.{Document}
+use Rattle.lk_model.specs.declared.document.Document.TheVariants.{Done, Unfinished}
+use Rattle.cert_text.specs.declared.part.Part.{Part}
+use Rattle.cert_text.specs.declared.part.Part.TheVariants as part
 use Rattle.cert_text.specs.declared.draft.Draft.{Draft}
 use Rattle.cert_text.specs.declared.draft.LineDue.{LineDue}
-use Rattle.cert_text.specs.declared.draft.LineDue.TheVariants.{Format, Sizes, Keep, Set, Order, Pairs, Clauses}
-
--- the words of a line between its spaces; where two spaces meet there is a word without a byte
-abbrev pub fields : List ℕ → List Word
-fields bytes = slice_split (λ b. b == 32) bytes
+use Rattle.cert_text.specs.declared.draft.LineDue.TheVariants.{Format, Sizes, Protect, Keep, Set, Learned, Body, Clauses}
+use Rattle.cert_text.specs.declared.draft.Scope.{Scope}
+use Rattle.cert_text.specs.declared.draft.Scope.TheVariants.{All, Built}
+use Rattle.cert_text.specs.Fields.{after, one_within, two_within}
+use Rattle.cert_text.specs.FieldLists.{rising_from, literals_from, clause_from}
+use Rattle.cert_text.specs.Parts.{part_word, part_of, part_lines, part_next, may_end, is_finished, body_of, rounds_of}
+use Rattle.cert_text.specs.PureLines.{fresh_pure}
 
 -- THE LINES OF A DRAFT
 
-abbrev pub format_line : List Word
-format_line = comment (codes "leank") (codes "1" ∷ codes "pure" ∷ [])
+abbrev pub format_line : Option (List ℕ) → Word → List Word
+format_line protect word = comment (codes "leank") (version protect ∷ word ∷ [])
 
 abbrev pub size_line : ℕ → ℕ → List Word
 size_line n m = comment (codes "formula") (number_words (n ∷ m ∷ []))
@@ -35,110 +37,141 @@ keep_line kept = comment (codes "keep") (ended (number_words kept))
 abbrev pub set_line : List ℤ → List Word
 set_line set = comment (codes "set") (literal_words set)
 
-abbrev pub order_line : List ℤ → List Word
-order_line order = comment (codes "order") (literal_words order)
+abbrev pub learned_line : ℕ → List Word
+learned_line count = comment (codes "learned") (number_words (count ∷ []))
 
 abbrev pub problem_line : ℕ → ℕ → List Word
 problem_line n count = codes "p" ∷ codes "cnf" ∷ number_words (n ∷ count ∷ [])
 
-abbrev pub front_lines : Draft → List (List Word)
-front_lines d = format_line ∷ size_line d.vars d.clauses ∷ keep_line d.kept ∷ set_line d.set ∷ order_line d.order ∷ []
+-- the lines up to that of the protected variables
+abbrev pub head_lines : Draft → List (List Word)
+head_lines d = first_lines (part_word d.part) d.vars d.clauses d.protect
+
+-- and those behind it, up to the body
+abbrev pub middle_lines : Draft → List (List Word)
+middle_lines d = if is_finished d.part then keep_line d.kept ∷ set_line d.set ∷ [] else learned_line d.learned ∷ []
+
+-- how many clause lines there are to be
+abbrev pub clause_count : Draft → ℕ
+clause_count d = if is_finished d.part then length d.kept else d.clauses
 
 abbrev pub lines_before : LineDue → Draft → List (List Word)
 lines_before Format d = []
-lines_before Sizes d = format_line ∷ []
-lines_before Keep d = format_line ∷ size_line d.vars d.clauses ∷ []
-lines_before Set d = format_line ∷ size_line d.vars d.clauses ∷ keep_line d.kept ∷ []
-lines_before Order d = format_line ∷ size_line d.vars d.clauses ∷ keep_line d.kept ∷ set_line d.set ∷ []
-lines_before Pairs d = front_lines d ++ map pair_line d.pairs
-lines_before Clauses d = (front_lines d ++ map pair_line d.pairs) ++ problem_line d.vars (length d.kept) ∷ map literal_words d.texts.clauses
+lines_before Sizes d = format_line d.protect (part_word d.part) ∷ []
+lines_before Protect d = format_line d.protect (part_word d.part) ∷ size_line d.vars d.clauses ∷ []
+lines_before Keep d = head_lines d
+lines_before Set d = head_lines d ++ keep_line d.kept ∷ []
+lines_before Learned d = head_lines d
+lines_before Body d = head_lines d ++ middle_lines d ++ part_lines d.part
+lines_before Clauses d = head_lines d ++ middle_lines d ++ part_lines d.part ++ problem_line d.vars (clause_count d) ∷ map literal_words d.texts.clauses
 
 -- the lines that were read
 abbrev pub lines_read : Draft → List (List Word)
 lines_read d = lines_before d.due d
 
--- What was read is in form. The clause lines may be too few.
-pub record IsDraft (d : Draft) : Type 0 where
-  pub size : IsTrue (is_size d.vars d.clauses)
-  pub kept : IsTrue (rises_within 0 d.clauses d.kept)
-  pub set : IsTrue (rises_within 0 d.vars (map variable d.set))
-  pub order : IsTrue (list_all (is_literal d.vars) d.order)
-  pub pair_vars : IsTrue (rises_within 0 d.vars (map (λ (q : Pair). q.var) d.pairs))
-  pub pairs : IsTrue (list_all (is_pair d.clauses) d.pairs)
-  pub texts_vars : d.texts.vars ≡ d.vars
-  pub formula : IsTrue (is_formula d.texts)
-  pub literals : literal_count d.texts ≤ max_literals
-  pub count : length d.texts.clauses ≤ length d.kept
-  pub fresh : d.due ≢ Clauses → d.texts.clauses ≡ []
+-- of which no line was read
+abbrev pub fresh_draft : Draft
+fresh_draft = record { due = Format; vars = 0; clauses = 0; protect = None; kept = []; set = []; learned = 0; part = part.Pure fresh_pure; texts = record { vars = 0; clauses = [] } }
 
 -- THE NEXT LINE
 
-pub record NextSizes (d : Draft) (words : List Word) (next : Draft) : Type 0 where
-  pub n : ℕ
-  pub m : ℕ
-  pub line : words ≡ size_line n m
-  pub form : IsTrue (is_size n m)
-  pub is : next ≡ record d { due = Keep; vars = n; clauses = m; texts = record { vars = n; clauses = [] } }
+abbrev pub protect_of : Word → Option (Option (List ℕ))
+protect_of word = if bytes_eq word (codes "1") then Some None else if bytes_eq word (codes "2") then Some (Some []) else None
 
-pub record NextKeep (d : Draft) (words : List Word) (next : Draft) : Type 0 where
-  pub kept : List ℕ
-  pub line : words ≡ keep_line kept
-  pub form : IsTrue (rises_within 0 d.clauses kept)
-  pub is : next ≡ record d { due = Set; kept = kept }
+-- such documents are read
+abbrev pub allows : Scope → Option (List ℕ) → Part → Bool
+allows All protect (part.General p) = false
+allows All protect _ = true
+allows Built None (part.Pure p) = true
+allows Built _ _ = false
 
-pub record NextSet (d : Draft) (words : List Word) (next : Draft) : Type 0 where
-  pub set : List ℤ
-  pub line : words ≡ set_line set
-  pub form : IsTrue (rises_within 0 d.vars (map variable set))
-  pub is : next ≡ record d { due = Order; set = set }
+abbrev pub if_allowed : Scope → Option (List ℕ) × Part → Option (Option (List ℕ) × Part)
+if_allowed scope h = if allows scope h.0 h.1 then Some h else None
 
-pub record NextOrder (d : Draft) (words : List Word) (next : Draft) : Type 0 where
-  pub order : List ℤ
-  pub line : words ≡ order_line order
-  pub form : IsTrue (list_all (is_literal d.vars) order)
-  pub is : next ≡ record d { due = Pairs; order = order; pairs = [] }
+abbrev pub format_words : List Word → Option (Option (List ℕ) × Part)
+format_words (v ∷ w ∷ []) = option_zip (protect_of v) (part_of w)
+format_words _ = None
 
-pub record NextPair (d : Draft) (words : List Word) (next : Draft) : Type 0 where
-  pub pair : Pair
-  pub line : words ≡ pair_line pair
-  pub rises : IsTrue (rises_within 0 d.vars (map (λ (q : Pair). q.var) (d.pairs ++ pair ∷ [])))
-  pub form : IsTrue (is_pair d.clauses pair)
-  pub is : next ≡ record d { pairs = d.pairs ++ pair ∷ [] }
+abbrev pub next_format : Scope → Draft → List Word → Option Draft
+next_format scope d words =
+    option_map (λ (h : Option (List ℕ) × Part). record d { due = Sizes; protect = h.0; part = h.1 })
+    (option_and_then (if_allowed scope) (option_and_then format_words (after (codes "c") (codes "leank") words)))
 
-pub record NextProblem (d : Draft) (words : List Word) (next : Draft) : Type 0 where
-  pub line : words ≡ problem_line d.vars (length d.kept)
-  pub is : next ≡ record d { due = Clauses }
+-- the line behind that of the protected variables
+abbrev pub due_then : Part → LineDue
+due_then p = if is_finished p then Keep else Learned
 
-pub record NextClause (d : Draft) (words : List Word) (next : Draft) : Type 0 where
-  pub clause : List ℤ
-  pub room : length d.texts.clauses < length d.kept
-  pub line : words ≡ literal_words clause
-  pub form : IsTrue (is_clause d.vars clause)
-  pub few : literal_count d.texts + length clause ≤ max_literals
-  pub is : next ≡ record d { texts = with_clause d.texts clause }
+abbrev pub due_first : Option (List ℕ) → Part → LineDue
+due_first None p = due_then p
+due_first (Some vars) p = Protect
 
-abbrev pub IsNextAt : LineDue → Draft → List Word → Draft → Type 0
-IsNextAt Format d words next = (words ≡ format_line) × (next ≡ record d { due = Sizes })
-IsNextAt Sizes d words next = NextSizes d words next
-IsNextAt Keep d words next = NextKeep d words next
-IsNextAt Set d words next = NextSet d words next
-IsNextAt Order d words next = NextOrder d words next
-IsNextAt Pairs d words next = NextPair d words next ⊎ NextProblem d words next
-IsNextAt Clauses d words next = NextClause d words next
+abbrev pub next_sizes : Draft → List Word → Option Draft
+next_sizes d words =
+    option_map (λ (h : ℕ × ℕ). record d { due = due_first d.protect d.part; vars = h.0; clauses = h.1; texts = record { vars = h.0; clauses = [] } })
+    (option_and_then (two_within max_vars max_clauses) (after (codes "c") (codes "formula") words))
 
--- a line of these words leads from the one draft to the other
-abbrev pub IsNext : Draft → List Word → Draft → Type 0
-IsNext d words next = IsNextAt d.due d words next
+abbrev pub next_protect : Draft → List Word → Option Draft
+next_protect d words =
+    option_map (λ (vars : List ℕ). record d { due = due_then d.part; protect = Some vars }) (option_and_then (rising_from 0 d.vars) (after (codes "c") (codes "protect") words))
 
--- no draft comes behind these words
-abbrev pub HasNoNext : Draft → List Word → Type 0
-HasNoNext d words = (next : Draft) → IsNext d words next → ⊥
+abbrev pub next_keep : Draft → List Word → Option Draft
+next_keep d words = option_map (λ (kept : List ℕ). record d { due = Set; kept = kept }) (option_and_then (rising_from 0 d.clauses) (after (codes "c") (codes "keep") words))
 
--- all clause lines were read
-pub record IsWhole (d : Draft) : Type 0 where
-  pub last : d.due ≡ Clauses
-  pub count : length d.texts.clauses ≡ length d.kept
+abbrev pub next_set : Draft → List Word → Option Draft
+next_set d words = option_map (λ (set : List ℤ). record d { due = Body; set = set }) (option_and_then (literals_from true d.vars 0) (after (codes "c") (codes "set") words))
 
--- the document of a whole draft
-abbrev pub document_of : Draft → DoneDocument
-document_of d = record { vars = d.vars; clauses = d.clauses; protect = None; kept = d.kept; set = d.set; body = Pure d.order d.pairs; texts = d.texts }
+abbrev pub next_learned : Draft → List Word → Option Draft
+next_learned d words = option_map (λ (count : ℕ). record d { due = Body; learned = count }) (option_and_then (one_within (2 ^ 63 - 1)) (after (codes "c") (codes "learned") words))
+
+-- the words are those of the problem line
+abbrev pub is_problem : ℕ → ℕ → List Word → Bool
+is_problem n count words =
+    option_map_or (λ (h : ℕ × ℕ). h.0 == n && h.1 == count) (option_and_then (two_within max_vars max_clauses) (after (codes "p") (codes "cnf") words)) false
+
+abbrev pub next_body : Draft → List Word → Option Draft
+next_body d words = if is_problem d.vars (clause_count d) words
+    then if may_end d.part then Some (record d { due = Clauses }) else None
+    else option_map (λ (p : Part). record d { part = p }) (part_next d.vars d.clauses d.part words)
+
+-- the limits leave room for the clause
+abbrev pub has_room : Draft → List ℤ → Bool
+has_room d clause = nat_lt (length d.texts.clauses) (clause_count d) && nat_le (literal_count d.texts + length clause) max_literals
+
+abbrev pub put_clause : Draft → List ℤ → Option Draft
+put_clause d clause = if has_room d clause then Some (record d { texts = with_clause d.texts clause }) else None
+
+abbrev pub next_clause : Draft → List Word → Option Draft
+next_clause d words = option_and_then (put_clause d) (clause_from d.vars [] words)
+
+abbrev pub next_at : LineDue → Scope → Draft → List Word → Option Draft
+next_at Format scope d words = next_format scope d words
+next_at Sizes scope d words = next_sizes d words
+next_at Protect scope d words = next_protect d words
+next_at Keep scope d words = next_keep d words
+next_at Set scope d words = next_set d words
+next_at Learned scope d words = next_learned d words
+next_at Body scope d words = next_body d words
+next_at Clauses scope d words = next_clause d words
+
+-- what a line of these words leads to, if one may come
+abbrev pub next_draft : Scope → Draft → List Word → Option Draft
+next_draft scope d words = next_at d.due scope d words
+
+-- THE END
+
+-- the document of a draft with all lines
+abbrev pub done_by : Draft → DoneDocument
+done_by d = record { vars = d.vars; clauses = d.clauses; protect = d.protect; kept = d.kept; set = d.set; body = body_of d.part; texts = d.texts }
+
+abbrev pub open_by : Draft → OpenDocument
+open_by d = record { vars = d.vars; clauses = d.clauses; protect = d.protect; learned = d.learned; rounds = rounds_of d.part; texts = d.texts }
+
+abbrev pub document_by : Draft → Document
+document_by d = if is_finished d.part then Done (done_by d) else Unfinished (open_by d)
+
+abbrev pub is_at_clauses : LineDue → Bool
+is_at_clauses Clauses = true
+is_at_clauses _ = false
+
+abbrev pub finished : Draft → Option Document
+finished d = if is_at_clauses d.due && length d.texts.clauses == clause_count d then Some (document_by d) else None

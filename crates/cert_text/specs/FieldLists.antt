@@ -1,5 +1,5 @@
 -- Lists that the word 0 closes, read word by word.
-use Rattle.std.specs.Prelude.{◌≡◌, ℕ, ◌+◌, Bool, true, false, not, if◌then◌else◌, ◌||◌, nat_lt, List, [], ◌∷◌, ◌++◌, ℤ, Option, Some, None, codes, option_map}
+use Rattle.std.specs.Prelude.{◌≡◌, ℕ, ◌+◌, Bool, true, false, not, if◌then◌else◌, ◌||◌, nat_lt, List, [], ◌∷◌, ◌++◌, ℤ, Option, Some, None, codes, option_map, option_and_then}
 use Rattle.std.specs.Str.{bytes_eq}
 use Rattle.lk_model.specs.Formulas.Literal.{variable, contains}
 use Rattle.lk_model.specs.Texts.Lines.{Word}
@@ -45,3 +45,9 @@ clause_from n clause (word ∷ next ∷ words) =
 abbrev pub IsClauseOf : Option (List ℤ) → Bool → List ℤ → Type 0
 IsClauseOf found true literals = found ≡ Some literals
 IsClauseOf found false literals = found ≡ None
+
+-- items of two words each, behind those that were read
+abbrev pub twos : {X : Type 0} → (List X → Word → Word → Option X) → List X → List Word → Option (List X)
+twos read xs [] = None
+twos read xs (word ∷ []) = if bytes_eq word (codes "0") then Some xs else None
+twos read xs (word ∷ other ∷ words) = option_and_then (λ x. twos read (xs ++ x ∷ []) words) (read xs word other)

@@ -1,29 +1,39 @@
 //! What was read of a document so far.
-use lk_model::{Formula, List, Lit, Pair};
+use crate::part::Part;
+use lk_model::{Formula, List, Lit};
 
 /// Which line is due, that is, to come next.
 #[derive(Clone, Copy, PartialEq, Eq, Debug)]
 pub(crate) enum LineDue {
     Format,
     Sizes,
+    Protect,
     Keep,
     Set,
-    Order,
-    /// A pair line, or the problem line behind the last one.
-    Pairs,
+    Learned,
+    /// A line of the body, or the problem line behind the last one.
+    Body,
     Clauses,
 }
 
-/// What was read of a finished document of the class pure without protected variables, up to the line
-/// that is due.
+/// What was read of a document, up to the line that is due. A document with a line of protected variables
+/// has a list of them from its first line on.
 #[derive(Drop)]
 pub(crate) struct Draft {
     pub due: LineDue,
     pub vars: u32,
     pub clauses: u32,
+    pub protect: Option<List<u32>>,
     pub kept: List<u32>,
     pub set: List<Lit>,
-    pub order: List<Lit>,
-    pub pairs: List<Pair>,
+    pub learned: u64,
+    pub part: Part,
     pub texts: Formula,
+}
+
+/// Which documents are read: all, or those alone that are checked so far.
+#[derive(Clone, Copy, PartialEq, Eq, Debug)]
+pub(crate) enum Scope {
+    All,
+    Built,
 }

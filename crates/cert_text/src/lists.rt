@@ -1,7 +1,7 @@
 //! Lists that the word 0 closes.
 ghost use Rattle.std.specs.Prelude.{◌≡◌, ◌≤◌, ◌∷◌, [], ◌||◌, not, nat_lt, IfOk};
 ghost use Rattle.lk_model.specs.Formulas.Literal.{variable};
-ghost use Rattle.cert_text.specs.Drafts.{fields};
+ghost use Rattle.cert_text.specs.Fields.{fields};
 ghost use Rattle.cert_text.specs.FieldLists.{rising_from, literals_from, clause_from, IsClauseOf};
 
 use crate::fields::{first_field, literal_in, number_in};
@@ -9,7 +9,7 @@ use lk_model::{List, Lit, OpenClause, OutOfMemory};
 use std::alloc::Global;
 
 /// The word that closes a list.
-const CLOSING: &[u8] = b"0";
+pub(crate) const CLOSING: &[u8] = b"0";
 
 /// The numbers of a line, which ascend from at least 1 to at most the greatest. There are none where
 /// the line is no such list.

@@ -1,25 +1,48 @@
 //! Reading documents.
-ghost use Rattle.std.specs.Prelude.{◌≡◌, ◌<◌, IfOk, IfErr, IfSome, IsNone};
-ghost use Rattle.lk_model.specs.declared.document.Document.TheVariants.{Done};
-ghost use Rattle.cert_text.specs.Drafts.{IsWhole, document_of};
-ghost use Rattle.cert_text.specs.Readings.{IsReadAs, IsStop};
-ghost use Rattle.cert_text.specs.Taking.{IsFresh};
+ghost use Rattle.std.specs.Prelude.{◌≡◌, ◌<◌, IfOk, IfErr, false};
+ghost use Rattle.cert_text.specs.declared.draft.Scope.TheVariants.{All};
+ghost use Rattle.lk_model.specs.declared.document.Document.TheVariants.{Done, Unfinished};
+ghost use Rattle.cert_text.specs.Parts.{is_finished};
+ghost use Rattle.cert_text.specs.Drafts.{done_by, open_by, finished, fresh_draft};
+ghost use Rattle.cert_text.specs.Readings.{IsStop, IsReadAs};
+ghost use Rattle.cert_text.specs.Scopes.{IsReadIn, IsStopIn};
 
-use crate::draft::{Draft, LineDue};
-use crate::steps::take_line;
+use crate::draft::{Draft, LineDue, Scope};
+use crate::part::{Part, body_of, is_finished, rounds_of};
+use crate::read_pure::PurePart;
+use crate::steps::{clause_count, take_line};
 use lk_model::{
-    Body, Document, DoneDocument, Formula, FormulaError, List, OpenClause, OutOfMemory, ReadStop,
+    Document, DoneDocument, Formula, FormulaError, List, OpenClause, OpenDocument, OutOfMemory,
+    ReadStop,
 };
 use lk_text::next_line;
 use std::alloc::Global;
 
-/// The document that has this text: a finished one of the class pure without protected variables, until
-/// the lines of the others are read. Other bytes are refused with the first line in which no such
-/// document's text can go on, counted from 1. A last line without its byte 10 is such a line; where the
-/// text ends too early, so is the line after its last one. The other error is want of memory.
+/// The document that has this text: any but a finished one of the class general, until its lines are read.
+/// Other bytes are refused with the first line in which no such document's text
+/// can go on, counted from 1. A last line without its byte 10 is such a line; where the text ends too
+/// early, so is the line after its last one. The other error is want of memory.
 pub fn read(alloc: Global, bytes: &[u8]) -> Result<Document, ReadStop>
+    ensures document { IfOk result (IsReadIn All bytes.now) }
+    ensures stop { IfErr result (IsStopIn All bytes.now) }
+{
+    read_in(alloc, Scope::All, bytes)
+}
+
+/// The document that has this text, as `read` gives it, if it is a finished one of the class pure without
+/// protected variables. Other bytes are refused with the first line in which no such document's text can
+/// go on.
+pub fn read_built(alloc: Global, bytes: &[u8]) -> Result<Document, ReadStop>
     ensures document { IfOk result (IsReadAs bytes.now) }
     ensures stop { IfErr result (IsStop bytes.now) }
+{
+    read_in(alloc, Scope::Built, bytes)
+}
+
+/// The document of this scope that has this text.
+fn read_in(alloc: Global, scope: Scope, bytes: &[u8]) -> Result<Document, ReadStop>
+    ensures document { IfOk result (IsReadIn scope bytes.now) }
+    ensures stop { IfErr result (IsStopIn scope bytes.now) }
 {
     let mut draft = fresh(alloc)?;
     let mut growing = OpenClause::new(alloc, 0)?;
@@ -30,45 +53,75 @@ pub fn read(alloc: Global, bytes: &[u8]) -> Result<Document, ReadStop>
         if cut.end == bytes.len() {
             return Err(ReadStop::Line(number));
         }
-        if !take_line(alloc, &mut draft, &mut growing, &bytes[cut.begin..cut.end])? {
+        if !take_line(
+            alloc,
+            scope,
+            &mut draft,
+            &mut growing,
+            &bytes[cut.begin..cut.end],
+        )? {
             return Err(ReadStop::Line(number));
         }
         from = cut.next;
     }
-    match finish(draft) {
+    match finish(draft)? {
         Some(document) => Ok(document),
         None => Err(ReadStop::Line(number + 1)),
     }
 }
 
 /// The document of a draft, if all its lines were read.
-fn finish(draft: Draft) -> Option<Document>
-    ensures some { IfSome result (λ d. (d ≡ Done (document_of draft)) × IsWhole draft) }
-    ensures none { IsNone result → IsWhole draft → ⊥ }
+fn finish(draft: Draft) -> Result<Option<Document>, OutOfMemory>
+    ensures { IfOk result (λ document. document ≡ finished draft) }
 {
     if draft.due != LineDue::Clauses {
-        return None;
+        return Ok(None);
     }
-    if draft.texts.len() as usize != draft.kept.len() {
-        return None;
+    if draft.texts.len() as usize != clause_count(&draft) {
+        return Ok(None);
     }
-    Some(Document::Done(DoneDocument {
+    if is_finished(&draft.part) {
+        Ok(Some(done_document(draft)?))
+    } else {
+        Ok(Some(open_document(draft)?))
+    }
+}
+
+/// The finished document of a draft.
+fn done_document(draft: Draft) -> Result<Document, OutOfMemory>
+    ensures { IfOk result (λ document. document ≡ Done (done_by draft)) }
+{
+    let body = body_of(draft.part)?;
+    Ok(Document::Done(DoneDocument {
         vars: draft.vars,
         clauses: draft.clauses,
-        protect: None,
+        protect: draft.protect,
         kept: draft.kept,
         set: draft.set,
-        body: Body::Pure {
-            order: draft.order,
-            pairs: draft.pairs,
-        },
+        body,
+        texts: draft.texts,
+    }))
+}
+
+/// The unfinished document of a draft.
+fn open_document(draft: Draft) -> Result<Document, OutOfMemory>
+    requires { is_finished draft.part ≡ false }
+    ensures { IfOk result (λ document. document ≡ Unfinished (open_by draft)) }
+{
+    let rounds = rounds_of(draft.part)?;
+    Ok(Document::Unfinished(OpenDocument {
+        vars: draft.vars,
+        clauses: draft.clauses,
+        protect: draft.protect,
+        learned: draft.learned,
+        rounds,
         texts: draft.texts,
     }))
 }
 
 /// The draft of which no line was read.
 fn fresh(alloc: Global) -> Result<Draft, OutOfMemory>
-    ensures { IfOk result IsFresh }
+    ensures { IfOk result (λ draft. draft ≡ fresh_draft) }
 {
     let texts = match Formula::new(alloc, 0) {
         Ok(texts) => texts,
@@ -79,10 +132,15 @@ fn fresh(alloc: Global) -> Result<Draft, OutOfMemory>
         due: LineDue::Format,
         vars: 0,
         clauses: 0,
+        protect: None,
         kept: List::new(alloc),
         set: List::new(alloc),
-        order: List::new(alloc),
-        pairs: List::new(alloc),
+        learned: 0,
+        part: Part::Pure(PurePart {
+            ordered: false,
+            order: List::new(alloc),
+            pairs: List::new(alloc),
+        }),
         texts,
     })
 }

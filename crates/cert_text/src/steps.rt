@@ -1,32 +1,36 @@
 //! One line more of a document.
-ghost use Rattle.std.specs.Prelude.{◌≡◌, ◌≤◌, ◌<◌, [], ◌↔◌, IfOk, IsTrue, length, map};
+ghost use Rattle.std.specs.Prelude.{◌≡◌, ◌≤◌, IfOk, true, option_and_then};
 ghost use Rattle.lk_model.specs.Limits.{max_vars, max_clauses};
-ghost use Rattle.lk_model.specs.declared.document.Pair.{Pair};
-ghost use Rattle.cert_text.specs.Drafts.{IsDraft, fields, problem_line};
-ghost use Rattle.cert_text.specs.LastVars.{last_or};
-ghost use Rattle.cert_text.specs.Taking.{IsReady, IsReadyAgain, Takes, TakesPairOrProblem, TakesFormat, TakesSizes, TakesKeep, TakesSet, TakesOrder, TakesPair, TakesProblem, TakesClause};
+ghost use Rattle.cert_text.specs.Fields.{fields};
+ghost use Rattle.cert_text.specs.Drafts.{clause_count, due_then, due_first, is_problem, next_format, next_sizes, next_protect, next_keep, next_set, next_learned, next_body, next_clause, next_draft, allows, protect_of, if_allowed, format_words};
+ghost use Rattle.cert_text.specs.Taking.{IsReady, IsReadyAgain, IsSmall, IsTaken};
 
-use crate::draft::{Draft, LineDue};
-use crate::fields::{behind, pair_in, two_numbers};
+use crate::draft::{Draft, LineDue, Scope};
+use crate::fields::{behind, first_field, one_number, two_numbers};
 use crate::lists::{literals_in, numbers_in, read_clause};
-use lk_model::{Formula, FormulaError, List, MAX_CLAUSES, MAX_VARS, OpenClause, OutOfMemory, Pair};
+use crate::part::{Part, is_finished, may_end, part_of, take_part};
+use lk_model::{Formula, FormulaError, List, MAX_CLAUSES, MAX_VARS, OpenClause, OutOfMemory};
 use std::alloc::Global;
+
+/// The greatest number of learned clauses.
+const MAX_LEARNED: u64 = (1 << 63) - 1;
 
 /// Takes the line that is to come next, or answers that this line is none. The clause is one over the
 /// draft's variables without a literal, and is so again where the line was taken.
 pub(crate) fn take_line(
     alloc: Global,
+    scope: Scope,
     draft: &mut Draft,
     growing: &mut OpenClause,
     line: &[u8],
 ) -> Result<bool, OutOfMemory>
-    requires draft { IsDraft draft.old }
+    requires small { IsSmall draft.old }
     requires growing { IsReady draft.old growing.old }
-    ensures taken { IfOk result (λ taken. Takes draft.old line.now taken draft.new) }
+    ensures taken { IfOk result (λ taken. IsTaken (next_draft scope draft.old (fields line.now)) taken draft.new) }
     ensures ready { IfOk result (λ taken. IsReadyAgain taken draft.new growing.new) }
 {
     match draft.due {
-        LineDue::Format => Ok(take_format(draft, line)),
+        LineDue::Format => Ok(take_format(alloc, scope, draft, line)),
         LineDue::Sizes => {
             let taken = take_sizes(alloc, draft, line)?;
             if taken {
@@ -34,28 +38,106 @@ pub(crate) fn take_line(
             }
             Ok(taken)
         }
+        LineDue::Protect => take_protect(alloc, draft, line),
         LineDue::Keep => take_keep(alloc, draft, line),
         LineDue::Set => take_set(alloc, draft, line),
-        LineDue::Order => take_order(alloc, draft, line),
-        LineDue::Pairs => take_pair_or_problem(draft, line),
+        LineDue::Learned => Ok(take_learned(draft, line)),
+        LineDue::Body => take_body(alloc, draft, line),
         LineDue::Clauses => take_clause(draft, growing, line),
     }
 }
 
-/// Takes the line of the format and the class.
-fn take_format(draft: &mut Draft, line: &[u8]) -> bool
-    ensures { TakesFormat draft.old line.now result draft.new }
+/// Takes the line of the version and the class.
+fn take_format(alloc: Global, scope: Scope, draft: &mut Draft, line: &[u8]) -> bool
+    ensures taken { IsTaken (next_format scope draft.old (fields line.now)) result draft.new }
+    ensures vars { draft.new.vars ≡ draft.old.vars }
 {
-    if line != b"c leank 1 pure".as_slice() {
+    let Some(rest) = behind(line, b"c", b"leank") else {
         return false;
-    }
+    };
+    let Some((protect, part)) = format_in(alloc, scope, rest) else {
+        return false;
+    };
     draft.due = LineDue::Sizes;
+    draft.protect = protect;
+    draft.part = part;
     true
+}
+
+/// What the words of the version and the class say, where such documents are read.
+fn format_in(alloc: Global, scope: Scope, line: &[u8]) -> Option<(Option<List<u32>>, Part)>
+    ensures { result ≡ option_and_then (if_allowed scope) (format_words (fields line.now)) }
+{
+    let (version, Some(rest)) = first_field(line) else {
+        return None;
+    };
+    let (word, behind) = first_field(rest);
+    if behind.is_some() {
+        return None;
+    }
+    let protect = protect_of(alloc, version)?;
+    let part = part_of(alloc, word)?;
+    if allows(scope, &protect, &part) {
+        Some((protect, part))
+    } else {
+        None
+    }
+}
+
+/// Whether there is a line of protected variables, by the word of the version. None of them was read.
+fn protect_of(alloc: Global, version: &[u8]) -> Option<Option<List<u32>>>
+    ensures { result ≡ protect_of version.now }
+{
+    if version == b"1".as_slice() {
+        return Some(None);
+    }
+    if version == b"2".as_slice() {
+        return Some(Some(List::new(alloc)));
+    }
+    None
+}
+
+/// Whether such documents are read.
+fn allows(scope: Scope, protect: &Option<List<u32>>, part: &Part) -> bool
+    ensures { result ≡ allows scope protect.now part.now }
+{
+    match scope {
+        Scope::All => match part {
+            Part::General(_) => false,
+            _ => true,
+        },
+        Scope::Built => match part {
+            Part::Pure(_) => protect.is_none(),
+            _ => false,
+        },
+    }
+}
+
+/// The line behind that of the protected variables.
+fn due_then(part: &Part) -> LineDue
+    ensures { result ≡ due_then part.now }
+{
+    if is_finished(part) {
+        LineDue::Keep
+    } else {
+        LineDue::Learned
+    }
+}
+
+/// The line behind that of the sizes.
+fn due_first(protect: &Option<List<u32>>, part: &Part) -> LineDue
+    ensures { result ≡ due_first protect.now part.now }
+{
+    match protect {
+        None => due_then(part),
+        Some(_) => LineDue::Protect,
+    }
 }
 
 /// Takes the line of the sizes.
 fn take_sizes(alloc: Global, draft: &mut Draft, line: &[u8]) -> Result<bool, OutOfMemory>
-    ensures { IfOk result (λ taken. TakesSizes draft.old line.now taken draft.new) }
+    ensures taken { IfOk result (λ taken. IsTaken (next_sizes draft.old (fields line.now)) taken draft.new) }
+    ensures small { IfOk result (λ taken. taken ≡ true → draft.new.vars ≤ max_vars) }
 {
     let Some(rest) = behind(line, b"c", b"formula") else {
         return Ok(false);
@@ -68,17 +150,35 @@ fn take_sizes(alloc: Global, draft: &mut Draft, line: &[u8]) -> Result<bool, Out
         Err(FormulaError::Limit) => unreachable!(),
         Err(FormulaError::OutOfMemory) => return Err(OutOfMemory),
     };
-    draft.due = LineDue::Keep;
+    draft.due = due_first(&draft.protect, &draft.part);
     draft.vars = vars;
     draft.clauses = clauses;
     draft.texts = texts;
     Ok(true)
 }
 
+/// Takes the line of the protected variables.
+fn take_protect(alloc: Global, draft: &mut Draft, line: &[u8]) -> Result<bool, OutOfMemory>
+    requires { draft.old.vars ≤ max_vars }
+    ensures taken { IfOk result (λ taken. IsTaken (next_protect draft.old (fields line.now)) taken draft.new) }
+    ensures vars { draft.new.vars ≡ draft.old.vars }
+{
+    let Some(rest) = behind(line, b"c", b"protect") else {
+        return Ok(false);
+    };
+    let Some(vars) = numbers_in(alloc, rest, draft.vars)? else {
+        return Ok(false);
+    };
+    draft.due = due_then(&draft.part);
+    draft.protect = Some(vars);
+    Ok(true)
+}
+
 /// Takes the line of the kept positions.
 fn take_keep(alloc: Global, draft: &mut Draft, line: &[u8]) -> Result<bool, OutOfMemory>
     requires { draft.old.clauses ≤ max_clauses }
-    ensures { IfOk result (λ taken. TakesKeep draft.old line.now taken draft.new) }
+    ensures taken { IfOk result (λ taken. IsTaken (next_keep draft.old (fields line.now)) taken draft.new) }
+    ensures vars { draft.new.vars ≡ draft.old.vars }
 {
     let Some(rest) = behind(line, b"c", b"keep") else {
         return Ok(false);
@@ -94,7 +194,8 @@ fn take_keep(alloc: Global, draft: &mut Draft, line: &[u8]) -> Result<bool, OutO
 /// Takes the line of the literals that are made true.
 fn take_set(alloc: Global, draft: &mut Draft, line: &[u8]) -> Result<bool, OutOfMemory>
     requires { draft.old.vars ≤ max_vars }
-    ensures { IfOk result (λ taken. TakesSet draft.old line.now taken draft.new) }
+    ensures taken { IfOk result (λ taken. IsTaken (next_set draft.old (fields line.now)) taken draft.new) }
+    ensures vars { draft.new.vars ≡ draft.old.vars }
 {
     let Some(rest) = behind(line, b"c", b"set") else {
         return Ok(false);
@@ -102,89 +203,65 @@ fn take_set(alloc: Global, draft: &mut Draft, line: &[u8]) -> Result<bool, OutOf
     let Some(set) = literals_in(alloc, rest, draft.vars, true)? else {
         return Ok(false);
     };
-    draft.due = LineDue::Order;
+    draft.due = LineDue::Body;
     draft.set = set;
     Ok(true)
 }
 
-/// Takes the line of the order.
-fn take_order(alloc: Global, draft: &mut Draft, line: &[u8]) -> Result<bool, OutOfMemory>
-    requires { draft.old.vars ≤ max_vars }
-    ensures { IfOk result (λ taken. TakesOrder draft.old line.now taken draft.new) }
+/// Takes the line of the number of learned clauses.
+fn take_learned(draft: &mut Draft, line: &[u8]) -> bool
+    ensures taken { IsTaken (next_learned draft.old (fields line.now)) result draft.new }
+    ensures vars { draft.new.vars ≡ draft.old.vars }
 {
-    let Some(rest) = behind(line, b"c", b"order") else {
-        return Ok(false);
+    let Some(rest) = behind(line, b"c", b"learned") else {
+        return false;
     };
-    let Some(order) = literals_in(alloc, rest, draft.vars, false)? else {
-        return Ok(false);
+    let Some(learned) = one_number(rest, MAX_LEARNED) else {
+        return false;
     };
-    draft.due = LineDue::Pairs;
-    draft.order = order;
-    draft.pairs = List::new(alloc);
-    Ok(true)
+    draft.due = LineDue::Body;
+    draft.learned = learned;
+    true
 }
 
-/// The variable of the last pair, or 0 where there is none.
-fn last_var(pairs: &[Pair]) -> u32
-    ensures { result ≡ last_or 0 (map (λ (q : Pair). q.var) pairs.now) }
+/// How many clause lines there are to be.
+pub(crate) fn clause_count(draft: &Draft) -> usize
+    ensures { result ≡ clause_count draft.now }
 {
-    match pairs.last() {
-        Some(pair) => pair.var,
-        None => 0,
+    if is_finished(&draft.part) {
+        draft.kept.len()
+    } else {
+        draft.clauses as usize
     }
 }
 
-/// Takes a line of a pair.
-fn take_pair(draft: &mut Draft, line: &[u8]) -> Result<bool, OutOfMemory>
-    requires { IsDraft draft.old }
-    ensures { IfOk result (λ taken. TakesPair draft.old line.now taken draft.new) }
-{
-    let Some(rest) = behind(line, b"c", b"pair") else {
-        return Ok(false);
-    };
-    let last = last_var(draft.pairs.as_slice());
-    let Some(pair) = pair_in(rest, last, draft.vars, draft.clauses) else {
-        return Ok(false);
-    };
-    draft.pairs.push(pair)?;
-    Ok(true)
-}
-
-/// Takes a line of a pair, or the problem line behind the last one.
-fn take_pair_or_problem(draft: &mut Draft, line: &[u8]) -> Result<bool, OutOfMemory>
-    requires { IsDraft draft.old }
-    ensures { IfOk result (λ taken. TakesPairOrProblem draft.old line.now taken draft.new) }
-{
-    if take_pair(draft, line)? {
-        return Ok(true);
-    }
-    Ok(take_problem(draft, line))
-}
-
-/// Whether the line is the problem line of the kept clauses.
+/// Whether the line is the problem line of the clauses.
 fn is_problem(draft: &Draft, line: &[u8]) -> bool
-    requires { IsDraft draft.now }
-    ensures { IsTrue result ↔ (fields line.now ≡ problem_line draft.now.vars (length draft.now.kept)) }
+    ensures { result ≡ is_problem draft.now.vars (clause_count draft.now) (fields line.now) }
 {
     let Some(rest) = behind(line, b"p", b"cnf") else {
         return false;
     };
     match two_numbers(rest, MAX_VARS, MAX_CLAUSES) {
-        Some((vars, count)) => vars == draft.vars && count as usize == draft.kept.len(),
+        Some((vars, count)) => vars == draft.vars && count as usize == clause_count(draft),
         None => false,
     }
 }
 
-/// Takes the problem line of the kept clauses.
-fn take_problem(draft: &mut Draft, line: &[u8]) -> bool
-    requires { IsDraft draft.old }
-    ensures { TakesProblem draft.old line.now result draft.new }
+/// Takes a line of the body, or the problem line behind the last one.
+fn take_body(alloc: Global, draft: &mut Draft, line: &[u8]) -> Result<bool, OutOfMemory>
+    requires { draft.old.vars ≤ max_vars }
+    ensures taken { IfOk result (λ taken. IsTaken (next_body draft.old (fields line.now)) taken draft.new) }
+    ensures vars { draft.new.vars ≡ draft.old.vars }
 {
     if !is_problem(draft, line) {
-        return false;
+        return take_part(alloc, &mut draft.part, line, draft.vars, draft.clauses);
+    }
+    if !may_end(&draft.part) {
+        return Ok(false);
     }
     draft.due = LineDue::Clauses;
-    true
+    Ok(true)
 }
 
 /// Takes the line of a clause, by an open clause that has no literal before and after.
@@ -193,12 +270,12 @@ fn take_clause(
     growing: &mut OpenClause,
     line: &[u8],
 ) -> Result<bool, OutOfMemory>
-    requires draft { IsDraft draft.old }
+    requires small { IsSmall draft.old }
     requires growing { IsReady draft.old growing.old }
-    ensures taken { IfOk result (λ taken. TakesClause draft.old line.now taken draft.new) }
+    ensures taken { IfOk result (λ taken. IsTaken (next_clause draft.old (fields line.now)) taken draft.new) }
     ensures ready { IfOk result (λ taken. IsReadyAgain taken draft.new growing.new) }
 {
-    if draft.texts.len() as usize == draft.kept.len() {
+    if draft.texts.len() as usize >= clause_count(draft) {
         return Ok(false);
     }
     if !read_clause(growing, line)? {

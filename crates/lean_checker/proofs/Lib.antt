@@ -10,7 +10,13 @@ pub mod OrderChecks
 pub mod PairTables
 pub mod FirstTables
 pub mod MatchingChecks
+pub mod DualChecks
+pub mod Numbers
+pub mod StageChecks
+pub mod StageBalances
+pub mod UnitChecks
 pub mod FirstFailures
 pub mod MatchingFailures
 pub mod ProtectedSets
 pub mod ExtendFailures
+pub mod LinearFailures

@@ -1,4 +1,4 @@
--- Which documents are checked so far: finished ones of the classes pure and matching without protected variables.
+-- Which documents are checked so far: finished ones of the classes pure, matching and linear without protected variables.
 use Rattle.std.specs.Prelude.{◌≡◌, ⊤, None}
 use Rattle.lk_model.specs.declared.document.Body.{Body}
 use Rattle.lk_model.specs.declared.document.Body.TheVariants.{Pure, Matching, Linear, General}
@@ -8,7 +8,7 @@ use Rattle.lk_model.specs.declared.document.Document.TheVariants.{Done, Unfinish
 abbrev pub IsCheckedBody : Body → Type 0
 IsCheckedBody (Pure order pairs) = ⊤
 IsCheckedBody (Matching own rows) = ⊤
-IsCheckedBody (Linear stages dual units) = ⊥
+IsCheckedBody (Linear stages dual units) = ⊤
 IsCheckedBody (General rounds) = ⊥
 
 abbrev pub IsChecked : Document → Type 0

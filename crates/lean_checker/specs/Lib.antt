@@ -7,3 +7,4 @@ pub mod Flags
 pub mod Order
 pub mod Pairs
 pub mod Matching
+pub mod Linear

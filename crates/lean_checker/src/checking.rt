@@ -6,19 +6,22 @@ ghost use Rattle.lk_model.specs.Documents.Form.{is_done_in_form, is_in_form};
 ghost use Rattle.lk_model.specs.Checks.Checks.{first_failure, first_five, class_checks};
 ghost use Rattle.lk_model.specs.Checks.Check.{first_of};
 ghost use Rattle.lk_model.specs.declared.document.Document.TheVariants.{Done};
-ghost use Rattle.lk_model.specs.declared.document.Body.TheVariants.{Pure, Matching};
+ghost use Rattle.lk_model.specs.declared.document.Body.TheVariants.{Pure, Matching, Linear};
 ghost use Rattle.lean_checker.specs.Verdicts.{verdict_of};
 ghost use Rattle.lean_checker.specs.Accepted.{HasSizes, IsReducedBy};
 ghost use Rattle.lean_checker.specs.Checked.{IsChecked, IsCheckedBody};
 
 use crate::common::{assignment_of, kept_clause, kept_flags, not_exactly_removed, other_formula};
+use crate::linear::{bad_balance, bad_dual, bad_sign, bad_stage};
 use crate::matching::{bad_owner, bad_row};
 use crate::order::bad_order;
 use crate::pairs::bad_pair;
 use crate::protected::protected_set;
+use crate::units::bad_unit;
 use crate::verdict::Verdict;
 use lk_model::{
-    Body, Document, DoneDocument, Formula, Kind, Lit, MatchRow, OutOfMemory, Own, Pair, Why,
+    Body, Document, DoneDocument, Dual, Formula, Kind, Lit, MatchRow, OutOfMemory, Own, Pair,
+    Stage, Unit, Why,
 };
 use lk_outside::Gate;
 use std::alloc::Global;
@@ -26,8 +29,8 @@ use std::thread::Threads;
 
 /// What the checks say of a document and a formula: the first failing check, or that none fails. The
 /// document may be anybody's, if it is in form, as every document is that was read from a text; so far
-/// it is a finished one of the class pure or matching without protected variables. The answer is the same
-/// for each number of workers.
+/// it is a finished one of the class pure, matching or linear without protected variables. The answer is
+/// the same for each number of workers.
 ///
 /// Where it is `Accepted`, the kept clauses are the kernel of the document's class, the set line is an
 /// autarky of the class that touches exactly the removed clauses, and every model of the kept clauses,
@@ -127,6 +130,18 @@ fn class_failure(alloc: Global, f: &Formula, d: &DoneDocument) -> Result<Option<
         Body::Matching { own, rows } => {
             matching_failure(alloc, f, d, own.as_slice(), rows.as_slice())
         }
+        Body::Linear {
+            stages,
+            dual,
+            units,
+        } => linear_failure(
+            alloc,
+            f,
+            d,
+            stages.as_slice(),
+            dual.as_slice(),
+            units.as_slice(),
+        ),
         _ => unreachable!(),
     }
 }
@@ -174,6 +189,38 @@ fn matching_failure(
     }
     match bad_row(alloc, f, d, rows)? {
         Some(place) => Ok(failure(Kind::BadRow, place)),
+        None => Ok(None),
+    }
+}
+
+/// The first failing check of those of the class linear.
+fn linear_failure(
+    alloc: Global,
+    f: &Formula,
+    d: &DoneDocument,
+    stages: &[Stage],
+    dual: &[Dual],
+    units: &[Unit],
+) -> Result<Option<Why>, OutOfMemory>
+    requires form { IsTrue (is_done_in_form d.now) }
+    requires body { d.now.body ≡ Linear stages.now dual.now units.now }
+    requires sizes { HasSizes f.now d.now }
+    ensures { IfOk result (λ why. why ≡ first_of (class_checks no_variable f.now d.now (Linear stages.now dual.now units.now))) }
+{
+    if let Some(place) = bad_sign(alloc, f, d, stages)? {
+        return Ok(failure(Kind::BadSign, place));
+    }
+    if let Some(place) = bad_stage(alloc, f, d, stages)? {
+        return Ok(failure(Kind::BadStage, place));
+    }
+    if let Some(place) = bad_dual(alloc, f, d, dual)? {
+        return Ok(failure(Kind::BadDual, place));
+    }
+    if let Some(place) = bad_balance(alloc, f, d, dual)? {
+        return Ok(failure(Kind::BadBalance, place));
+    }
+    match bad_unit(alloc, f, d, units)? {
+        Some(place) => Ok(failure(Kind::BadUnit, place)),
         None => Ok(None),
     }
 }

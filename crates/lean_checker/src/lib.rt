@@ -4,11 +4,13 @@
 mod checking;
 mod common;
 mod extend;
+mod linear;
 mod literal_set;
 mod matching;
 mod order;
 mod pairs;
 mod protected;
+mod units;
 mod verdict;
 
 pub use checking::check;

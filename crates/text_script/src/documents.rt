@@ -2,7 +2,7 @@
 ghost use Rattle.cert_text.specs.Built.{IsBuilt};
 
 use crate::shown::{Clauses, Numbers};
-use cert_text::{print, read};
+use cert_text::{print, read_built};
 use lk_model::{Body, Document, DoneDocument, OutOfMemory, ReadStop};
 use std::alloc::{AllocError, Global};
 
@@ -56,7 +56,7 @@ fn put_document(
 
 /// Writes the document that a text is read as.
 fn put_read(alloc: Global, text: &[u8], out: &mut String) -> Result<(), ReadStop> {
-    let document = read(alloc, text)?;
+    let document = read_built(alloc, text)?;
     let put = put_document(alloc, &document, text, out);
     drop(document);
     Ok(put.map_err(OutOfMemory::from)?)
@@ -77,7 +77,7 @@ pub(crate) fn tell_document(
 
 /// The line at which a text stops, or else 0.
 fn stop_of(alloc: Global, text: &[u8]) -> u64 {
-    match read(alloc, text).err() {
+    match read_built(alloc, text).err() {
         Some(ReadStop::Line(line)) => line,
         _ => 0,
     }

@@ -10,7 +10,7 @@ ghost use Rattle.lk_outside.specs.Causes.{HasCause, TellsTheSame};
 ghost use Rattle.workbench.specs.Causes.{StopsReading, StopsText, StopsDocument};
 
 use crate::stop::Stop;
-use cert_text::read;
+use cert_text::read_built;
 use dimacs_reader::Reader;
 use lk_model::{Document, Formula};
 use lk_outside::Shelf;
@@ -100,7 +100,7 @@ pub(crate) fn read_document<H: Shelf>(
     ensures cause { HasCause (H.faults shelf.old) (H.faults shelf.new) (IsErrAnd result (λ s. s ≡ Stop.Read)) }
 {
     let text = read_text(alloc, shelf, name)?;
-    Ok(read(alloc, text.as_slice())?)
+    Ok(read_built(alloc, text.as_slice())?)
 }
 
 /// Reads the bytes under a name, up to their end.

@@ -21,7 +21,7 @@ use crate::lines::line_of;
 use crate::output::write_all;
 use crate::stop::Stop;
 use crate::words::{Request, request_of};
-use cert_text::{print, text_law};
+use cert_text::{built_law, print};
 use lean_checker::{Verdict, check, put_verdict};
 use lk_model::{Document, DoneDocument, Formula, OutOfMemory};
 use lk_outside::{Gate, Shelf, Sink};
@@ -100,7 +100,7 @@ pub fn run<R: Threads + Sync, H: Shelf, O: Sink, E: Sink, G: Gate>(
         (Rose (E.faults say.old) (E.faults say.new) → ⊥) →
         (result ≡ 0) ⊎ (result ≡ 9) }
 {
-    text_law();
+    built_law();
     match perform(rt, alloc, words, shelf, gate) {
         Ok(answer) => match write_all(out, answer.text.as_slice()) {
             Ok(()) => answer.status,

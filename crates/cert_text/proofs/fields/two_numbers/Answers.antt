@@ -1,7 +1,7 @@
 use Rattle.std.proofs.Common.{◌∷◌, ◌∙◌, List, ℕ, ap, sym}
 use Rattle.std.specs.Borrow.{Bor}
 use Rattle.lk_model.specs.Texts.Lines.{Word}
-use Rattle.cert_text.specs.Drafts.{fields}
+use Rattle.cert_text.specs.Fields.{fields}
 use Rattle.cert_text.specs.Fields.{rest_fields}
 use Rattle.cert_text.proofs.Words.{two_many}
 use Rattle.cert_text.proofs.fields.two_numbers.Goals as goal

@@ -2,7 +2,7 @@ use Rattle.std.proofs.Common.{◌≡◌, ◌∷◌, ◌++◌, ◌∙◌, ap, sym
 use Rattle.std.specs.Prelude.{option_map}
 use Rattle.lk_model.specs.Formulas.Literal.{variable}
 use Rattle.lk_model.specs.Texts.NumberWords.{plain_number}
-use Rattle.cert_text.specs.Drafts.{fields}
+use Rattle.cert_text.specs.Fields.{fields}
 use Rattle.cert_text.specs.Fields.{rest_fields, literal_within}
 use Rattle.cert_text.specs.FieldLists.{literals_from, in_order}
 use Rattle.cert_text.proofs.ListSteps.{literals_step, literals_none, literal_follows, literal_stays}

@@ -1,7 +1,7 @@
 use Rattle.std.proofs.Common.{◌≡◌, ◌∷◌, ◌++◌, ◌+◌, ◌∙◌, ap, sym, subst, List, ℕ}
 use Rattle.std.specs.Prelude.{option_map}
 use Rattle.lk_model.specs.Texts.NumberWords.{plain_number}
-use Rattle.cert_text.specs.Drafts.{fields}
+use Rattle.cert_text.specs.Fields.{fields}
 use Rattle.cert_text.specs.Fields.{rest_fields}
 use Rattle.cert_text.specs.FieldLists.{rising_from}
 use Rattle.cert_text.proofs.ListSteps.{rising_step, rising_none, number_high}

@@ -2,7 +2,7 @@ use Rattle.std.proofs.Common.{◌≡◌, ◌∷◌, ◌++◌, [], ◌∙◌, ap,
 use Rattle.std.specs.Prelude.{option_map}
 use Rattle.lk_model.specs.Texts.NumberWords.{plain_number}
 use Rattle.lk_model.specs.Held.Growing.{Growing}
-use Rattle.cert_text.specs.Drafts.{fields}
+use Rattle.cert_text.specs.Fields.{fields}
 use Rattle.cert_text.specs.Fields.{rest_fields, literal_within}
 use Rattle.cert_text.specs.FieldLists.{clause_from}
 use Rattle.cert_text.proofs.ListSteps.{clause_step, clause_none}

@@ -1,6 +1,6 @@
 use Rattle.std.proofs.Common.{◌≡◌, ◌++◌, ◌≤◌, [], length}
 use Rattle.std.specs.Prelude.{option_map}
-use Rattle.cert_text.specs.Drafts.{fields}
+use Rattle.cert_text.specs.Fields.{fields}
 use Rattle.cert_text.specs.FieldLists.{clause_from}
 use Rattle.cert_text.proofs.lists.read_clause.Given as goal
 

@@ -3,7 +3,7 @@ use Rattle.std.proofs.lemmas.List.{length-replicate}
 use Rattle.cert_text.proofs.Models.Values.{values_none}
 use Rattle.cert_text.proofs.Models.Texts.{read_nothing, read_next, read_faulty, read_whole}
 use Rattle.cert_text.proofs.Models.Lines.{next_past}
-use Rattle.cert_text.proofs.Takings.{before_end}
+use Rattle.cert_text.proofs.ReadEnds.{before_end}
 use Rattle.cert_text.proofs.model.read_model.Goals as goal
 
 pub loop-cut-init : goal.loop-cut-init

@@ -1,0 +1,228 @@
+-- The lines of an unfinished document lead to a draft that is this document.
+use Rattle.std.proofs.Common.{◌≡◌, ℕ, ◌+◌, ◌-◌, ◌^◌, ◌<◌, ◌≤◌, ◌∙◌, Bool, true, false, cond, ◌&&◌, ◌==◌, List, [], ◌∷◌, ◌++◌, map, length, refl, sym, ap, subst, arith, Option, Some, None, append_assoc, nat_le, nat_lt}
+use Rattle.std.specs.Prelude.{option_map, option_and_then, codes, decimal}
+use Rattle.std.specs.Option.{option_map_or}
+use Rattle.std.specs.List.{list_all, flat_map}
+use Rattle.std.proofs.lemmas.Bool.{eq-eqb, eqb-true, leb-true, ltb-true, and_from}
+use Rattle.std.proofs.lemmas.List.{append-nil}
+use Rattle.std.proofs.lemmas.List.Concat.{flat_map-append}
+use Rattle.lk_model.specs.Limits.{max_vars, max_clauses, max_literals}
+use Rattle.lk_model.specs.Formulas.Literal.{is_clause}
+use Rattle.lk_model.specs.Formulas.Formula.{is_formula, literal_count}
+use Rattle.lk_model.specs.Texts.Lines.{Word}
+use Rattle.lk_model.specs.Texts.PlainText.{ended, literal_words, number_words, formula_lines}
+use Rattle.lk_model.specs.Documents.Documents.{steps_of}
+use Rattle.lk_model.specs.Documents.Text.{comment, step_line, round_lines, first_lines, document_lines}
+use Rattle.lk_model.specs.Documents.Form.{counts_from, is_step, are_steps, is_open, is_whole, end_open, is_size, is_protect_line, are_clause_lines, is_open_in_form}
+use Rattle.lk_model.specs.declared.document.Step.{Step}
+use Rattle.lk_model.specs.declared.document.Round.{Round}
+use Rattle.lk_model.specs.declared.document.OpenDocument.{OpenDocument}
+use Rattle.lk_model.specs.declared.document.Document.TheVariants as document
+use Rattle.lk_model.proofs.Booleans.{and_true}
+use Rattle.cert_text.specs.declared.part.Part.{Part}
+use Rattle.cert_text.specs.declared.part.Part.TheVariants.{Unfinished}
+use Rattle.cert_text.specs.declared.read_rounds.RoundsPart.{RoundsPart}
+use Rattle.cert_text.specs.declared.draft.Draft.{Draft}
+use Rattle.cert_text.specs.declared.draft.LineDue.{LineDue}
+use Rattle.cert_text.specs.declared.draft.LineDue.TheVariants as due
+use Rattle.cert_text.specs.declared.draft.Scope.{Scope}
+use Rattle.cert_text.specs.declared.draft.Scope.TheVariants.{All}
+use Rattle.cert_text.specs.Fields.{after, two_within}
+use Rattle.cert_text.specs.FieldLists.{rising_from}
+use Rattle.cert_text.specs.RoundLines.{fresh_rounds, round_of, step_within, number_after, next_step, put_step, is_round, rounds_next}
+use Rattle.cert_text.specs.Parts.{part_next, may_end}
+use Rattle.cert_text.specs.Drafts.{format_line, size_line, learned_line, problem_line, clause_count, fresh_draft, is_problem, document_by, finished}
+use Rattle.cert_text.proofs.ListForms.{number_back, rising_back}
+use Rattle.cert_text.proofs.NumberForms.{two_back}
+use Rattle.cert_text.proofs.Options.{map_some, then_some}
+use Rattle.cert_text.proofs.Words.{after_form}
+use Rattle.cert_text.proofs.RoundSteps.{round_form}
+use Rattle.cert_text.proofs.RoundRuns.{rounds_run, AreNumbered, open_at, shut_at, numbered_parts, open_run, round_run, rounds_all_run}
+use Rattle.cert_text.proofs.Runs.{run, run_cons, after_ended, at_body, part_runs, at_clauses, clauses_run}
+
+-- THE PROBLEM LINE
+
+problem_is : (n k : ℕ) → n ≤ 1000000 → k ≤ 4000000 → is_problem n k (problem_line n k) ≡ true
+problem_is n k few small =
+    ap (λ (o : Option (ℕ × ℕ)). option_map_or (λ (h : ℕ × ℕ). h.0 == n && h.1 == k) o false) (two_back 1000000 4000000 n k (omega arith) (omega arith) few small)
+    ∙ and_from (n == n) (k == k) (eq-eqb n n refl) (eq-eqb k k refl)
+
+pub problem_run : (scope : Scope) (d : Draft) (p : Part) (rest : List (List Word)) → may_end p ≡ true → d.vars ≤ 1000000 → clause_count (at_body d p) ≤ 4000000
+    → run scope (at_body d p) (problem_line d.vars (clause_count (at_body d p)) ∷ rest) ≡ run scope (record (at_body d p) { due = due.Clauses }) rest
+problem_run scope d p rest ends few small =
+    let e = at_body d p in
+    let next : Draft = record e { due = due.Clauses } in
+    let words = problem_line d.vars (clause_count e) in
+    run_cons scope e next words rest
+    (ap (λ (t : Bool). cond t (cond (may_end p) (Some next) None) (option_map (λ (q : Part). let x : Draft = record e { part = q } in x) (part_next d.vars d.clauses p words))) (problem_is d.vars (clause_count e) few small)
+    ∙ ap (λ (t : Bool). cond t (Some next) None) ends)
+
+-- THE ROUNDS
+
+-- a line of rounds is a comment
+next_comment : (may : Bool) (n m : ℕ) (p q : RoundsPart) (words : List Word) → rounds_next may n m p words ≡ Some q → (tail : List Word) × (words ≡ codes "c" ∷ tail)
+next_comment may n m p q words e = by_open p.is_open e
+  where
+    by_round : (b : Bool) → (may && is_round words) ≡ b → cond b (Some (record p { is_open = true })) None ≡ Some q → (tail : List Word) × (words ≡ codes "c" ∷ tail)
+    by_round false t f = absurd (let g : ⊥ = cc in g)
+    by_round true t f = (codes "round" ∷ [], round_form words (and_true may (is_round words) t).1)
+
+    by_open : (b : Bool) → cond b (next_step n m p words) (cond (may && is_round words) (Some (record p { is_open = true })) None) ≡ Some q → (tail : List Word) × (words ≡ codes "c" ∷ tail)
+    by_open true f =
+        let read = λ (ws : List Word). option_and_then (λ number. step_within n number ws) (number_after m p.count) in
+        let one = map_some (put_step p) (option_and_then read (after (codes "c") (codes "step") words)) q f in
+        let two = then_some read (after (codes "c") (codes "step") words) one.item one.there in
+        (codes "step" ∷ two.item, (after_form (codes "c") (codes "step") words two.item two.there).whole)
+    by_open false f = by_round (may && is_round words) refl f
+
+-- lines of rounds are lines of the body
+rounds_lift : (scope : Scope) (d : Draft) (p q : RoundsPart) (lines rest : List (List Word)) → rounds_run true d.vars d.clauses p lines ≡ Some q
+    → run scope (at_body d (Unfinished p)) (lines ++ rest) ≡ run scope (at_body d (Unfinished q)) rest
+rounds_lift scope d p q [] rest h = let same : p ≡ q = cc in ap (λ (x : RoundsPart). run scope (at_body d (Unfinished x)) rest) same
+rounds_lift scope d p q (words ∷ lines) rest h = by_next (λ x g. rounds_lift scope d x q lines rest g) (rounds_next true d.vars d.clauses p words) refl h
+  where
+    by_next : ((x : RoundsPart) → rounds_run true d.vars d.clauses x lines ≡ Some q → run scope (at_body d (Unfinished x)) (lines ++ rest) ≡ run scope (at_body d (Unfinished q)) rest)
+        → (o : Option RoundsPart) → rounds_next true d.vars d.clauses p words ≡ o → option_and_then (λ x. rounds_run true d.vars d.clauses x lines) o ≡ Some q
+        → run scope (at_body d (Unfinished p)) (words ∷ (lines ++ rest)) ≡ run scope (at_body d (Unfinished q)) rest
+    by_next later None t f = absurd (let g : ⊥ = cc in g)
+    by_next later (Some x) t f =
+        let c = next_comment true d.vars d.clauses p x words t in
+        let there : part_next d.vars d.clauses (Unfinished p) (codes "c" ∷ c.0) ≡ Some (Unfinished x) = ap (λ (ws : List Word). option_map Unfinished (rounds_next true d.vars d.clauses p ws)) (sym c.1) ∙ ap (option_map Unfinished) t in
+        ap (λ (ws : List Word). run scope (at_body d (Unfinished p)) (ws ∷ (lines ++ rest))) c.1
+        ∙ part_runs scope d (Unfinished p) (Unfinished x) c.0 (lines ++ rest) there
+        ∙ later x f
+
+-- whole rounds, and an open one behind them
+record Split (rounds : List Round) : Type 0 where
+  front : List Round
+  last : Round
+  is : rounds ≡ front ++ last ∷ []
+  whole : list_all is_whole front ≡ true
+  open_last : is_open last ≡ true
+
+split : (rounds : List Round) → end_open rounds ≡ true → Split rounds
+split [] h = absurd (let f : ⊥ = cc in f)
+split (r ∷ []) h = record { front = []; last = r; is = refl; whole = refl; open_last = h }
+split (r ∷ s ∷ rounds) h =
+    let both = and_true (is_whole r) (end_open (s ∷ rounds)) h in
+    let rest = split (s ∷ rounds) both.1 in
+    record { front = r ∷ rest.front; last = rest.last; is = ap (λ (rs : List Round). r ∷ rs) rest.is; whole = and_from (is_whole r) (list_all is_whole rest.front) both.0 rest.whole; open_last = rest.open_last }
+
+-- the rounds of an unfinished document
+record OpenRounds (n m : ℕ) (rounds : List Round) : Type 0 where
+  part : RoundsPart
+  runs : rounds_run true n m (shut_at [] 0) (flat_map round_lines rounds) ≡ Some part
+  is_open : part.is_open ≡ true
+  is : part.rounds ++ round_of part.steps ∷ [] ≡ rounds
+
+open_rounds : (n m : ℕ) (rounds : List Round) → n ≤ 1000000 → are_steps n m (steps_of rounds) ≡ true → end_open rounds ≡ true → OpenRounds n m rounds
+open_rounds n m rounds small h e =
+    let s = split rounds e in
+    let both = and_true (counts_from (m + 1) (map (λ (x : Step). x.number) (steps_of rounds))) (list_all (is_step n) (steps_of rounds)) h in
+    let zero_more : m + 1 + 0 ≡ m + 1 = omega arith in
+    let all : AreNumbered n m 0 (steps_of rounds) = record { counts = ap (λ (j : ℕ). counts_from j (map (λ (x : Step). x.number) (steps_of rounds))) zero_more ∙ both.0; forms = both.1 } in
+    let steps : steps_of rounds ≡ steps_of s.front ++ s.last.steps =
+    ap steps_of s.is ∙ flat_map-append (λ (r : Round). r.steps) s.front (s.last ∷ []) ∙ ap (λ (ss : List Step). steps_of s.front ++ ss) (append-nil s.last.steps) in
+    let parts = numbered_parts n m 0 (steps_of s.front) s.last.steps (subst (AreNumbered n m 0) steps all) in
+    let lines : flat_map round_lines rounds ≡ flat_map round_lines s.front ++ round_lines s.last =
+    ap (flat_map round_lines) s.is ∙ flat_map-append round_lines s.front (s.last ∷ []) ∙ ap (λ (ls : List (List Word)). flat_map round_lines s.front ++ ls) (append-nil (round_lines s.last)) in
+    let k = 0 + length (steps_of s.front) in
+    record {
+      part = open_at s.front s.last.steps (k + length s.last.steps);
+      runs = ap (rounds_run true n m (shut_at [] 0)) lines
+          ∙ rounds_all_run n m [] s.front 0 (round_lines s.last) small s.whole parts.0
+          ∙ round_run n m s.front k (map step_line s.last.steps)
+          ∙ ap (rounds_run true n m (open_at s.front [] k)) (sym (append-nil (map step_line s.last.steps)))
+          ∙ open_run true n m s.front [] s.last.steps k [] small s.open_last parts.1;
+      is_open = refl;
+      is = sym s.is;
+    }
+
+-- THE FIRST LINES
+
+blank : Option (List ℕ) → Option (List ℕ)
+blank None = None
+blank (Some vars) = Some []
+
+-- a draft of which no line of the rounds was read
+front : LineDue → ℕ → ℕ → Option (List ℕ) → ℕ → Draft
+front s n m protect learned = record { due = s; vars = n; clauses = m; protect = protect; kept = []; set = []; learned = learned; part = Unfinished fresh_rounds; texts = record { vars = n; clauses = [] } }
+
+started : Option (List ℕ) → Draft
+started protect = record fresh_draft { due = due.Sizes; protect = protect; part = Unfinished fresh_rounds }
+
+sizes_run : (n m : ℕ) (protect : Option (List ℕ)) (s : LineDue) → n ≤ 1000000 → m ≤ 4000000
+    → option_map (λ (h : ℕ × ℕ). let x : Draft = record (started protect) { due = s; vars = h.0; clauses = h.1; texts = record { vars = h.0; clauses = [] } } in x) (two_within max_vars max_clauses (decimal n ∷ decimal m ∷ [])) ≡ Some (front s n m protect 0)
+unfolding started front
+sizes_run n m protect s few small =
+    ap (option_map (λ (h : ℕ × ℕ). record (started protect) { due = s; vars = h.0; clauses = h.1; texts = record { vars = h.0; clauses = [] } })) (two_back 1000000 4000000 n m (omega arith) (omega arith) few small)
+
+first_run : (protect : Option (List ℕ)) (n m : ℕ) (rest : List (List Word)) → n ≤ 1000000 → m ≤ 4000000 → is_protect_line n protect ≡ true
+    → run All fresh_draft (first_lines (codes "unfinished") n m protect ++ rest) ≡ run All (front due.Learned n m protect 0) rest
+unfolding started blank front
+first_run None n m rest few small h =
+    run_cons All fresh_draft (started None) (format_line None (codes "unfinished")) (size_line n m ∷ rest) refl
+    ∙ run_cons All (started None) (front due.Learned n m None 0) (size_line n m) rest (sizes_run n m None due.Learned few small)
+first_run (Some vars) n m rest few small h =
+    let protected = λ (x : List ℕ). record (front due.Protect n m (Some []) 0) { due = due.Learned; protect = Some x } in
+    let line = comment (codes "protect") (ended (number_words vars)) in
+    run_cons All fresh_draft (started (Some [])) (format_line (Some vars) (codes "unfinished")) (size_line n m ∷ line ∷ rest) refl
+    ∙ run_cons All (started (Some [])) (front due.Protect n m (Some []) 0) (size_line n m) (line ∷ rest) (sizes_run n m (Some []) due.Protect few small)
+    ∙ run_cons All (front due.Protect n m (Some []) 0) (front due.Learned n m (Some vars) 0) line rest
+    (ap (λ (o : Option (List Word)). option_map protected (option_and_then (rising_from 0 n) o)) (after_ended (codes "protect") (number_words vars) refl)
+    ∙ ap (option_map protected) (rising_back 0 n vars (omega (arith, few)) h))
+
+learned_run : (protect : Option (List ℕ)) (n m learned : ℕ) (rest : List (List Word)) → learned < 2 ^ 63
+    → run All (front due.Learned n m protect 0) (learned_line learned ∷ rest) ≡ run All (front due.Body n m protect learned) rest
+unfolding front
+learned_run protect n m learned rest low =
+    run_cons All (front due.Learned n m protect 0) (front due.Body n m protect learned) (learned_line learned) rest
+    (ap (option_map (λ (x : ℕ). record (front due.Learned n m protect 0) { due = due.Body; learned = x })) (number_back 0 (2 ^ 63 - 1) learned (omega (arith, low)) (omega arith) (omega (arith, low))))
+
+-- THE WHOLE
+
+pub record OpenRunsTo (d : OpenDocument) : Type 0 where
+  pub draft : Draft
+  pub runs : run All fresh_draft (document_lines (document.Unfinished d)) ≡ Some draft
+  pub is : finished draft ≡ Some (document.Unfinished d)
+
+pub open_runs : (d : OpenDocument) → is_open_in_form d ≡ true → OpenRunsTo d
+unfolding is_open_in_form are_clause_lines front
+open_runs d f =
+    let outer = and_true _ (are_clause_lines d.vars d.clauses d.texts) f in
+    let ends = and_true _ (end_open d.rounds) outer.0 in
+    let steps = and_true _ (are_steps d.vars d.clauses (steps_of d.rounds)) ends.0 in
+    let learns = and_true _ (nat_lt d.learned (2 ^ 63)) steps.0 in
+    let protects = and_true (is_size d.vars d.clauses) (is_protect_line d.vars d.protect) learns.0 in
+    let sizes = and_true (nat_le d.vars max_vars) (nat_le d.clauses max_clauses) protects.0 in
+    let few = leb-true d.vars max_vars sizes.0 in
+    let small = leb-true d.clauses max_clauses sizes.1 in
+    let last = and_true _ (nat_le (literal_count d.texts) max_literals) outer.1 in
+    let formulas = and_true _ (is_formula d.texts) last.0 in
+    let counts = and_true (d.texts.vars == d.vars) (length d.texts.clauses == d.clauses) formulas.0 in
+    let vars = eqb-true d.texts.vars d.vars counts.0 in
+    let count = eqb-true (length d.texts.clauses) d.clauses counts.1 in
+    let rounds = open_rounds d.vars d.clauses d.rounds few steps.1 ends.1 in
+    let at = front due.Body d.vars d.clauses d.protect d.learned in
+    let there = at_body at (Unfinished rounds.part) in
+    let first = first_lines (codes "unfinished") d.vars d.clauses d.protect in
+    let clauses = map literal_words d.texts.clauses in
+    let end = at_clauses there d.texts.clauses in
+    let problem : formula_lines d.texts ≡ problem_line d.vars d.clauses ∷ clauses =
+    ap (λ (n : ℕ). problem_line n (length d.texts.clauses) ∷ clauses) vars ∙ ap (λ (k : ℕ). problem_line d.vars k ∷ clauses) count in
+    let texts : record { vars = d.vars; clauses = d.texts.clauses } ≡ d.texts = λ i. record { vars = sym vars i; clauses = d.texts.clauses } in
+    let all : rounds.part.rounds ++ cond rounds.part.is_open (round_of rounds.part.steps ∷ []) [] ≡ d.rounds =
+    ap (λ (b : Bool). rounds.part.rounds ++ cond b (round_of rounds.part.steps ∷ []) []) rounds.is_open ∙ rounds.is in
+    record {
+      draft = end;
+      runs = ap (run All fresh_draft) (append_assoc first (learned_line d.learned ∷ flat_map round_lines d.rounds) (formula_lines d.texts))
+          ∙ first_run d.protect d.vars d.clauses _ few small protects.1
+          ∙ learned_run d.protect d.vars d.clauses d.learned (flat_map round_lines d.rounds ++ formula_lines d.texts) (ltb-true d.learned (2 ^ 63) learns.1)
+          ∙ rounds_lift All at fresh_rounds rounds.part (flat_map round_lines d.rounds) (formula_lines d.texts) rounds.runs
+          ∙ ap (run All there) problem
+          ∙ problem_run All at (Unfinished rounds.part) clauses rounds.is_open few small
+          ∙ clauses_run All there [] d.texts.clauses few (subst (λ (n : ℕ). list_all (is_clause n) d.texts.clauses ≡ true) vars formulas.1)
+          (omega (arith, count)) (leb-true (literal_count d.texts) max_literals last.1);
+      is = ap (λ (t : Bool). cond t (Some (document_by end)) None) (eq-eqb (length d.texts.clauses) d.clauses count)
+          ∙ ap (λ (x : OpenDocument). Some (document.Unfinished x)) (λ i. record d { rounds = all i; texts = texts i });
+    }

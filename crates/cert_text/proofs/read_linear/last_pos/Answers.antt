@@ -1,0 +1,8 @@
+use Rattle.std.proofs.Common.{◌∙◌, ap, sym}
+use Rattle.std.specs.Option.{option_copied}
+use Rattle.lk_model.specs.declared.document.Dual.{Dual}
+use Rattle.cert_text.proofs.LastOnes.{last_read}
+use Rattle.cert_text.proofs.read_linear.last_pos.Goals as goal
+
+pub returns-in-Some : goal.returns-in-Some
+returns-in-Some c = last_read (λ (y : Dual). y.pos) c.args.dual.now c.in-Some.dual.now (sym c.last.ensures.value ∙ ap option_copied c.in-Some.is)

@@ -1,0 +1,31 @@
+use Rattle.std.proofs.Common.{◌∷◌, ◌∙◌, map, List, ap, sym}
+use Rattle.lk_model.specs.declared.document.Share.{Share}
+use Rattle.lk_model.specs.Texts.Lines.{Word}
+use Rattle.cert_text.specs.Fields.{fields, rest_fields}
+use Rattle.cert_text.specs.FieldLists.{twos}
+use Rattle.cert_text.specs.LastVars.{last_or}
+use Rattle.cert_text.specs.LinearLines.{share_within}
+use Rattle.cert_text.proofs.LastOnes.{last_more}
+use Rattle.cert_text.proofs.LinearSteps.{share_read}
+use Rattle.cert_text.proofs.TwosSteps.{twos_step, twos_short}
+use Rattle.cert_text.proofs.signed_lists.shares_in.Goals as goal
+
+pub returns-in_default-behind : goal.returns-in_default-behind
+returns-in_default-behind c =
+    let w = c.first_field.result.0.now in
+    let o = c.first_field-in-words.result.0.now in
+    let words = c.first_field.ensures.words ∙ ap (λ p. w ∷ rest_fields p) c.in-Some.is ∙ ap (λ (ws : List Word). w ∷ ws) (c.first_field-in-words.ensures.words ∙ ap (λ p. o ∷ rest_fields p) c.in_default-behind.is) in
+    twos_short (share_within c.args.m) _ c.words.shares (fields c.words.rest.now) w o c.words.invariant.told words
+
+pub words-preserved : goal.words-preserved
+words-preserved c =
+    let w = c.first_field.result.0.now in
+    let o = c.first_field-in-words.result.0.now in
+    let words = c.first_field.ensures.words ∙ ap (λ p. w ∷ rest_fields p) c.in-Some.is ∙ ap (λ (ws : List Word). w ∷ ws) (c.first_field-in-words.ensures.words ∙ ap (λ p. o ∷ rest_fields p) c.in-Some-behind.is) in
+    let item = c.in-Some-share_in.share in
+    let is = share_read c.args.m c.words.last item c.words.shares w o c.words.invariant.last (sym c.in-Some-share_in.is ∙ c.share_in.ensures) in
+    record {
+      told = twos_step (share_within c.args.m) _ c.words.shares item (fields c.words.rest.now) (fields c.in-Some-behind.behind.now) w o c.words.invariant.told words is
+          ∙ ap (λ (xs : List Share). twos (share_within c.args.m) xs (fields c.in-Some-behind.behind.now)) (sym c.in_ok-push.ensures.ok);
+      last = sym (ap (λ (xs : List Share). last_or 0 (map (λ (x : Share). x.pos) xs)) c.in_ok-push.ensures.ok ∙ last_more (λ (x : Share). x.pos) 0 c.words.shares item);
+    }

@@ -1,0 +1,17 @@
+use Rattle.std.proofs.Common.{◌≡◌, [], map, length}
+use Rattle.lk_model.specs.declared.document.Weight.{Weight}
+use Rattle.cert_text.specs.Fields.{fields}
+use Rattle.cert_text.specs.FieldLists.{twos}
+use Rattle.cert_text.specs.LastVars.{last_or}
+use Rattle.cert_text.specs.LinearLines.{weight_within}
+use Rattle.cert_text.proofs.signed_lists.weights_in.Given as goal
+
+-- what is read of the rest goes on from what was read
+abbrev pub invariant-words : goal.invariant-words
+invariant-words l = record {
+  told : twos (weight_within l.n) [] (fields l.line) ≡ twos (weight_within l.n) l.weights (fields l.rest);
+  last : l.last ≡ last_or 0 (map (λ (x : Weight). x.var) l.weights);
+}
+
+abbrev pub decreases-words : goal.decreases-words
+decreases-words l = length l.rest

@@ -1,0 +1,237 @@
+//! The check of the units of a linear document.
+//!
+//! One table of numbers serves all units: it is filled at the variables of a unit's shares, read there, and made empty there
+//! again. So a unit takes the time of its shares' literals.
+ghost use Rattle.std.specs.Prelude.{◌≡◌, ◌≤◌, ◌<◌, ◌||◌, not, neg_ℤ, length, map, IfOk, OnOk, IsTrue};
+ghost use Rattle.std.specs.List.{list_all, list_any};
+ghost use Rattle.lk_model.specs.Lists.{is_zero, rises_within};
+ghost use Rattle.lk_model.specs.Limits.{is_in_range};
+ghost use Rattle.lk_model.specs.Formulas.Literal.{is_literal, variable};
+ghost use Rattle.lk_model.specs.Formulas.Formula.{is_formula};
+ghost use Rattle.lk_model.specs.Formulas.Lean.{are_positions};
+ghost use Rattle.lk_model.specs.Formulas.Crossed.{no_variable};
+ghost use Rattle.lk_model.specs.Documents.Form.{is_unit, is_weight};
+ghost use Rattle.lk_model.specs.Checks.LinearChecks.{bad_unit};
+ghost use Rattle.lk_model.specs.declared.document.Share.{Share};
+ghost use Rattle.lk_model.specs.declared.document.Unit.{Unit};
+ghost use Rattle.lean_checker.specs.Flags.{is_flagged};
+ghost use Rattle.lean_checker.specs.Linear.{AreUnits, is_bad_unit, AreNone, AreNumbers, ClearsNumbers, ClearsShares, numbers_by, is_unbalanced, is_unbalanced_clause, is_unbalanced_share, is_bad_unit_line};
+
+use crate::common::kept_flags;
+use crate::linear::{add_numbers, is_unbalanced, no_numbers, occurring_at};
+use lk_model::{DoneDocument, Formula, List, Lit, OutOfMemory, Share, Unit, VarSet};
+use std::alloc::Global;
+
+/// The first variable whose unit is missing, or is not wanted since the variable does not occur in the kept
+/// clauses, or has d 0, or names a position that is not kept, or whose balance is not d in the variable, or
+/// not 0 in another variable of the kept clauses.
+pub(crate) fn bad_unit(
+    alloc: Global,
+    f: &Formula,
+    d: &DoneDocument,
+    units: &[Unit],
+) -> Result<Option<u32>, OutOfMemory>
+    requires kept { IsTrue (are_positions f.now d.now.kept) }
+    requires rising { IsTrue (rises_within 0 f.now.vars (map (λ (u : Unit). u.var) units.now)) }
+    requires units { IsTrue (list_all (is_unit (length f.now.clauses)) units.now) }
+    ensures { IfOk result (λ place. place ≡ (bad_unit no_variable f.now d.now units.now).place) }
+{
+    let n = f.vars();
+    let kept = d.kept.as_slice();
+    let occurring = occurring_at(alloc, f, kept)?;
+    let flags = kept_flags(alloc, f.len(), kept)?;
+    let bad = bad_lines(alloc, f, flags.as_slice(), &occurring, units)?;
+    let table = bad.as_slice();
+    Ok((1..n + 1).find(|v| is_bad_unit(&occurring, table, *v)))
+}
+
+/// Whether the unit of a variable is missing, not wanted or bad.
+fn is_bad_unit(occurring: &VarSet, table: &[Option<bool>], v: u32) -> bool
+    requires first { 0 < v }
+    requires occurring { v ≤ length occurring.now }
+    requires table { v ≤ length table.now }
+    ensures { result ≡ is_bad_unit occurring.now table.now v }
+{
+    match table[v as usize - 1] {
+        Some(bad) => !occurring.has(v) || bad,
+        None => occurring.has(v),
+    }
+}
+
+/// For each variable whether its unit is bad, where it has one.
+fn bad_lines(
+    alloc: Global,
+    f: &Formula,
+    kept: &[bool],
+    occurring: &VarSet,
+    units: &[Unit],
+) -> Result<Vec<Option<bool>>, OutOfMemory>
+    requires occurring { length occurring.now ≡ f.now.vars }
+    requires rising { IsTrue (rises_within 0 f.now.vars (map (λ (u : Unit). u.var) units.now)) }
+    requires units { IsTrue (list_all (is_unit (length f.now.clauses)) units.now) }
+    ensures { IfOk result (λ table. AreUnits f.now kept.now occurring.now units.now table.items) }
+{
+    let n = f.vars();
+    let mut table = vec![in alloc; None; n as usize]?;
+    let mut numbers = no_numbers(alloc, n)?;
+    for i in (0..units.len()).rev() {
+        let unit = &units[i];
+        let bad = is_bad_line(alloc, f, kept, occurring, unit, &mut numbers)?;
+        table[unit.var as usize - 1] = Some(bad);
+    }
+    Ok(table)
+}
+
+/// Whether a unit is bad. The table of numbers is empty before and behind.
+fn is_bad_line(
+    alloc: Global,
+    f: &Formula,
+    kept: &[bool],
+    occurring: &VarSet,
+    unit: &Unit,
+    numbers: &mut Vec<List<i128>>,
+) -> Result<bool, OutOfMemory>
+    requires first { 0 < unit.now.var }
+    requires last { unit.now.var ≤ f.now.vars }
+    requires unit { IsTrue (is_unit (length f.now.clauses) unit.now) }
+    requires occurring { length occurring.now ≡ f.now.vars }
+    requires none { AreNone f.now.vars numbers.old.items }
+    ensures bad { IfOk result (λ bad. bad ≡ is_bad_unit_line f.now kept.now occurring.now unit.now) }
+    ensures none { OnOk result (AreNone f.now.vars numbers.new.items) }
+{
+    if is_void(kept, unit) {
+        return Ok(true);
+    }
+    let v = unit.var as usize - 1;
+    fill(f, unit.shares.as_slice(), numbers)?;
+    numbers[v].push(opposite(unit.d))?;
+    let bad = is_out_of_balance(f, occurring, numbers, unit);
+    clear(alloc, f, unit.shares.as_slice(), numbers);
+    numbers[v] = List::new(alloc);
+    Ok(bad)
+}
+
+/// The number with the other sign.
+fn opposite(y: i128) -> i128
+    requires { IsTrue (is_in_range y) }
+    ensures { result ≡ neg_ℤ y }
+{
+    -y
+}
+
+/// Whether d is 0, or a share is of a clause that is not kept.
+fn is_void(kept: &[bool], unit: &Unit) -> bool
+    ensures { result ≡ (is_zero unit.now.d || list_any (λ (s : Share). not (is_flagged kept.now s.pos)) unit.now.shares) }
+{
+    unit.d == 0 || names_removed(kept, unit.shares.as_slice())
+}
+
+/// Whether the variable of a unit, or one of a share's clause, is out of balance.
+fn is_out_of_balance(f: &Formula, occurring: &VarSet, table: &[List<i128>], unit: &Unit) -> bool
+    requires first { 0 < unit.now.var }
+    requires last { unit.now.var ≤ f.now.vars }
+    requires unit { IsTrue (is_unit (length f.now.clauses) unit.now) }
+    requires occurring { length occurring.now ≡ f.now.vars }
+    requires table { length table.now ≡ f.now.vars }
+    ensures { result ≡ (is_unbalanced occurring.now table.now unit.now.var || is_unbalanced_share f.now occurring.now table.now unit.now.shares) }
+{
+    is_unbalanced(occurring, table, unit.var)
+        || is_unbalanced_share(f, occurring, table, unit.shares.as_slice())
+}
+
+/// Whether a share is of a clause that is not kept.
+fn names_removed(kept: &[bool], shares: &[Share]) -> bool
+    ensures { result ≡ list_any (λ (s : Share). not (is_flagged kept.now s.pos)) shares.now }
+{
+    shares.iter().any(|s| !is_flagged(kept, s.pos))
+}
+
+/// The flag of a position.
+fn is_flagged(kept: &[bool], p: u32) -> bool
+    ensures { result ≡ is_flagged kept.now p }
+{
+    match kept.get((p as usize).saturating_sub(1)) {
+        Some(flag) => *flag,
+        None => false,
+    }
+}
+
+/// Gives each variable its numbers by shares.
+fn fill(f: &Formula, shares: &[Share], numbers: &mut Vec<List<i128>>) -> Result<(), OutOfMemory>
+    requires rising { IsTrue (rises_within 0 (length f.now.clauses) (map (λ (s : Share). s.pos) shares.now)) }
+    requires weights { IsTrue (list_all (λ (s : Share). is_weight s.z) shares.now) }
+    requires none { AreNone f.now.vars numbers.old.items }
+    ensures filled { OnOk result (AreNumbers f.now (numbers_by shares.now) numbers.new.items) }
+    ensures formula { IsTrue (is_formula f.now) }
+{
+    let n = f.vars();
+    for i in 0..shares.len() {
+        let share = shares[i];
+        add_numbers(numbers, n, f.clause(share.pos), share.z)?;
+    }
+    Ok(())
+}
+
+/// Whether a variable of a share's clause is out of balance.
+fn is_unbalanced_share(
+    f: &Formula,
+    occurring: &VarSet,
+    table: &[List<i128>],
+    shares: &[Share],
+) -> bool
+    requires rising { IsTrue (rises_within 0 (length f.now.clauses) (map (λ (s : Share). s.pos) shares.now)) }
+    requires occurring { length occurring.now ≡ f.now.vars }
+    requires table { length table.now ≡ f.now.vars }
+    ensures { result ≡ is_unbalanced_share f.now occurring.now table.now shares.now }
+{
+    for i in 0..shares.len() {
+        if is_unbalanced_clause(f.vars(), occurring, table, f.clause(shares[i].pos)) {
+            return true;
+        }
+    }
+    false
+}
+
+/// Whether a variable of a clause is out of balance.
+fn is_unbalanced_clause(n: u32, occurring: &VarSet, table: &[List<i128>], clause: &[Lit]) -> bool
+    requires clause { IsTrue (list_all (is_literal n) clause.now) }
+    requires occurring { length occurring.now ≡ n }
+    requires table { length table.now ≡ n }
+    ensures { result ≡ is_unbalanced_clause occurring.now table.now clause.now }
+{
+    clause
+        .iter()
+        .any(|l| is_unbalanced_literal(n, occurring, table, *l))
+}
+
+/// Whether the variable of a literal is out of balance.
+fn is_unbalanced_literal(n: u32, occurring: &VarSet, table: &[List<i128>], l: Lit) -> bool
+    requires literal { IsTrue (is_literal n l) }
+    requires occurring { length occurring.now ≡ n }
+    requires table { length table.now ≡ n }
+    ensures { result ≡ is_unbalanced occurring.now table.now (variable l) }
+{
+    is_unbalanced(occurring, table, l.var())
+}
+
+/// Takes the numbers of the variables of shares' clauses away.
+fn clear(alloc: Global, f: &Formula, shares: &[Share], numbers: &mut Vec<List<i128>>)
+    requires rising { IsTrue (rises_within 0 (length f.now.clauses) (map (λ (s : Share). s.pos) shares.now)) }
+    requires size { length numbers.old.items ≡ f.now.vars }
+    ensures { ClearsShares f.now shares.now numbers.old.items numbers.new.items }
+{
+    for i in 0..shares.len() {
+        clear_clause(alloc, f.vars(), f.clause(shares[i].pos), numbers);
+    }
+}
+
+/// Takes the numbers of the variables of a clause away.
+fn clear_clause(alloc: Global, n: u32, clause: &[Lit], numbers: &mut Vec<List<i128>>)
+    requires clause { IsTrue (list_all (is_literal n) clause.now) }
+    requires size { length numbers.old.items ≡ n }
+    ensures { ClearsNumbers n clause.now numbers.old.items numbers.new.items }
+{
+    for l in clause {
+        numbers[l.var() as usize - 1] = List::new(alloc);
+    }
+}
