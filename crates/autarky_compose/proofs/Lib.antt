@@ -1,4 +1,5 @@
 pub mod Orders
+pub mod PartCovers
 pub mod Sources
 pub mod JoinedLaws
 pub mod Tables

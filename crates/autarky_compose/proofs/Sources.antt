@@ -1,23 +1,18 @@
 -- From which result an item of all results is.
-use Rattle.std.proofs.Common.{◌≡◌, ℕ, zero, suc, ◌<◌, ◌≤◌, true, false, not, List, [], ◌∷◌, length, get_or, map, refl, subst, arith, inl, inr, Contains}
-use Rattle.std.specs.List.{list_any, flat_map, AllByRecursion}
-use Rattle.std.proofs.lemmas.Bool.{both_ways, or_from}
+use Rattle.std.proofs.Common.{◌≡◌, ℕ, zero, suc, ◌<◌, true, not, List, [], ◌∷◌, length, get_or, subst, arith, inl, inr, Contains}
+use Rattle.std.specs.List.{list_any, flat_map}
 use Rattle.std.proofs.lemmas.List.Elements.{Contains-append_left, Contains-append_right, Contains-append_cases}
-use Rattle.lk_model.specs.Lists.{among, rises_within}
+use Rattle.lk_model.specs.Lists.{among}
 use Rattle.lk_model.specs.Formulas.Literal.{mentions}
 use Rattle.lk_model.specs.Formulas.Formula.{Cnf, clause_at, variable_occurs, variables_to}
-use Rattle.lk_model.specs.Formulas.Parts.{IsPart, AreParts, least_of}
 use Rattle.lk_model.specs.declared.document.Own.{Own}
 use Rattle.lk_model.specs.declared.document.MatchRow.{MatchRow}
 use Rattle.lk_model.specs.declared.result.MatchingResult.{MatchingResult}
-use Rattle.lk_model.proofs.Booleans.{and_true, or_true, or_false}
+use Rattle.lk_model.proofs.Booleans.{and_true, or_true}
 use Rattle.lk_model.proofs.Counting.{from_filter}
 use Rattle.lk_model.proofs.Keys.{key_among}
-use Rattle.lk_model.proofs.Rising.{rises}
 use Rattle.lk_model.proofs.Variables.{occurs}
 use Rattle.kernel_laws.specs.Matching.MatchingResults.{IsMatchingResult}
-use Rattle.kernel_laws.proofs.General.PartLaws.{differ}
-use Rattle.kernel_laws.proofs.General.PartResults.{occurs_in, AreApart}
 use Rattle.autarky_compose.specs.JoinedMatching.{AreMatchingResults, all_kept, all_own, all_rows}
 use Rattle.autarky_compose.proofs.Orders.{contains_among}
 
@@ -25,14 +20,14 @@ use Rattle.autarky_compose.proofs.Orders.{contains_among}
 abbrev pub nothing : MatchingResult
 nothing = record { kept = []; own = []; rows = [] }
 
--- the result at a place is one for the part at that place
-pub one : (F : Cnf) (parts : List (List ℕ)) (found : List MatchingResult) (k : ℕ) → AreMatchingResults F parts found → k < length found
-    → IsMatchingResult F (get_or parts k []) (get_or found k nothing)
+-- the result at a place is one for the group at that place
+pub one : (F : Cnf) (groups : List (List ℕ)) (found : List MatchingResult) (k : ℕ) → AreMatchingResults F groups found → k < length found
+    → IsMatchingResult F (get_or groups k []) (get_or found k nothing)
 one F [] [] k all lt = absurd (omega (arith, lt))
 one F [] (r ∷ found) k all lt = absurd all
-one F (ps ∷ parts) [] k all lt = absurd all
-one F (ps ∷ parts) (r ∷ found) zero all lt = all.0
-one F (ps ∷ parts) (r ∷ found) (suc k) all lt = one F parts found k all.1 (omega (arith, lt))
+one F (ps ∷ groups) [] k all lt = absurd all
+one F (ps ∷ groups) (r ∷ found) zero all lt = all.0
+one F (ps ∷ groups) (r ∷ found) (suc k) all lt = one F groups found k all.1 (omega (arith, lt))
 
 -- an item of all results is one of a result
 pub from_all : {X : Type 0} (f : MatchingResult → List X) (found : List MatchingResult) (x : X) → Contains (flat_map f found) x
@@ -50,108 +45,72 @@ into_all f [] x k lt h = absurd (omega (arith, lt))
 into_all f (r ∷ found) x zero lt h = Contains-append_left (f r) (flat_map f found) x h
 into_all f (r ∷ found) x (suc k) lt h = Contains-append_right (f r) (flat_map f found) x (into_all f found x k (omega (arith, lt)) h)
 
--- a position of some part has a result
-pub result_with : (F : Cnf) (parts : List (List ℕ)) (found : List MatchingResult) (p : ℕ) → AreMatchingResults F parts found
-    → list_any (λ part. among part p) parts ≡ true → (k : ℕ) × (k < length found) × (among (get_or parts k []) p ≡ true)
+-- a position of some group has a result
+pub result_with : (F : Cnf) (groups : List (List ℕ)) (found : List MatchingResult) (p : ℕ) → AreMatchingResults F groups found
+    → list_any (λ group. among group p) groups ≡ true → (k : ℕ) × (k < length found) × (among (get_or groups k []) p ≡ true)
 result_with F [] found p all e = absurd (let f : ⊥ = cc in f)
-result_with F (ps ∷ parts) [] p all e = absurd all
-result_with F (ps ∷ parts) (r ∷ found) p all e = elim (or_true (among ps p) (list_any (λ part. among part p) parts) e) [
+result_with F (ps ∷ groups) [] p all e = absurd all
+result_with F (ps ∷ groups) (r ∷ found) p all e = elim (or_true (among ps p) (list_any (λ group. among group p) groups) e) [
   | inl here ↦ (zero, omega arith, here)
-  | inr later ↦ (let w = result_with F parts found p all.1 later in let lt = w.1 in (suc w.0, omega (arith, lt), w.2))
+  | inr later ↦ (let w = result_with F groups found p all.1 later in let lt = w.1 in (suc w.0, omega (arith, lt), w.2))
 ]
-
--- PARTS WITH A COMMON VARIABLE
-
-none_at : (F : Cnf) (parts : List (List ℕ)) (j v : ℕ) → occurs_in F parts v ≡ false → variable_occurs F (get_or parts j []) v ≡ false
-none_at F [] j v n = refl
-none_at F (ps ∷ parts) zero v n = (or_false (variable_occurs F ps v) (occurs_in F parts v) n).0
-none_at F (ps ∷ parts) (suc j) v n = none_at F parts j v (or_false (variable_occurs F ps v) (occurs_in F parts v) n).1
-
--- a part with a least position below those of others shares no variable with them
-apart_below : (F : Cnf) (ps : List ℕ) (low high : ℕ) (parts : List (List ℕ)) → IsPart F ps → least_of ps ≤ low → rises_within low high (map least_of parts) ≡ true
-    → AllByRecursion (IsPart F) parts → (v : ℕ) → variable_occurs F ps v ≡ true → occurs_in F parts v ≡ false
-apart_below F ps low high [] h le rise all v there = refl
-apart_below F ps low high (qs ∷ parts) h le rise all v there =
-    let r = rises low high (least_of qs) (map least_of parts) rise in
-    let above = r.above in
-    or_from _ _ (differ F ps qs h all.0 (λ e. omega (arith, le, above, e)) v there)
-    (apart_below F ps (least_of qs) high parts h (omega (arith, le, above)) r.more all.1 v there)
-
--- so parts in their order share none
-parts_apart : (F : Cnf) (low high : ℕ) (parts : List (List ℕ)) → rises_within low high (map least_of parts) ≡ true → AllByRecursion (IsPart F) parts → AreApart F parts
-parts_apart F low high [] rise all = tt
-parts_apart F low high (ps ∷ parts) rise all =
-    let r = rises low high (least_of ps) (map least_of parts) rise in
-    (apart_below F ps (least_of ps) high parts all.0 (omega arith) r.more all.1, parts_apart F (least_of ps) high parts r.more all.1)
-
-pub all_apart : (F : Cnf) (parts : List (List ℕ)) → AreParts F parts → AreApart F parts
-all_apart F parts are = parts_apart F 0 (length F.clauses) parts are.order are.each
-
--- they are one
-pub one_part : (F : Cnf) (parts : List (List ℕ)) (k j v : ℕ) → AreApart F parts → variable_occurs F (get_or parts k []) v ≡ true
-    → variable_occurs F (get_or parts j []) v ≡ true → k ≡ j
-one_part F [] k j v apart a b = absurd (let f : ⊥ = cc in f)
-one_part F (ps ∷ parts) zero zero v apart a b = refl
-one_part F (ps ∷ parts) zero (suc j) v apart a b = absurd (both_ways (variable_occurs F (get_or parts j []) v) (none_at F parts j v (apart.0 v a)) b)
-one_part F (ps ∷ parts) (suc k) zero v apart a b = absurd (both_ways (variable_occurs F (get_or parts k []) v) (none_at F parts k v (apart.0 v b)) a)
-one_part F (ps ∷ parts) (suc k) (suc j) v apart a b = let e = one_part F parts k j v apart.1 a b in omega (arith, e)
 
 -- ITEMS
 
 -- a position that is kept
-pub record KeptFrom (F : Cnf) (parts : List (List ℕ)) (found : List MatchingResult) (p : ℕ) : Type 0 where
+pub record KeptFrom (F : Cnf) (groups : List (List ℕ)) (found : List MatchingResult) (p : ℕ) : Type 0 where
   pub place : ℕ
   pub inside : place < length found
-  pub result : IsMatchingResult F (get_or parts place []) (get_or found place nothing)
+  pub result : IsMatchingResult F (get_or groups place []) (get_or found place nothing)
   pub kept : among (get_or found place nothing).kept p ≡ true
-  pub in_part : among (get_or parts place []) p ≡ true
+  pub in_group : among (get_or groups place []) p ≡ true
 
-pub kept_from : (F : Cnf) (parts : List (List ℕ)) (found : List MatchingResult) (p : ℕ) → AreMatchingResults F parts found → Contains (all_kept found) p
-    → KeptFrom F parts found p
-kept_from F parts found p all c =
+pub kept_from : (F : Cnf) (groups : List (List ℕ)) (found : List MatchingResult) (p : ℕ) → AreMatchingResults F groups found → Contains (all_kept found) p
+    → KeptFrom F groups found p
+kept_from F groups found p all c =
     let w = from_all (λ (r : MatchingResult). r.kept) found p c in
-    let h = one F parts found w.0 all w.1 in
+    let h = one F groups found w.0 all w.1 in
     let k = contains_among (get_or found w.0 nothing).kept p w.2 in
-    record { place = w.0; inside = w.1; result = h; kept = k; in_part = h.within p k }
+    record { place = w.0; inside = w.1; result = h; kept = k; in_group = h.within p k }
 
 -- an own line
-pub record OwnFrom (F : Cnf) (parts : List (List ℕ)) (found : List MatchingResult) (o : Own) : Type 0 where
+pub record OwnFrom (F : Cnf) (groups : List (List ℕ)) (found : List MatchingResult) (o : Own) : Type 0 where
   pub place : ℕ
   pub inside : place < length found
-  pub result : IsMatchingResult F (get_or parts place []) (get_or found place nothing)
+  pub result : IsMatchingResult F (get_or groups place []) (get_or found place nothing)
   pub there : Contains (get_or found place nothing).own o
-  pub in_part : among (get_or parts place []) o.pos ≡ true
+  pub in_group : among (get_or groups place []) o.pos ≡ true
   pub holds : mentions (clause_at F o.pos) o.var ≡ true
-  pub on : variable_occurs F (get_or parts place []) o.var ≡ true
+  pub on : variable_occurs F (get_or groups place []) o.var ≡ true
 
-pub own_from : (F : Cnf) (parts : List (List ℕ)) (found : List MatchingResult) (o : Own) → AreMatchingResults F parts found → Contains (all_own found) o
-    → OwnFrom F parts found o
-own_from F parts found o all c =
+pub own_from : (F : Cnf) (groups : List (List ℕ)) (found : List MatchingResult) (o : Own) → AreMatchingResults F groups found → Contains (all_own found) o
+    → OwnFrom F groups found o
+own_from F groups found o all c =
     let w = from_all (λ (r : MatchingResult). r.own) found o c in
-    let h = one F parts found w.0 all w.1 in
+    let h = one F groups found w.0 all w.1 in
     let r = get_or found w.0 nothing in
-    let part = get_or parts w.0 [] in
+    let group = get_or groups w.0 [] in
     let listed = subst (λ (ps : List ℕ). among ps o.pos ≡ true) h.removed (key_among (λ (u : Own). u.pos) r.own o w.2) in
-    let inside = (from_filter (λ p. not (among r.kept p)) part o.pos listed).1 in
+    let inside = (from_filter (λ p. not (among r.kept p)) group o.pos listed).1 in
     let holds = h.owned o w.2 in
-    record { place = w.0; inside = w.1; result = h; there = w.2; in_part = inside; holds = holds; on = occurs F part o.pos o.var inside holds }
+    record { place = w.0; inside = w.1; result = h; there = w.2; in_group = inside; holds = holds; on = occurs F group o.pos o.var inside holds }
 
 -- a row
-pub record RowFrom (F : Cnf) (parts : List (List ℕ)) (found : List MatchingResult) (w : MatchRow) : Type 0 where
+pub record RowFrom (F : Cnf) (groups : List (List ℕ)) (found : List MatchingResult) (w : MatchRow) : Type 0 where
   pub place : ℕ
   pub inside : place < length found
-  pub result : IsMatchingResult F (get_or parts place []) (get_or found place nothing)
+  pub result : IsMatchingResult F (get_or groups place []) (get_or found place nothing)
   pub there : Contains (get_or found place nothing).rows w
   pub own : (among (get_or found place nothing).kept w.own ≡ true) × (mentions (clause_at F w.own) w.var ≡ true)
   pub escape : (among (get_or found place nothing).kept w.escape ≡ true) × (mentions (clause_at F w.escape) w.var ≡ true)
   pub listed : (variable_occurs F (get_or found place nothing).kept w.var ≡ true) × (among (variables_to F.vars) w.var ≡ true)
-  pub on : variable_occurs F (get_or parts place []) w.var ≡ true
+  pub on : variable_occurs F (get_or groups place []) w.var ≡ true
 
-pub row_from : (F : Cnf) (parts : List (List ℕ)) (found : List MatchingResult) (w : MatchRow) → AreMatchingResults F parts found → Contains (all_rows found) w
-    → RowFrom F parts found w
-row_from F parts found w all c =
+pub row_from : (F : Cnf) (groups : List (List ℕ)) (found : List MatchingResult) (w : MatchRow) → AreMatchingResults F groups found → Contains (all_rows found) w
+    → RowFrom F groups found w
+row_from F groups found w all c =
     let u = from_all (λ (r : MatchingResult). r.rows) found w c in
-    let h = one F parts found u.0 all u.1 in
+    let h = one F groups found u.0 all u.1 in
     let r = get_or found u.0 nothing in
     let row = h.rows w u.2 in
     let own = and_true (among r.kept w.own) (mentions (clause_at F w.own) w.var) row.own in
@@ -165,5 +124,5 @@ row_from F parts found w all c =
       own = own;
       escape = escape;
       listed = from_filter (variable_occurs F r.kept) (variables_to F.vars) w.var listed;
-      on = occurs F (get_or parts u.0 []) w.own w.var (h.within w.own own.0) own.1;
+      on = occurs F (get_or groups u.0 []) w.own w.var (h.within w.own own.0) own.1;
     }

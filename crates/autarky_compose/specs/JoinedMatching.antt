@@ -1,4 +1,4 @@
--- What the matching reducer finds in the parts of a formula, joined.
+-- What the matching reducer finds in groups of positions that share no variable, as parts do, joined.
 use Rattle.std.specs.Prelude.{◌≡◌, ◌^◌, ℕ, List, [], ◌∷◌, ⊤, length, map, Contains, IsTrue}
 use Rattle.std.specs.List.{flat_map}
 use Rattle.lk_model.specs.Lists.{rises_within}
@@ -8,20 +8,21 @@ use Rattle.lk_model.specs.declared.document.Own.{Own}
 use Rattle.lk_model.specs.declared.document.MatchRow.{MatchRow}
 use Rattle.lk_model.specs.declared.result.MatchingResult.{MatchingResult}
 use Rattle.kernel_laws.specs.Matching.MatchingResults.{IsMatchingResult}
+use Rattle.par_parts.specs.Groups.{IsDisjointCover}
 
--- one result for each of these parts
+-- one result for each of these groups
 abbrev pub AreMatchingResults : Cnf → List (List ℕ) → List MatchingResult → Type 0
 AreMatchingResults F [] [] = ⊤
-AreMatchingResults F (part ∷ parts) (r ∷ found) = IsMatchingResult F part r × AreMatchingResults F parts found
+AreMatchingResults F (group ∷ groups) (r ∷ found) = IsMatchingResult F group r × AreMatchingResults F groups found
 AreMatchingResults F _ _ = ⊥
 
--- results for the parts of a formula of m clauses
-pub record AreOfParts (m : ℕ) (found : List MatchingResult) : Type 0 where
+-- results for groups of the positions of a formula of m clauses
+pub record AreOfGroups (m : ℕ) (found : List MatchingResult) : Type 0 where
   pub formula : Cnf
-  pub parts : List (List ℕ)
+  pub groups : List (List ℕ)
   pub count : length formula.clauses ≡ m
-  pub are : AreParts formula parts
-  pub results : AreMatchingResults formula parts found
+  pub cover : IsDisjointCover formula groups
+  pub results : AreMatchingResults formula groups found
 
 -- exactly the items of a list, by their keys, which rise from above 0 to at most high
 pub record AreInOrder {X : Type 0} (key : X → ℕ) (high : ℕ) (items ordered : List X) : Type 0 where
@@ -48,7 +49,9 @@ pub record AreJoined (m : ℕ) (found : List MatchingResult) (t : MatchingResult
 
 -- THE LAW
 
--- What the matching reducer finds in the parts of a formula is, joined, what it finds in all positions.
 pub record JoinedMatchingLaw : Type 0 where
-  pub whole : (F : Cnf) (parts : List (List ℕ)) (found : List MatchingResult) (t : MatchingResult) → AreParts F parts
-      → AreMatchingResults F parts found → AreJoined (length F.clauses) found t → IsMatchingResult F (positions_of F) t
+  -- What the matching reducer finds in the groups is, joined, what it finds in all positions.
+  pub whole : (F : Cnf) (groups : List (List ℕ)) (found : List MatchingResult) (t : MatchingResult) → IsDisjointCover F groups
+      → AreMatchingResults F groups found → AreJoined (length F.clauses) found t → IsMatchingResult F (positions_of F) t
+  -- The parts of a formula are such groups.
+  pub parts : (F : Cnf) (parts : List (List ℕ)) → AreParts F parts → IsDisjointCover F parts

@@ -1,4 +1,4 @@
-//! Results for the parts of a formula, joined.
+//! Results for groups of positions that share no variable, joined.
 #![tactic(auto)]
 
 mod laws;

@@ -1,20 +1,20 @@
-//! What the matching reducer finds in the parts of a formula, joined.
+//! What the matching reducer finds in groups of positions, joined.
 ghost use Rattle.std.specs.Prelude.{◌≡◌, ◌≤◌, All, IfOk};
 ghost use Rattle.lk_model.specs.declared.document.MatchRow.{MatchRow as Row};
-ghost use Rattle.autarky_compose.specs.JoinedMatching.{AreOfParts, AreJoined, all_rows};
+ghost use Rattle.autarky_compose.specs.JoinedMatching.{AreOfGroups, AreJoined, all_rows};
 
 use crate::ordering::in_order;
 use lk_model::{List, MatchRow, MatchingResult, OutOfMemory};
 use std::alloc::Global;
 
-/// The results for the parts of a formula of m clauses, joined: what they keep, their own lines by
-/// position and their rows by variable.
+/// The results for groups of the positions of a formula of m clauses, as its parts are, joined: what they
+/// keep, their own lines by position and their rows by variable. No variable occurs in two groups.
 pub fn join_matching(
     alloc: Global,
     m: u32,
     found: List<MatchingResult>,
 ) -> Result<MatchingResult, OutOfMemory>
-    requires { AreOfParts m found }
+    requires { AreOfGroups m found }
     ensures { IfOk result (λ t. AreJoined m found t) }
 {
     let results = found.as_slice();

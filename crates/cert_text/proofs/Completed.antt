@@ -1,8 +1,8 @@
 -- From each draft in form some document goes on.
-use Rattle.std.proofs.Common.{◌≡◌, ℕ, ◌^◌, zero, suc, ◌-◌, ◌∙◌, Bool, true, false, cond, ◌==◌, List, [], ◌∷◌, ◌++◌, map, length, replicate, refl, sym, ap, subst, arith, ℤ, append_assoc, length-append, nat_le, nat_lt, sum_by}
+use Rattle.std.proofs.Common.{◌≡◌, ℕ, ◌^◌, zero, suc, ◌-◌, ◌<◌, ◌≤◌, ◌∙◌, Bool, true, false, cond, not, ◌==◌, List, [], ◌∷◌, ◌++◌, map, length, replicate, refl, sym, ap, subst, arith, ℤ, append_assoc, length-append, nat_le, nat_lt, sum_by}
 use Rattle.std.specs.Prelude.{codes}
 use Rattle.std.specs.List.{list_all, flat_map}
-use Rattle.std.proofs.lemmas.Bool.{and_from, le-leb, lt-ltb, eq-eqb}
+use Rattle.std.proofs.lemmas.Bool.{and_from, le-leb, lt-ltb, eq-eqb, not-true}
 use Rattle.std.proofs.lemmas.List.{map-append, append-nil, length-replicate, append_cancel_left}
 use Rattle.std.proofs.lemmas.List.Sums.{sum_by-append, sum_by-cons}
 use Rattle.std.proofs.lemmas.List.Folds.{list_all-append}
@@ -32,9 +32,9 @@ use Rattle.cert_text.specs.PureLines.{pure_lines}
 use Rattle.cert_text.specs.Parts.{part_word, part_lines, may_end, is_finished, body_of, rounds_of}
 use Rattle.cert_text.specs.Drafts.{size_line, keep_line, set_line, learned_line, problem_line, head_lines, middle_lines, clause_count, lines_before, lines_read, done_by, open_by, document_by}
 use Rattle.cert_text.proofs.PartSteps.{IsPart, IsPure}
-use Rattle.cert_text.specs.RoundLines.{round_of, rounds_lines}
-use Rattle.cert_text.proofs.RoundEnds.{opened_rounds, rounds_opened, rounds_open, all_lines}
-use Rattle.cert_text.proofs.DraftSteps.{Facts, IsDraft, IsDraftAt, draft_facts}
+use Rattle.cert_text.specs.RoundLines.{round_of, rounds_lines, put_step}
+use Rattle.cert_text.proofs.RoundEnds.{closing, shut_rounds, rounds_shut, opened_rounds, rounds_opened, rounds_whole, rounds_open, all_lines, few_steps}
+use Rattle.cert_text.proofs.DraftSteps.{Facts, IsDraft, IsDraftAt, draft_facts, clauses_limit}
 
 -- WHOLE PARTS
 
@@ -63,7 +63,7 @@ ended n m (Linear p) h t f =
     let dual = and_true (rises_within 0 m (map (λ (y : Dual). y.pos) p.dual)) (list_all (λ (y : Dual). is_in_range y.y) p.dual) h.dual in
     let units = and_true (rises_within 0 n (map (λ (u : Unit). u.var) p.units)) (list_all (is_unit m) p.units) h.units in
     record { finished = refl; form = rw (h.stages, dual.0, dual.1, units.0, units.1) refl; word = refl; lines = refl }
-ended n m (General p) h t f = absurd h
+ended n m (General p) h t f = record { finished = refl; form = rounds_whole n m p h.rounds (not-true p.is_open t); word = refl; lines = all_lines p }
 ended n m (Unfinished p) h t f = absurd (let g : ⊥ = cc in g)
 
 -- and what the rounds of an unfinished document say
@@ -77,7 +77,7 @@ pub open_ended : (n m : ℕ) (p : Part) → IsPart n m p → may_end p ≡ true 
 open_ended n m (Pure p) h t f = absurd (let g : ⊥ = cc in g)
 open_ended n m (Matching p) h t f = absurd (let g : ⊥ = cc in g)
 open_ended n m (Linear p) h t f = absurd (let g : ⊥ = cc in g)
-open_ended n m (General p) h t f = absurd h
+open_ended n m (General p) h t f = absurd (let g : ⊥ = cc in g)
 open_ended n m (Unfinished p) h t f = let r = rounds_open n m p h t in record { steps = r.0; last = r.1; word = refl; lines = all_lines p }
 
 -- WHOLE DRAFTS
@@ -152,13 +152,13 @@ whole_form d w = by_kind (is_finished d.part) refl
 
 -- COMPLETED PARTS
 
--- the part with the lines that must still come
-abbrev pub completed : Part → Part
-completed (Pure p) = Pure (record p { ordered = true })
-completed (Matching p) = Matching p
-completed (Linear p) = Linear p
-completed (General p) = General p
-completed (Unfinished p) = Unfinished (opened_rounds p)
+-- the part over m clauses with the lines that must still come
+abbrev pub completed : ℕ → Part → Part
+completed m (Pure p) = Pure (record p { ordered = true })
+completed m (Matching p) = Matching p
+completed m (Linear p) = Linear p
+completed m (General p) = General (shut_rounds m p)
+completed m (Unfinished p) = Unfinished (opened_rounds p)
 
 pub record IsCompleted (n m : ℕ) (p q : Part) : Type 0 where
   pub form : IsPart n m q
@@ -169,8 +169,9 @@ pub record IsCompleted (n m : ℕ) (p q : Part) : Type 0 where
   pub lines : part_lines q ≡ part_lines p ++ more
   pub same : may_end p ≡ true → more ≡ []
 
-pub is_completed : (n m : ℕ) (p : Part) → IsPart n m p → IsCompleted n m p (completed p)
-is_completed n m (Pure p) h = by_order p.ordered refl
+-- the number of a closing step has 64 bits, since each step has a line
+pub is_completed : (n m : ℕ) (p : Part) → m ≤ 4000000 → IsPart n m p → length (part_lines p) < 2 ^ 63 → IsCompleted n m p (completed m p)
+is_completed n m (Pure p) small h low = by_order p.ordered refl
   where
     form : IsPure n m (record p { ordered = true })
     form = record { order = h.order; pairs = h.pairs; fresh = λ e. absurd (let f : ⊥ = cc in f) }
@@ -196,10 +197,23 @@ is_completed n m (Pure p) h = by_order p.ordered refl
           ∙ ap (λ (qs : List Pair). map pair_line qs ++ comment (codes "order") (literal_words p.order) ∷ []) (h.fresh t));
       same = λ e. absurd (let u : false ≡ true = sym t ∙ e in let n : ⊥ = cc in n);
     }
-is_completed n m (Matching p) h = record { form = h; ends = refl; word = refl; finished = refl; more = []; lines = sym (append-nil (part_lines (Matching p))); same = λ e. refl }
-is_completed n m (Linear p) h = record { form = h; ends = refl; word = refl; finished = refl; more = []; lines = sym (append-nil (part_lines (Linear p))); same = λ e. refl }
-is_completed n m (General p) h = absurd h
-is_completed n m (Unfinished p) h =
+is_completed n m (Matching p) small h low = record { form = h; ends = refl; word = refl; finished = refl; more = []; lines = sym (append-nil (part_lines (Matching p))); same = λ e. refl }
+is_completed n m (Linear p) small h low = record { form = h; ends = refl; word = refl; finished = refl; more = []; lines = sym (append-nil (part_lines (Linear p))); same = λ e. refl }
+is_completed n m (General p) small h low =
+    let g = rounds_shut n m p h.rounds h.some (omega (arith, small, low, few_steps n m p h.rounds)) in
+    record {
+      form = record { rounds = g.0.form; some = λ t. absurd (let e : true ≡ false = sym t ∙ g.1 in let f : ⊥ = cc in f) };
+      ends = ap not g.1;
+      word = refl;
+      finished = refl;
+      more = g.0.more;
+      lines = g.0.lines;
+      same = λ t.
+          let whole : rounds_lines p ≡ rounds_lines p ++ g.0.more =
+          sym (ap (λ (b : Bool). rounds_lines (cond b (put_step p (closing m p)) p)) (not-true p.is_open t)) ∙ g.0.lines in
+          append_cancel_left (rounds_lines p) g.0.more [] (sym whole ∙ sym (append-nil (rounds_lines p)));
+    }
+is_completed n m (Unfinished p) small h low =
     let g = rounds_opened n m p h in
     record {
       form = g.form;
@@ -228,12 +242,20 @@ missing d = replicate (clause_count d - length d.texts.clauses) []
 
 -- the draft with the lines that must still come, and an empty clause for each clause line that is to come
 filled : Draft → Draft
-filled d = record d { due = Clauses; part = completed d.part; texts = record { vars = d.vars; clauses = d.texts.clauses ++ missing d } }
+filled d = record d { due = Clauses; part = completed d.clauses d.part; texts = record { vars = d.vars; clauses = d.texts.clauses ++ missing d } }
 
-filled_whole : (d : Draft) → Facts d → IsWholeDraft (filled d)
+-- the lines of the draft's part are so few that a next step has a number
+IsShort : Draft → Type 0
+IsShort d = length (part_lines d.part) < 2 ^ 63
+
+filled_part : (d : Draft) → Facts d → IsShort d → IsCompleted d.vars d.clauses d.part (completed d.clauses d.part)
+unfolding IsShort
+filled_part d h low = is_completed d.vars d.clauses d.part (clauses_limit d h) h.part low
+
+filled_whole : (d : Draft) → Facts d → IsShort d → IsWholeDraft (filled d)
 unfolding filled missing
-filled_whole d h =
-    let c = is_completed d.vars d.clauses d.part h.part in
+filled_whole d h low =
+    let c = filled_part d h low in
     let count : clause_count (filled d) ≡ clause_count d = ap (λ (b : Bool). cond b (length d.kept) d.clauses) c.finished in
     let none = missing d in
     let size = length-append d.texts.clauses none in
@@ -258,14 +280,14 @@ filled_whole d h =
     }
 
 -- the lines of the completed draft
-filled_lines : (d : Draft) (h : Facts d) → lines_before Clauses (filled d)
-    ≡ ((head_lines d ++ middle_lines d) ++ (part_lines d.part ++ (is_completed d.vars d.clauses d.part h.part).more)) ++ problem_line d.vars (clause_count d) ∷ map literal_words (d.texts.clauses ++ missing d)
+filled_lines : (d : Draft) (h : Facts d) (low : IsShort d) → lines_before Clauses (filled d)
+    ≡ ((head_lines d ++ middle_lines d) ++ (part_lines d.part ++ (filled_part d h low).more)) ++ problem_line d.vars (clause_count d) ∷ map literal_words (d.texts.clauses ++ missing d)
 unfolding filled
-filled_lines d h =
-    let c = is_completed d.vars d.clauses d.part h.part in
+filled_lines d h low =
+    let c = filled_part d h low in
     let behind = λ (k : ℕ). problem_line d.vars k ∷ map literal_words (d.texts.clauses ++ missing d) in
-    ap (λ (w : Word). ((first_lines w d.vars d.clauses d.protect ++ middle_lines (filled d)) ++ part_lines (completed d.part)) ++ behind (clause_count (filled d))) c.word
-    ∙ ap (λ (b : Bool). ((head_lines d ++ cond b (keep_line d.kept ∷ set_line d.set ∷ []) (learned_line d.learned ∷ [])) ++ part_lines (completed d.part)) ++ behind (cond b (length d.kept) d.clauses)) c.finished
+    ap (λ (w : Word). ((first_lines w d.vars d.clauses d.protect ++ middle_lines (filled d)) ++ part_lines (completed d.clauses d.part)) ++ behind (clause_count (filled d))) c.word
+    ∙ ap (λ (b : Bool). ((head_lines d ++ cond b (keep_line d.kept ∷ set_line d.set ∷ []) (learned_line d.learned ∷ [])) ++ part_lines (completed d.clauses d.part)) ++ behind (cond b (length d.kept) d.clauses)) c.finished
     ∙ ap (λ (ls : List (List Word)). ((head_lines d ++ middle_lines d) ++ ls) ++ behind (clause_count d)) c.lines
 
 -- what was read stands in front of the completed lines
@@ -314,22 +336,33 @@ front_at d none more s h same = by_due s h
 pub record GoesOnFrom (d : Draft) : Type 0 where
   pub whole : Draft
   pub is_whole : IsWholeDraft whole
-  pub protect : whole.protect ≡ d.protect
-  pub part : whole.part ≡ completed d.part
   pub more : List (List Word)
   pub lines : document_lines (document_by whole) ≡ lines_read d ++ more
 
-pub goes_on : (d : Draft) → IsDraft d → GoesOnFrom d
-unfolding filled
-goes_on d h =
+-- the lines of the body are among those that were read
+part_short : (d : Draft) (s : LineDue) → IsDraftAt s d → length (part_lines d.part) ≤ length (lines_before s d)
+part_short d Format h = omega (arith, ap (λ (x : Draft). length (part_lines x.part)) h)
+part_short d Sizes h = omega (arith, ap (λ (ls : List (List Word)). length ls) h.part.lines)
+part_short d Protect h = omega (arith, ap (λ (ls : List (List Word)). length ls) h.0.lines)
+part_short d Keep h = omega (arith, ap (λ (ls : List (List Word)). length ls) h.0.lines)
+part_short d Set h = omega (arith, ap (λ (ls : List (List Word)). length ls) h.0.lines)
+part_short d Learned h = omega (arith, ap (λ (ls : List (List Word)). length ls) h.0.lines)
+part_short d Body h = omega (arith, length-append (head_lines d ++ middle_lines d) (part_lines d.part))
+part_short d Clauses h =
+    let front = (head_lines d ++ middle_lines d) ++ part_lines d.part in
+    omega (arith, length-append (head_lines d ++ middle_lines d) (part_lines d.part), length-append front (problem_line d.vars (clause_count d) ∷ map literal_words d.texts.clauses))
+
+-- the lines that were read are fewer than those of a text can be
+pub goes_on : (d : Draft) → IsDraft d → length (lines_read d) < 2 ^ 63 → GoesOnFrom d
+unfolding filled IsShort
+goes_on d h few =
     let facts = draft_facts d h in
-    let c = is_completed d.vars d.clauses d.part facts.part in
+    let low : IsShort d = omega (arith, few, part_short d d.due h) in
+    let c = filled_part d facts low in
     let front = front_at d (missing d) c.more d.due h c.same in
     record {
       whole = filled d;
-      is_whole = filled_whole d facts;
-      protect = refl;
-      part = refl;
+      is_whole = filled_whole d facts low;
       more = front.0;
-      lines = whole_lines (filled d) (filled_whole d facts) ∙ filled_lines d facts ∙ front.1;
+      lines = whole_lines (filled d) (filled_whole d facts low) ∙ filled_lines d facts low ∙ front.1;
     }

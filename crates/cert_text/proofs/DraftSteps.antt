@@ -23,16 +23,16 @@ use Rattle.cert_text.specs.declared.part.Part.TheVariants.{Pure, Matching, Linea
 use Rattle.cert_text.specs.declared.draft.Draft.{Draft}
 use Rattle.cert_text.specs.declared.draft.LineDue.{LineDue}
 use Rattle.cert_text.specs.declared.draft.LineDue.TheVariants.{Format, Sizes, Protect, Keep, Set, Learned, Body, Clauses}
-use Rattle.cert_text.specs.declared.draft.Scope.{Scope}
-use Rattle.cert_text.specs.declared.draft.Scope.TheVariants.{All, Built}
 use Rattle.cert_text.specs.Fields.{after, one_within, two_within}
 use Rattle.cert_text.specs.FieldLists.{rising_from, literals_from, clause_from}
 use Rattle.cert_text.specs.Parts.{part_word, part_of, part_lines, part_next, may_end, is_finished}
-use Rattle.cert_text.specs.Drafts.{format_line, size_line, keep_line, set_line, learned_line, problem_line, head_lines, middle_lines, clause_count, lines_before, lines_read, fresh_draft, protect_of, allows, if_allowed, format_words, due_then, due_first, is_problem, has_room, put_clause, next_format, next_sizes, next_protect, next_keep, next_set, next_learned, next_body, next_clause, next_at, next_draft}
+use Rattle.cert_text.specs.Drafts.{format_line, size_line, keep_line, set_line, learned_line, problem_line, head_lines, middle_lines, clause_count, lines_before, lines_read, fresh_draft, protect_of, format_words, due_then, due_first, is_problem, has_room, put_clause, next_format, next_sizes, next_protect, next_keep, next_set, next_learned, next_body, next_clause, next_at, next_draft}
 use Rattle.cert_text.proofs.ListForms.{rising_form, literals_form, rising_literals, clause_form}
 use Rattle.cert_text.proofs.NumberForms.{number_form, two_form}
 use Rattle.cert_text.proofs.Words.{after_form}
 use Rattle.cert_text.proofs.Options.{map_some, ThenSome, then_some}
+use Rattle.cert_text.specs.RoundLines.{fresh_rounds}
+use Rattle.cert_text.proofs.RoundParts.{IsRounds}
 use Rattle.cert_text.proofs.PartSteps.{IsPart, part_step, same_kind}
 
 -- DRAFTS IN FORM
@@ -120,47 +120,42 @@ protect_form word protect e = by_tests (bytes_eq word (codes "1")) (bytes_eq wor
 -- the part by its word
 pub record PartForm (word : Word) (p : Part) : Type 0 where
   pub word_is : word ≡ part_word p
-  pub fresh : (scope : Scope) (protect : Option (List ℕ)) → allows scope protect p ≡ true → IsFreshPart p
+  pub fresh : IsFreshPart p
+
+fresh_form_rounds : (n m : ℕ) → IsRounds n m fresh_rounds
+fresh_form_rounds n m = record { steps = refl; count = refl; whole = refl; nonempty = refl; shut = λ e. refl }
 
 fresh_pure_part : IsFreshPart (Pure (record { ordered = false; order = []; pairs = [] }))
 fresh_pure_part = record { lines = refl; form = λ n m. record { order = refl; pairs = refl; fresh = λ e. refl } }
-
-not_allowed : (scope : Scope) (protect : Option (List ℕ)) (p : Part) → allows scope protect p ≡ false → allows scope protect p ≡ true → ⊥
-not_allowed scope protect p e f = let n : ⊥ = cc in n
 
 part_form : (word : Word) (p : Part) → part_of word ≡ Some p → PartForm word p
 part_form word p e =
     by_tests (bytes_eq word (codes "pure")) (bytes_eq word (codes "matching")) (bytes_eq word (codes "linear")) (bytes_eq word (codes "general")) (bytes_eq word (codes "unfinished")) refl refl refl refl refl e
   where
-    none_built : (scope : Scope) (protect : Option (List ℕ)) (q : Part) → ((s : Scope) (o : Option (List ℕ)) → allows s o q ≡ false) → allows scope protect q ≡ true → IsFreshPart q
-    none_built scope protect q never h = absurd (not_allowed scope protect q (never scope protect) h)
-
     by_tests : (a b c d f : Bool) → bytes_eq word (codes "pure") ≡ a → bytes_eq word (codes "matching") ≡ b → bytes_eq word (codes "linear") ≡ c → bytes_eq word (codes "general") ≡ d → bytes_eq word (codes "unfinished") ≡ f
         → cond a (Some (Pure (record { ordered = false; order = []; pairs = [] }))) (cond b (Some (Matching (record { own = []; rows = [] }))) (cond c (Some (Linear (record { stages = []; dual = []; units = [] })))
         (cond d (Some (General (record { rounds = []; is_open = false; steps = []; count = 0 }))) (cond f (Some (Unfinished (record { rounds = []; is_open = false; steps = []; count = 0 }))) None)))) ≡ Some p
         → PartForm word p
     by_tests true b c d f s t u v w g =
         let same : Pure (record { ordered = false; order = []; pairs = [] }) ≡ p = cc in
-        subst (PartForm word) same (record { word_is = word_is word (codes "pure") s; fresh = λ scope protect h. fresh_pure_part })
+        subst (PartForm word) same (record { word_is = word_is word (codes "pure") s; fresh = fresh_pure_part })
     by_tests false true c d f s t u v w g =
         let same : Matching (record { own = []; rows = [] }) ≡ p = cc in
-        subst (PartForm word) same (record { word_is = word_is word (codes "matching") t; fresh = λ scope protect h. record { lines = refl; form = λ n m. record { own = refl; rows = refl } } })
+        subst (PartForm word) same (record { word_is = word_is word (codes "matching") t; fresh = record { lines = refl; form = λ n m. record { own = refl; rows = refl } } })
     by_tests false false true d f s t u v w g =
         let same : Linear (record { stages = []; dual = []; units = [] }) ≡ p = cc in
-        subst (PartForm word) same (record { word_is = word_is word (codes "linear") u; fresh = λ scope protect h. record { lines = refl; form = λ n m. record { stages = refl; dual = refl; units = refl } } })
+        subst (PartForm word) same (record { word_is = word_is word (codes "linear") u; fresh = record { lines = refl; form = λ n m. record { stages = refl; dual = refl; units = refl } } })
     by_tests false false false true f s t u v w g =
         let same : General (record { rounds = []; is_open = false; steps = []; count = 0 }) ≡ p = cc in
-        subst (PartForm word) same (record { word_is = word_is word (codes "general") v; fresh = λ scope protect h. none_built scope protect (General (record { rounds = []; is_open = false; steps = []; count = 0 })) never h })
-      where
-        never : (s : Scope) (o : Option (List ℕ)) → allows s o (General (record { rounds = []; is_open = false; steps = []; count = 0 })) ≡ false
-        never All o = refl
-        never Built None = refl
-        never Built (Some vars) = refl
+        subst (PartForm word) same (record {
+          word_is = word_is word (codes "general") v;
+          fresh = record { lines = refl; form = λ n m. record { rounds = fresh_form_rounds n m; some = λ e. absurd (let g : ⊥ = cc in g) } };
+        })
     by_tests false false false false true s t u v w g =
         let same : Unfinished (record { rounds = []; is_open = false; steps = []; count = 0 }) ≡ p = cc in
         subst (PartForm word) same (record {
           word_is = word_is word (codes "unfinished") w;
-          fresh = λ scope protect h. record { lines = refl; form = λ n m. record { steps = refl; count = refl; whole = refl; nonempty = refl; shut = λ e. refl } };
+          fresh = record { lines = refl; form = λ n m. fresh_form_rounds n m };
         })
     by_tests false false false false false s t u v w g = absurd (let n : ⊥ = cc in n)
 
@@ -168,7 +163,7 @@ part_form word p e =
 record FormatForm (words : List Word) (h : Option (List ℕ) × Part) : Type 0 where
   line : words ≡ version h.0 ∷ part_word h.1 ∷ []
   blank : IsBlank h.0
-  fresh : (scope : Scope) (protect : Option (List ℕ)) → allows scope protect h.1 ≡ true → IsFreshPart h.1
+  fresh : IsFreshPart h.1
 
 format_form : (words : List Word) (h : Option (List ℕ) × Part) → format_words words ≡ Some h → FormatForm words h
 format_form [] h e = absurd (let f : ⊥ = cc in f)
@@ -185,26 +180,17 @@ format_form (v ∷ w ∷ []) h e = by_parts (protect_of v) (part_of w) refl refl
         let same : (a, b) ≡ h = cc in
         subst (FormatForm (v ∷ w ∷ [])) same (record { line = cc (one.0, other.word_is); blank = one.1; fresh = other.fresh })
 
-pub allowed : (scope : Scope) (h g : Option (List ℕ) × Part) → if_allowed scope h ≡ Some g → (h ≡ g) × (allows scope g.0 g.1 ≡ true)
-allowed scope h g e = by_test (allows scope h.0 h.1) refl e
-  where
-    by_test : (b : Bool) → allows scope h.0 h.1 ≡ b → cond b (Some h) None ≡ Some g → (h ≡ g) × (allows scope g.0 g.1 ≡ true)
-    by_test true t f = let same : h ≡ g = cc in (same, ap (λ (k : Option (List ℕ) × Part). allows scope k.0 k.1) (sym same) ∙ t)
-    by_test false t f = absurd (let n : ⊥ = cc in n)
-
-format_step : (scope : Scope) (d e : Draft) (words : List Word) → d ≡ fresh_draft → next_format scope d words ≡ Some e → IsStep [] e words
-format_step scope d e words is n =
+format_step : (d e : Draft) (words : List Word) → d ≡ fresh_draft → next_format d words ≡ Some e → IsStep [] e words
+format_step d e words is n =
     let f : Option (List ℕ) × Part → Draft = λ h. record d { due = Sizes; protect = h.0; part = h.1 } in
     let found = after (codes "c") (codes "leank") words in
-    let one = map_some f (option_and_then (if_allowed scope) (option_and_then format_words found)) e n in
-    let two = then_some (if_allowed scope) (option_and_then format_words found) one.item one.there in
-    let three = then_some format_words found two.item two.there in
-    let may = allowed scope two.item one.item two.gives in
-    let form = subst (FormatForm three.item) may.0 (format_form three.item two.item three.gives) in
-    let whole = (after_form (codes "c") (codes "leank") words three.item three.there).whole in
+    let one = map_some f (option_and_then format_words found) e n in
+    let two = then_some format_words found one.item one.there in
+    let form = format_form two.item one.item two.gives in
+    let whole = (after_form (codes "c") (codes "leank") words two.item two.there).whole in
     let line : words ≡ format_line one.item.0 (part_word one.item.1) = whole ∙ ap (λ (ws : List Word). codes "c" ∷ codes "leank" ∷ ws) form.line in
     subst (λ (x : Draft). IsStep [] x words) (sym one.is) (record {
-      form = record { blank = form.blank; part = form.fresh scope one.item.0 may.1; is = ap (λ (x : Draft). let y : Draft = record x { due = Sizes; protect = one.item.0; part = one.item.1 } in y) is };
+      form = record { blank = form.blank; part = form.fresh; is = ap (λ (x : Draft). let y : Draft = record x { due = Sizes; protect = one.item.0; part = one.item.1 } in y) is };
       lines = ap (λ (l : List Word). l ∷ []) (sym line);
     })
 
@@ -463,11 +449,11 @@ clause_step d e words due h n = by_room (has_room d one.item) refl one.gives
 
 -- EACH LINE
 
-pub draft_step : (scope : Scope) (d e : Draft) (words : List Word) → IsDraft d → next_draft scope d words ≡ Some e → IsStep (lines_read d) e words
-draft_step scope d e words h n = by_due d.due refl h n
+pub draft_step : (d e : Draft) (words : List Word) → IsDraft d → next_draft d words ≡ Some e → IsStep (lines_read d) e words
+draft_step d e words h n = by_due d.due refl h n
   where
-    by_due : (s : LineDue) → d.due ≡ s → IsDraftAt s d → next_at s scope d words ≡ Some e → IsStep (lines_before s d) e words
-    by_due Format t g f = format_step scope d e words g f
+    by_due : (s : LineDue) → d.due ≡ s → IsDraftAt s d → next_at s d words ≡ Some e → IsStep (lines_before s d) e words
+    by_due Format t g f = format_step d e words g f
     by_due Sizes t g f = sizes_step d e words g f
     by_due Protect t g f = protect_step d e words g f
     by_due Keep t g f = keep_step d e words g f

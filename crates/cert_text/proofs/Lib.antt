@@ -20,9 +20,9 @@ pub mod DraftSteps
 pub mod CleanLines
 pub mod Completed
 pub mod Runs
+pub mod BodyRuns
 pub mod OpenRuns
 pub mod WholeRuns
-pub mod ScopeSteps
 pub mod ReadLaws
 pub mod ReadEnds
 pub mod Words

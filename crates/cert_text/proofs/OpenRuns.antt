@@ -13,7 +13,7 @@ use Rattle.lk_model.specs.Texts.Lines.{Word}
 use Rattle.lk_model.specs.Texts.PlainText.{ended, literal_words, number_words, formula_lines}
 use Rattle.lk_model.specs.Documents.Documents.{steps_of}
 use Rattle.lk_model.specs.Documents.Text.{comment, step_line, round_lines, first_lines, document_lines}
-use Rattle.lk_model.specs.Documents.Form.{counts_from, is_step, are_steps, is_open, is_whole, end_open, is_size, is_protect_line, are_clause_lines, is_open_in_form}
+use Rattle.lk_model.specs.Documents.Form.{are_steps, is_open, is_whole, end_open, is_size, is_protect_line, are_clause_lines, is_open_in_form}
 use Rattle.lk_model.specs.declared.document.Step.{Step}
 use Rattle.lk_model.specs.declared.document.Round.{Round}
 use Rattle.lk_model.specs.declared.document.OpenDocument.{OpenDocument}
@@ -25,20 +25,16 @@ use Rattle.cert_text.specs.declared.read_rounds.RoundsPart.{RoundsPart}
 use Rattle.cert_text.specs.declared.draft.Draft.{Draft}
 use Rattle.cert_text.specs.declared.draft.LineDue.{LineDue}
 use Rattle.cert_text.specs.declared.draft.LineDue.TheVariants as due
-use Rattle.cert_text.specs.declared.draft.Scope.{Scope}
-use Rattle.cert_text.specs.declared.draft.Scope.TheVariants.{All}
-use Rattle.cert_text.specs.Fields.{after, two_within}
+use Rattle.cert_text.specs.Fields.{two_within}
 use Rattle.cert_text.specs.FieldLists.{rising_from}
-use Rattle.cert_text.specs.RoundLines.{fresh_rounds, round_of, step_within, number_after, next_step, put_step, is_round, rounds_next}
+use Rattle.cert_text.specs.RoundLines.{fresh_rounds, round_of}
 use Rattle.cert_text.specs.Parts.{part_next, may_end}
 use Rattle.cert_text.specs.Drafts.{format_line, size_line, learned_line, problem_line, clause_count, fresh_draft, is_problem, document_by, finished}
 use Rattle.cert_text.proofs.ListForms.{number_back, rising_back}
 use Rattle.cert_text.proofs.NumberForms.{two_back}
-use Rattle.cert_text.proofs.Options.{map_some, then_some}
-use Rattle.cert_text.proofs.Words.{after_form}
-use Rattle.cert_text.proofs.RoundSteps.{round_form}
 use Rattle.cert_text.proofs.RoundRuns.{rounds_run, AreNumbered, open_at, shut_at, numbered_parts, open_run, round_run, rounds_all_run}
-use Rattle.cert_text.proofs.Runs.{run, run_cons, after_ended, at_body, part_runs, at_clauses, clauses_run}
+use Rattle.cert_text.proofs.BodyRuns.{numbered_from_first, rounds_lift}
+use Rattle.cert_text.proofs.Runs.{run, run_cons, after_ended, at_body, at_clauses, clauses_run}
 
 -- THE PROBLEM LINE
 
@@ -47,50 +43,17 @@ problem_is n k few small =
     ap (λ (o : Option (ℕ × ℕ)). option_map_or (λ (h : ℕ × ℕ). h.0 == n && h.1 == k) o false) (two_back 1000000 4000000 n k (omega arith) (omega arith) few small)
     ∙ and_from (n == n) (k == k) (eq-eqb n n refl) (eq-eqb k k refl)
 
-pub problem_run : (scope : Scope) (d : Draft) (p : Part) (rest : List (List Word)) → may_end p ≡ true → d.vars ≤ 1000000 → clause_count (at_body d p) ≤ 4000000
-    → run scope (at_body d p) (problem_line d.vars (clause_count (at_body d p)) ∷ rest) ≡ run scope (record (at_body d p) { due = due.Clauses }) rest
-problem_run scope d p rest ends few small =
+pub problem_run : (d : Draft) (p : Part) (rest : List (List Word)) → may_end p ≡ true → d.vars ≤ 1000000 → clause_count (at_body d p) ≤ 4000000
+    → run (at_body d p) (problem_line d.vars (clause_count (at_body d p)) ∷ rest) ≡ run (record (at_body d p) { due = due.Clauses }) rest
+problem_run d p rest ends few small =
     let e = at_body d p in
     let next : Draft = record e { due = due.Clauses } in
     let words = problem_line d.vars (clause_count e) in
-    run_cons scope e next words rest
+    run_cons e next words rest
     (ap (λ (t : Bool). cond t (cond (may_end p) (Some next) None) (option_map (λ (q : Part). let x : Draft = record e { part = q } in x) (part_next d.vars d.clauses p words))) (problem_is d.vars (clause_count e) few small)
     ∙ ap (λ (t : Bool). cond t (Some next) None) ends)
 
 -- THE ROUNDS
-
--- a line of rounds is a comment
-next_comment : (may : Bool) (n m : ℕ) (p q : RoundsPart) (words : List Word) → rounds_next may n m p words ≡ Some q → (tail : List Word) × (words ≡ codes "c" ∷ tail)
-next_comment may n m p q words e = by_open p.is_open e
-  where
-    by_round : (b : Bool) → (may && is_round words) ≡ b → cond b (Some (record p { is_open = true })) None ≡ Some q → (tail : List Word) × (words ≡ codes "c" ∷ tail)
-    by_round false t f = absurd (let g : ⊥ = cc in g)
-    by_round true t f = (codes "round" ∷ [], round_form words (and_true may (is_round words) t).1)
-
-    by_open : (b : Bool) → cond b (next_step n m p words) (cond (may && is_round words) (Some (record p { is_open = true })) None) ≡ Some q → (tail : List Word) × (words ≡ codes "c" ∷ tail)
-    by_open true f =
-        let read = λ (ws : List Word). option_and_then (λ number. step_within n number ws) (number_after m p.count) in
-        let one = map_some (put_step p) (option_and_then read (after (codes "c") (codes "step") words)) q f in
-        let two = then_some read (after (codes "c") (codes "step") words) one.item one.there in
-        (codes "step" ∷ two.item, (after_form (codes "c") (codes "step") words two.item two.there).whole)
-    by_open false f = by_round (may && is_round words) refl f
-
--- lines of rounds are lines of the body
-rounds_lift : (scope : Scope) (d : Draft) (p q : RoundsPart) (lines rest : List (List Word)) → rounds_run true d.vars d.clauses p lines ≡ Some q
-    → run scope (at_body d (Unfinished p)) (lines ++ rest) ≡ run scope (at_body d (Unfinished q)) rest
-rounds_lift scope d p q [] rest h = let same : p ≡ q = cc in ap (λ (x : RoundsPart). run scope (at_body d (Unfinished x)) rest) same
-rounds_lift scope d p q (words ∷ lines) rest h = by_next (λ x g. rounds_lift scope d x q lines rest g) (rounds_next true d.vars d.clauses p words) refl h
-  where
-    by_next : ((x : RoundsPart) → rounds_run true d.vars d.clauses x lines ≡ Some q → run scope (at_body d (Unfinished x)) (lines ++ rest) ≡ run scope (at_body d (Unfinished q)) rest)
-        → (o : Option RoundsPart) → rounds_next true d.vars d.clauses p words ≡ o → option_and_then (λ x. rounds_run true d.vars d.clauses x lines) o ≡ Some q
-        → run scope (at_body d (Unfinished p)) (words ∷ (lines ++ rest)) ≡ run scope (at_body d (Unfinished q)) rest
-    by_next later None t f = absurd (let g : ⊥ = cc in g)
-    by_next later (Some x) t f =
-        let c = next_comment true d.vars d.clauses p x words t in
-        let there : part_next d.vars d.clauses (Unfinished p) (codes "c" ∷ c.0) ≡ Some (Unfinished x) = ap (λ (ws : List Word). option_map Unfinished (rounds_next true d.vars d.clauses p ws)) (sym c.1) ∙ ap (option_map Unfinished) t in
-        ap (λ (ws : List Word). run scope (at_body d (Unfinished p)) (ws ∷ (lines ++ rest))) c.1
-        ∙ part_runs scope d (Unfinished p) (Unfinished x) c.0 (lines ++ rest) there
-        ∙ later x f
 
 -- whole rounds, and an open one behind them
 record Split (rounds : List Round) : Type 0 where
@@ -118,9 +81,7 @@ record OpenRounds (n m : ℕ) (rounds : List Round) : Type 0 where
 open_rounds : (n m : ℕ) (rounds : List Round) → n ≤ 1000000 → are_steps n m (steps_of rounds) ≡ true → end_open rounds ≡ true → OpenRounds n m rounds
 open_rounds n m rounds small h e =
     let s = split rounds e in
-    let both = and_true (counts_from (m + 1) (map (λ (x : Step). x.number) (steps_of rounds))) (list_all (is_step n) (steps_of rounds)) h in
-    let zero_more : m + 1 + 0 ≡ m + 1 = omega arith in
-    let all : AreNumbered n m 0 (steps_of rounds) = record { counts = ap (λ (j : ℕ). counts_from j (map (λ (x : Step). x.number) (steps_of rounds))) zero_more ∙ both.0; forms = both.1 } in
+    let all = numbered_from_first n m (steps_of rounds) h in
     let steps : steps_of rounds ≡ steps_of s.front ++ s.last.steps =
     ap steps_of s.is ∙ flat_map-append (λ (r : Round). r.steps) s.front (s.last ∷ []) ∙ ap (λ (ss : List Step). steps_of s.front ++ ss) (append-nil s.last.steps) in
     let parts = numbered_parts n m 0 (steps_of s.front) s.last.steps (subst (AreNumbered n m 0) steps all) in
@@ -158,32 +119,32 @@ sizes_run n m protect s few small =
     ap (option_map (λ (h : ℕ × ℕ). record (started protect) { due = s; vars = h.0; clauses = h.1; texts = record { vars = h.0; clauses = [] } })) (two_back 1000000 4000000 n m (omega arith) (omega arith) few small)
 
 first_run : (protect : Option (List ℕ)) (n m : ℕ) (rest : List (List Word)) → n ≤ 1000000 → m ≤ 4000000 → is_protect_line n protect ≡ true
-    → run All fresh_draft (first_lines (codes "unfinished") n m protect ++ rest) ≡ run All (front due.Learned n m protect 0) rest
+    → run fresh_draft (first_lines (codes "unfinished") n m protect ++ rest) ≡ run (front due.Learned n m protect 0) rest
 unfolding started blank front
 first_run None n m rest few small h =
-    run_cons All fresh_draft (started None) (format_line None (codes "unfinished")) (size_line n m ∷ rest) refl
-    ∙ run_cons All (started None) (front due.Learned n m None 0) (size_line n m) rest (sizes_run n m None due.Learned few small)
+    run_cons fresh_draft (started None) (format_line None (codes "unfinished")) (size_line n m ∷ rest) refl
+    ∙ run_cons (started None) (front due.Learned n m None 0) (size_line n m) rest (sizes_run n m None due.Learned few small)
 first_run (Some vars) n m rest few small h =
     let protected = λ (x : List ℕ). record (front due.Protect n m (Some []) 0) { due = due.Learned; protect = Some x } in
     let line = comment (codes "protect") (ended (number_words vars)) in
-    run_cons All fresh_draft (started (Some [])) (format_line (Some vars) (codes "unfinished")) (size_line n m ∷ line ∷ rest) refl
-    ∙ run_cons All (started (Some [])) (front due.Protect n m (Some []) 0) (size_line n m) (line ∷ rest) (sizes_run n m (Some []) due.Protect few small)
-    ∙ run_cons All (front due.Protect n m (Some []) 0) (front due.Learned n m (Some vars) 0) line rest
+    run_cons fresh_draft (started (Some [])) (format_line (Some vars) (codes "unfinished")) (size_line n m ∷ line ∷ rest) refl
+    ∙ run_cons (started (Some [])) (front due.Protect n m (Some []) 0) (size_line n m) (line ∷ rest) (sizes_run n m (Some []) due.Protect few small)
+    ∙ run_cons (front due.Protect n m (Some []) 0) (front due.Learned n m (Some vars) 0) line rest
     (ap (λ (o : Option (List Word)). option_map protected (option_and_then (rising_from 0 n) o)) (after_ended (codes "protect") (number_words vars) refl)
     ∙ ap (option_map protected) (rising_back 0 n vars (omega (arith, few)) h))
 
 learned_run : (protect : Option (List ℕ)) (n m learned : ℕ) (rest : List (List Word)) → learned < 2 ^ 63
-    → run All (front due.Learned n m protect 0) (learned_line learned ∷ rest) ≡ run All (front due.Body n m protect learned) rest
+    → run (front due.Learned n m protect 0) (learned_line learned ∷ rest) ≡ run (front due.Body n m protect learned) rest
 unfolding front
 learned_run protect n m learned rest low =
-    run_cons All (front due.Learned n m protect 0) (front due.Body n m protect learned) (learned_line learned) rest
+    run_cons (front due.Learned n m protect 0) (front due.Body n m protect learned) (learned_line learned) rest
     (ap (option_map (λ (x : ℕ). record (front due.Learned n m protect 0) { due = due.Body; learned = x })) (number_back 0 (2 ^ 63 - 1) learned (omega (arith, low)) (omega arith) (omega (arith, low))))
 
 -- THE WHOLE
 
 pub record OpenRunsTo (d : OpenDocument) : Type 0 where
   pub draft : Draft
-  pub runs : run All fresh_draft (document_lines (document.Unfinished d)) ≡ Some draft
+  pub runs : run fresh_draft (document_lines (document.Unfinished d)) ≡ Some draft
   pub is : finished draft ≡ Some (document.Unfinished d)
 
 pub open_runs : (d : OpenDocument) → is_open_in_form d ≡ true → OpenRunsTo d
@@ -215,13 +176,13 @@ open_runs d f =
     ap (λ (b : Bool). rounds.part.rounds ++ cond b (round_of rounds.part.steps ∷ []) []) rounds.is_open ∙ rounds.is in
     record {
       draft = end;
-      runs = ap (run All fresh_draft) (append_assoc first (learned_line d.learned ∷ flat_map round_lines d.rounds) (formula_lines d.texts))
+      runs = ap (run fresh_draft) (append_assoc first (learned_line d.learned ∷ flat_map round_lines d.rounds) (formula_lines d.texts))
           ∙ first_run d.protect d.vars d.clauses _ few small protects.1
           ∙ learned_run d.protect d.vars d.clauses d.learned (flat_map round_lines d.rounds ++ formula_lines d.texts) (ltb-true d.learned (2 ^ 63) learns.1)
-          ∙ rounds_lift All at fresh_rounds rounds.part (flat_map round_lines d.rounds) (formula_lines d.texts) rounds.runs
-          ∙ ap (run All there) problem
-          ∙ problem_run All at (Unfinished rounds.part) clauses rounds.is_open few small
-          ∙ clauses_run All there [] d.texts.clauses few (subst (λ (n : ℕ). list_all (is_clause n) d.texts.clauses ≡ true) vars formulas.1)
+          ∙ rounds_lift Unfinished true at fresh_rounds rounds.part (flat_map round_lines d.rounds) (formula_lines d.texts) (λ p words. refl) rounds.runs
+          ∙ ap (run there) problem
+          ∙ problem_run at (Unfinished rounds.part) clauses rounds.is_open few small
+          ∙ clauses_run there [] d.texts.clauses few (subst (λ (n : ℕ). list_all (is_clause n) d.texts.clauses ≡ true) vars formulas.1)
           (omega (arith, count)) (leb-true (literal_count d.texts) max_literals last.1);
       is = ap (λ (t : Bool). cond t (Some (document_by end)) None) (eq-eqb (length d.texts.clauses) d.clauses count)
           ∙ ap (λ (x : OpenDocument). Some (document.Unfinished x)) (λ i. record d { rounds = all i; texts = texts i });

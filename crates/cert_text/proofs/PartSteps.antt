@@ -32,7 +32,7 @@ use Rattle.cert_text.specs.RoundLines.{rounds_next}
 use Rattle.cert_text.specs.Parts.{part_word, part_lines, part_next, is_finished}
 use Rattle.cert_text.proofs.ListForms.{literals_form, any_literals}
 use Rattle.cert_text.proofs.Options.{map_some, then_some}
-use Rattle.cert_text.proofs.RoundParts.{IsRounds, rounds_step}
+use Rattle.cert_text.proofs.RoundParts.{IsRounds, IsDoneRounds, rounds_step, rounds_over_some}
 use Rattle.cert_text.proofs.Words.{after_form}
 use Rattle.cert_text.proofs.LinearSteps.{weight_words, weights_two, are_weights, share_words}
 use Rattle.cert_text.proofs.TwosSteps.{twos_form}
@@ -76,7 +76,7 @@ abbrev pub IsPart : ℕ → ℕ → Part → Type 0
 IsPart n m (Pure p) = IsPure n m p
 IsPart n m (Matching p) = IsMatching n m p
 IsPart n m (Linear p) = IsLinear n m p
-IsPart n m (General p) = ⊥
+IsPart n m (General p) = IsDoneRounds n m p
 IsPart n m (Unfinished p) = IsRounds n m p
 
 -- the next part is in form, and has one line more
@@ -263,7 +263,10 @@ part_step n m (Matching p) q words few small h e =
 part_step n m (Linear p) q words few small h e =
     let one = map_some Linear (linear_next n m p words) q e in
     subst (λ (r : Part). IsPartStep n m (Linear p) r words) (sym one.is) (linear_step n m p one.item words few small h one.there)
-part_step n m (General p) q words few small h e = absurd h
+part_step n m (General p) q words few small h e =
+    let one = map_some General (rounds_next (nat_lt 0 m) n m p words) q e in
+    let step = rounds_step (nat_lt 0 m) n m p one.item words few h.rounds one.there in
+    subst (λ (r : Part). IsPartStep n m (General p) r words) (sym one.is) (record { form = record { rounds = step.form; some = λ t. rounds_over_some n m p one.item words h one.there }; lines = step.lines })
 part_step n m (Unfinished p) q words few small h e =
     let one = map_some Unfinished (rounds_next true n m p words) q e in
     let step = rounds_step true n m p one.item words few h one.there in

@@ -1,28 +1,20 @@
 -- Places of a text, and its end.
-use Rattle.std.proofs.Common.{◌≡◌, ℕ, ◌≤◌, ◌<◌, ◌+◌, Bool, true, false, List, sym, subst, arith, inl, inr, length, Some, None}
+use Rattle.std.proofs.Common.{◌≡◌, ℕ, ◌≤◌, ◌<◌, ◌+◌, ◌^◌, Bool, true, false, List, sym, subst, arith, inl, inr, length, Some, None}
 use Rattle.std.proofs.Math.Nat.{eq-or-lt_of_le}
 use Rattle.lk_model.specs.Held.Growing.{Growing}
 use Rattle.lk_model.specs.declared.document.Document.{Document}
-use Rattle.std.specs.Prelude.{IfErr}
-use Rattle.std.specs.declared.result.Result.{Result}
-use Rattle.std.specs.declared.result.Result.TheVariants.{Ok, Err}
-use Rattle.lk_model.specs.declared.verdict.ReadStop.{ReadStop}
-use Rattle.lk_model.specs.declared.verdict.ReadStop.TheVariants.{Line, OutOfMemory}
 use Rattle.lk_text.specs.Cutting.{IsNextLine}
 use Rattle.lk_text.specs.declared.cuts.Cut.{Cut}
 use Rattle.cert_text.specs.Drafts.{finished}
-use Rattle.cert_text.specs.Readings.{IsStop}
-use Rattle.cert_text.specs.Scopes.{IsReadIn, StopsIn, IsStopIn}
-use Rattle.cert_text.specs.declared.draft.Scope.TheVariants.{Built}
+use Rattle.lk_model.specs.Documents.Reading.{IsTextOf, StopsAt}
 use Rattle.cert_text.specs.Taking.{IsReady, IsReadyAgain, IsSmall}
 use Rattle.cert_text.specs.declared.draft.Draft.{Draft}
-use Rattle.cert_text.specs.declared.draft.Scope.{Scope}
 use Rattle.cert_text.proofs.DraftSteps.{draft_facts, vars_limit, clauses_limit, kept_limit}
-use Rattle.cert_text.proofs.ReadLaws.{IsAt, reads_whole, stops_early, stops_built}
+use Rattle.cert_text.proofs.ReadLaws.{IsAt, reads_whole, stops_early}
 
 -- the numbers of a draft in form are within the limits
-pub small_at : (scope : Scope) (bytes : List ℕ) (at number : ℕ) (d : Draft) → IsAt scope bytes at number d → IsSmall d
-small_at scope bytes at number d h =
+pub small_at : (bytes : List ℕ) (at number : ℕ) (d : Draft) → IsAt bytes at number d → IsSmall d
+small_at bytes at number d h =
     let f = draft_facts d h.form in
     record { vars = vars_limit d f; clauses = clauses_limit d f; kept = kept_limit d f; texts = f.texts_vars }
 
@@ -39,14 +31,8 @@ pub line_next : (bytes : List ℕ) (from : ℕ) (cut : Cut) → IsNextLine bytes
 line_next bytes from cut h lt = elim h.ends [ inl x ↦ x.2 | inr x ↦ absurd (omega (arith, x.0, lt)) ]
 
 -- at the end of the text
-pub ends_document : (scope : Scope) (bytes : List ℕ) (from number : ℕ) (d : Draft) (document : Document) → IsAt scope bytes from number d → from ≡ length bytes → Some document ≡ finished d → IsReadIn scope bytes document
-ends_document scope bytes from number d document h e is = reads_whole scope bytes number d document (subst (λ (n : ℕ). IsAt scope bytes n number d) e h) (sym is)
+pub ends_document : (bytes : List ℕ) (from number : ℕ) (d : Draft) (document : Document) → IsAt bytes from number d → from ≡ length bytes → Some document ≡ finished d → IsTextOf bytes document
+ends_document bytes from number d document h e is = reads_whole bytes number d document (subst (λ (n : ℕ). IsAt bytes n number d) e h) (sym is)
 
-pub ends_early : (scope : Scope) (bytes : List ℕ) (from number : ℕ) (d : Draft) → IsAt scope bytes from number d → from ≡ length bytes → None ≡ finished d → StopsIn scope bytes (number + 1)
-ends_early scope bytes from number d h e n = stops_early scope bytes number d (subst (λ (k : ℕ). IsAt scope bytes k number d) e h) (sym n)
-
--- the stop of a document that is built so far
-pub built_stop : (bytes : List ℕ) (r : Result Document ReadStop) → IfErr r (IsStopIn Built bytes) → IfErr r (IsStop bytes)
-built_stop bytes (Ok d) h = h
-built_stop bytes (Err (Line line)) h = stops_built bytes line h
-built_stop bytes (Err OutOfMemory) h = h
+pub ends_early : (bytes : List ℕ) (from number : ℕ) (d : Draft) → IsAt bytes from number d → number < 2 ^ 63 → from ≡ length bytes → None ≡ finished d → StopsAt bytes (number + 1)
+ends_early bytes from number d h few e n = stops_early bytes number d (subst (λ (k : ℕ). IsAt bytes k number d) e h) few (sym n)

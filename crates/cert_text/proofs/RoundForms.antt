@@ -24,7 +24,7 @@ use Rattle.cert_text.proofs.NumberTexts.{spelled}
 use Rattle.cert_text.proofs.ListForms.{read_literal, literal_read, number_back}
 use Rattle.cert_text.proofs.NumberForms.{number_form}
 use Rattle.cert_text.proofs.LastOnes.{are_listed, listed_more, rises_last, rises_front, last_above, tested_more, tested_last, tested_front}
-use Rattle.cert_text.proofs.PartForms.{between, is_between_of}
+use Rattle.cert_text.proofs.PartForms.{IsBetween, between, is_between_of}
 use Rattle.cert_text.proofs.TwosSteps.{AreTwos, twos_form, twos_back}
 
 -- TURNS
@@ -214,15 +214,27 @@ step_form n number (k ∷ words) s small low e = by_parts (number_within number 
         let same : x ≡ number = omega (arith, form.least, form.most) in
         by_chain h h.1 refl u (form.spelled ∙ ap decimal same) f
 
-pub step_back : (n : ℕ) (s : Step) → n ≤ 1000000 → is_step n s ≡ true → step_within n s.number (step_words s) ≡ Some s
-step_back n s small h =
+-- what a step in form says, one by one
+pub record StepParts (n : ℕ) (s : Step) : Type 0 where
+  pub low : s.number < 2 ^ 64
+  pub rises : rises_within 1 (2 * n + 1) (map rank_of s.clause) ≡ true
+  pub first : IsBetween 1 (s.number - 1) s.first
+  pub turns : list_all (is_turn n s.number) s.turns ≡ true
+
+pub step_parts : (n : ℕ) (s : Step) → is_step n s ≡ true → StepParts n s
+step_parts n s h =
     let one = and_true ((nat_lt s.number (2 ^ 64) && rises_within 1 (2 * n + 1) (map rank_of s.clause)) && is_between 1 (s.number - 1) s.first) (list_all (is_turn n s.number) s.turns) h in
     let two = and_true (nat_lt s.number (2 ^ 64) && rises_within 1 (2 * n + 1) (map rank_of s.clause)) (is_between 1 (s.number - 1) s.first) one.0 in
     let three = and_true (nat_lt s.number (2 ^ 64)) (rises_within 1 (2 * n + 1) (map rank_of s.clause)) two.0 in
-    let low = ltb-true s.number (2 ^ 64) three.0 in
-    let first = is_between_of 1 (s.number - 1) s.first two.1 in
+    record { low = ltb-true s.number (2 ^ 64) three.0; rises = three.1; first = is_between_of 1 (s.number - 1) s.first two.1; turns = one.1 }
+
+pub step_back : (n : ℕ) (s : Step) → n ≤ 1000000 → is_step n s ≡ true → step_within n s.number (step_words s) ≡ Some s
+step_back n s small h =
+    let parts = step_parts n s h in
+    let low = parts.low in
+    let first = parts.first in
     ap (λ (a : Option ℕ). step_by n s.number a (ranked_then n [] (literal_words s.clause ++ chain_words s))) (number_back s.number s.number s.number (omega (arith, low)) (omega arith) (omega arith))
     ∙ ap (λ (ws : List Word). step_by n s.number (Some s.number) (ranked_then n [] ws)) (append_assoc (map signed_decimal s.clause) (codes "0" ∷ []) (chain_words s))
-    ∙ ap (step_by n s.number (Some s.number)) (ranked_back n [] s.clause (decimal s.first) (ended (flat_map turn_words s.turns)) small three.1)
+    ∙ ap (step_by n s.number (Some s.number)) (ranked_back n [] s.clause (decimal s.first) (ended (flat_map turn_words s.turns)) small parts.rises)
     ∙ ap (λ (a : Option ℕ). chain_by s.number s.clause a (twos (turn_within n s.number) [] (ended (flat_map turn_words s.turns)))) (number_back 1 (s.number - 1) s.first (omega (arith, low, first.most)) first.least first.most)
-    ∙ ap (chain_by s.number s.clause (Some s.first)) (twos_back (turn_within n s.number) turn_words (list_all (is_turn n s.number)) (turns_two n s.number small low) [] s.turns one.1)
+    ∙ ap (chain_by s.number s.clause (Some s.first)) (twos_back (turn_within n s.number) turn_words (list_all (is_turn n s.number)) (turns_two n s.number small low) [] s.turns parts.turns)

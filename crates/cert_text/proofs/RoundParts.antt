@@ -73,6 +73,11 @@ pub record IsRoundsStep (n m : ℕ) (p q : RoundsPart) (words : List Word) : Typ
   pub form : IsRounds n m q
   pub lines : rounds_lines q ≡ rounds_lines p ++ words ∷ []
 
+-- the rounds of a finished document, of which none is open over no clauses
+pub record IsDoneRounds (n m : ℕ) (p : RoundsPart) : Type 0 where
+  pub rounds : IsRounds n m p
+  pub some : p.is_open ≡ true → 0 < m
+
 open_step : (n m : ℕ) (p q : RoundsPart) (words : List Word) → IsRounds n m p → p.is_open ≡ false → is_round words ≡ true → q ≡ record p { is_open = true } → IsRoundsStep n m p q words
 open_step n m p q words h none r e =
     let steps = h.shut none in
@@ -170,3 +175,15 @@ rounds_step may n m p q words small h e = by_open p.is_open refl e
     by_open : (b : Bool) → p.is_open ≡ b → cond b (next_step n m p words) (cond (may && is_round words) (Some (record p { is_open = true })) None) ≡ Some q → IsRoundsStep n m p q words
     by_open true t f = next_step_form n m p q words small h t f
     by_open false t f = by_round (may && is_round words) refl t f
+
+-- a finished document over no clauses has no line of rounds
+pub rounds_over_some : (n m : ℕ) (p q : RoundsPart) (words : List Word) → IsDoneRounds n m p → rounds_next (nat_lt 0 m) n m p words ≡ Some q → 0 < m
+rounds_over_some n m p q words h e = by_open p.is_open refl e
+  where
+    by_round : (b : Bool) → (nat_lt 0 m && is_round words) ≡ b → cond b (Some (record p { is_open = true })) None ≡ Some q → 0 < m
+    by_round false t f = absurd (let g : ⊥ = cc in g)
+    by_round true t f = ltb-true 0 m (and_true (nat_lt 0 m) (is_round words) t).0
+
+    by_open : (b : Bool) → p.is_open ≡ b → cond b (next_step n m p words) (cond (nat_lt 0 m && is_round words) (Some (record p { is_open = true })) None) ≡ Some q → 0 < m
+    by_open true t f = h.some t
+    by_open false t f = by_round (nat_lt 0 m && is_round words) refl f

@@ -1,21 +1,20 @@
 -- The lines of rounds, read one after another.
-use Rattle.std.proofs.Common.{◌≡◌, ℕ, ◌+◌, ◌-◌, ◌*◌, ◌^◌, ◌<◌, ◌≤◌, ◌∙◌, Bool, true, false, cond, not, ◌&&◌, ◌==◌, List, [], ◌∷◌, ◌++◌, length, map, refl, sym, ap, subst, arith, Option, Some, None, append_assoc, length-append, nat_lt}
+use Rattle.std.proofs.Common.{◌≡◌, ℕ, ◌+◌, ◌^◌, ◌≤◌, ◌∙◌, Bool, true, false, cond, not, ◌&&◌, ◌==◌, List, [], ◌∷◌, ◌++◌, length, map, refl, sym, ap, subst, arith, Option, Some, None, append_assoc, length-append}
 use Rattle.std.specs.Prelude.{option_map, option_and_then, codes}
 use Rattle.std.specs.List.{list_all, flat_map}
-use Rattle.std.proofs.lemmas.Bool.{lt-ltb, ltb-true, eqb-true}
+use Rattle.std.proofs.lemmas.Bool.{lt-ltb, eqb-true}
 use Rattle.std.proofs.lemmas.List.{append-nil}
-use Rattle.lk_model.specs.Lists.{is_empty, rises_within, is_between}
-use Rattle.lk_model.specs.Formulas.Literal.{rank_of}
+use Rattle.lk_model.specs.Lists.{is_empty}
 use Rattle.lk_model.specs.Texts.Lines.{Word}
 use Rattle.lk_model.specs.Documents.Text.{comment, step_line, round_lines}
 use Rattle.lk_model.specs.Documents.Documents.{steps_of}
-use Rattle.lk_model.specs.Documents.Form.{counts_from, is_turn, is_step, ends_at_empty, is_whole}
+use Rattle.lk_model.specs.Documents.Form.{counts_from, is_step, ends_at_empty, is_whole}
 use Rattle.lk_model.specs.declared.document.Step.{Step}
 use Rattle.lk_model.specs.declared.document.Round.{Round}
 use Rattle.lk_model.proofs.Booleans.{and_true}
 use Rattle.cert_text.specs.declared.read_rounds.RoundsPart.{RoundsPart}
 use Rattle.cert_text.specs.RoundLines.{round_of, step_within, number_after, closed, with_step, put_step, next_step, rounds_next}
-use Rattle.cert_text.proofs.RoundForms.{step_words, step_back}
+use Rattle.cert_text.proofs.RoundForms.{step_words, step_parts, step_back}
 
 -- what the lines lead to
 abbrev pub rounds_run : Bool → ℕ → ℕ → RoundsPart → List (List Word) → Option RoundsPart
@@ -48,18 +47,11 @@ numbered n m k s steps h =
       more = record { counts = ap (λ (j : ℕ). counts_from j (map (λ (x : Step). x.number) steps)) (sym next) ∙ counts.1; forms = forms.1 };
     }
 
--- the number of a step in form
-low_number : (n : ℕ) (s : Step) → is_step n s ≡ true → s.number < 2 ^ 64
-low_number n s h =
-    let one = and_true ((nat_lt s.number (2 ^ 64) && rises_within 1 (2 * n + 1) (map rank_of s.clause)) && is_between 1 (s.number - 1) s.first) (list_all (is_turn n s.number) s.turns) h in
-    let two = and_true (nat_lt s.number (2 ^ 64) && rises_within 1 (2 * n + 1) (map rank_of s.clause)) (is_between 1 (s.number - 1) s.first) one.0 in
-    ltb-true s.number (2 ^ 64) (and_true (nat_lt s.number (2 ^ 64)) (rises_within 1 (2 * n + 1) (map rank_of s.clause)) two.0).0
-
 -- one step of an open round
 step_run : (may : Bool) (n m : ℕ) (p : RoundsPart) (s : Step) (lines : List (List Word)) → n ≤ 1000000 → p.is_open ≡ true → s.number ≡ p.count + (m + 1) → is_step n s ≡ true
     → rounds_run may n m p (step_line s ∷ lines) ≡ rounds_run may n m (put_step p s) lines
 step_run may n m p s lines small some number form =
-    let low = low_number n s form in
+    let low = (step_parts n s form).low in
     let after_is : number_after m p.count ≡ Some s.number =
     ap (λ (b : Bool). cond b (Some (p.count + (m + 1))) None) (lt-ltb (p.count + (m + 1)) (2 ^ 64) (omega (arith, low, number))) ∙ ap (λ (k : ℕ). Some k) (sym number) in
     run_cons may n m p (put_step p s) (step_line s) lines

@@ -8,13 +8,14 @@ use Rattle.std.specs.Str.{bytes_eq}
 use Rattle.std.proofs.lemmas.Bool.{and_from, le-leb, lt-ltb}
 use Rattle.std.proofs.lemmas.List.{append-nil}
 use Rattle.std.proofs.lemmas.List.Sums.{sum_by-append, sum_by-cons}
-use Rattle.lk_model.specs.Lists.{is_between, rises_within}
+use Rattle.lk_model.specs.Lists.{is_between}
 use Rattle.lk_model.specs.Limits.{is_in_range, max_vars, max_clauses, max_literals}
 use Rattle.lk_model.specs.Formulas.Literal.{is_literal, is_clause}
 use Rattle.lk_model.specs.Texts.Lines.{Word}
 use Rattle.lk_model.specs.Texts.PlainText.{ended, literal_words, number_words}
+use Rattle.lk_model.specs.Documents.Documents.{steps_of}
 use Rattle.lk_model.specs.Documents.Text.{comment, pair_line, own_line, row_line, stage_line, dual_line, unit_line, class_lines}
-use Rattle.lk_model.specs.Documents.Form.{is_pair, is_match_row, is_stage, is_unit, is_body}
+use Rattle.lk_model.specs.Documents.Form.{is_pair, is_match_row, is_stage, is_unit}
 use Rattle.lk_model.specs.declared.document.Pair.{Pair}
 use Rattle.lk_model.specs.declared.document.Own.{Own}
 use Rattle.lk_model.specs.declared.document.MatchRow.{MatchRow}
@@ -30,8 +31,6 @@ use Rattle.cert_text.specs.declared.part.Part.TheVariants.{Pure, Matching, Linea
 use Rattle.cert_text.specs.declared.draft.Draft.{Draft}
 use Rattle.cert_text.specs.declared.draft.LineDue.TheVariants as due
 use Rattle.cert_text.specs.declared.draft.LineDue.TheVariants.{Clauses}
-use Rattle.cert_text.specs.declared.draft.Scope.{Scope}
-use Rattle.cert_text.specs.Scopes.{IsReadBody}
 use Rattle.cert_text.specs.Fields.{after, two_within, pair_within, own_within, row_within, dual_within}
 use Rattle.cert_text.specs.FieldLists.{literals_from}
 use Rattle.cert_text.specs.PureLines.{fresh_pure}
@@ -50,28 +49,28 @@ use Rattle.cert_text.proofs.PartForms.{pair_items, own_items, row_items, dual_it
 -- RUNS
 
 -- what the lines lead to
-abbrev pub run : Scope → Draft → List (List Word) → Option Draft
-run scope d [] = Some d
-run scope d (words ∷ lines) = option_and_then (λ e. run scope e lines) (next_draft scope d words)
+abbrev pub run : Draft → List (List Word) → Option Draft
+run d [] = Some d
+run d (words ∷ lines) = option_and_then (λ e. run e lines) (next_draft d words)
 
-pub run_cons : (scope : Scope) (d e : Draft) (words : List Word) (lines : List (List Word)) → next_draft scope d words ≡ Some e → run scope d (words ∷ lines) ≡ run scope e lines
-run_cons scope d e words lines h = ap (option_and_then (λ x. run scope x lines)) h
+pub run_cons : (d e : Draft) (words : List Word) (lines : List (List Word)) → next_draft d words ≡ Some e → run d (words ∷ lines) ≡ run e lines
+run_cons d e words lines h = ap (option_and_then (λ x. run x lines)) h
 
-pub run_append : (scope : Scope) (d e : Draft) (ls ms : List (List Word)) → run scope d ls ≡ Some e → run scope d (ls ++ ms) ≡ run scope e ms
-run_append scope d e [] ms h = let same : d ≡ e = cc in ap (λ (x : Draft). run scope x ms) same
-run_append scope d e (words ∷ ls) ms h = by_next (λ x g. run_append scope x e ls ms g) (next_draft scope d words) h
+pub run_append : (d e : Draft) (ls ms : List (List Word)) → run d ls ≡ Some e → run d (ls ++ ms) ≡ run e ms
+run_append d e [] ms h = let same : d ≡ e = cc in ap (λ (x : Draft). run x ms) same
+run_append d e (words ∷ ls) ms h = by_next (λ x g. run_append x e ls ms g) (next_draft d words) h
   where
-    by_next : ((x : Draft) → run scope x ls ≡ Some e → run scope x (ls ++ ms) ≡ run scope e ms) → (o : Option Draft)
-        → option_and_then (λ x. run scope x ls) o ≡ Some e → option_and_then (λ x. run scope x (ls ++ ms)) o ≡ run scope e ms
+    by_next : ((x : Draft) → run x ls ≡ Some e → run x (ls ++ ms) ≡ run e ms) → (o : Option Draft)
+        → option_and_then (λ x. run x ls) o ≡ Some e → option_and_then (λ x. run x (ls ++ ms)) o ≡ run e ms
     by_next later None g = absurd (let f : ⊥ = cc in f)
     by_next later (Some x) g = later x g
 
 -- lines that a run takes lead on to the next one
-pub run_last : (scope : Scope) (d e x : Draft) (ls : List (List Word)) (words : List Word) (ms : List (List Word)) → run scope d ls ≡ Some e → run scope d (ls ++ words ∷ ms) ≡ Some x
-    → (y : Draft) × (next_draft scope e words ≡ Some y)
-run_last scope d e x ls words ms h g = by_next (next_draft scope e words) refl (sym (run_append scope d e ls (words ∷ ms) h) ∙ g)
+pub run_last : (d e x : Draft) (ls : List (List Word)) (words : List Word) (ms : List (List Word)) → run d ls ≡ Some e → run d (ls ++ words ∷ ms) ≡ Some x
+    → (y : Draft) × (next_draft e words ≡ Some y)
+run_last d e x ls words ms h g = by_next (next_draft e words) refl (sym (run_append d e ls (words ∷ ms) h) ∙ g)
   where
-    by_next : (o : Option Draft) → next_draft scope e words ≡ o → option_and_then (λ z. run scope z ms) o ≡ Some x → (y : Draft) × (next_draft scope e words ≡ Some y)
+    by_next : (o : Option Draft) → next_draft e words ≡ o → option_and_then (λ z. run z ms) o ≡ Some x → (y : Draft) × (next_draft e words ≡ Some y)
     by_next None t f = absurd (let n : ⊥ = cc in n)
     by_next (Some y) t f = (y, t)
 
@@ -93,7 +92,7 @@ abbrev pub part_from : Body → Part
 part_from (body.Pure order pairs) = Pure (record { ordered = true; order = order; pairs = pairs })
 part_from (body.Matching own rows) = Matching (record { own = own; rows = rows })
 part_from (body.Linear stages dual units) = Linear (record { stages = stages; dual = dual; units = units })
-part_from (body.General rounds) = General (record { rounds = rounds; is_open = false; steps = []; count = 0 })
+part_from (body.General rounds) = General (record { rounds = rounds; is_open = false; steps = []; count = length (steps_of rounds) })
 
 -- a draft at its body
 abbrev pub at_body : Draft → Part → Draft
@@ -103,101 +102,82 @@ not_problem : (n count : ℕ) (words : List Word) → is_problem n count (codes 
 not_problem n count words =
     ap (λ (o : Option (List Word)). option_map_or (λ (h : ℕ × ℕ). h.0 == n && h.1 == count) (option_and_then (two_within max_vars max_clauses) o) false) (after_first (codes "c") (codes "p") (codes "cnf") words refl)
 
-pub part_runs : (scope : Scope) (d : Draft) (p q : Part) (words : List Word) (lines : List (List Word)) → part_next d.vars d.clauses p (codes "c" ∷ words) ≡ Some q
-    → run scope (at_body d p) ((codes "c" ∷ words) ∷ lines) ≡ run scope (at_body d q) lines
-part_runs scope d p q words lines h =
+pub part_runs : (d : Draft) (p q : Part) (words : List Word) (lines : List (List Word)) → part_next d.vars d.clauses p (codes "c" ∷ words) ≡ Some q
+    → run (at_body d p) ((codes "c" ∷ words) ∷ lines) ≡ run (at_body d q) lines
+part_runs d p q words lines h =
     let put : Part → Draft = λ r. at_body d r in
-    run_cons scope (at_body d p) (at_body d q) (codes "c" ∷ words) lines
+    run_cons (at_body d p) (at_body d q) (codes "c" ∷ words) lines
     (ap (λ (b : Bool). cond b (cond (may_end p) (Some (record (at_body d p) { due = Clauses })) None) (option_map put (part_next d.vars d.clauses p (codes "c" ∷ words)))) (not_problem d.vars (clause_count (at_body d p)) words)
     ∙ ap (option_map put) h)
 
 -- lines of items, one after another
-lines_run : {X : Type 0} (scope : Scope) (d : Draft) (put : List X → Part) (tail : X → List Word) (ok : List X → Bool) → ((xs ys : List X) → ok (xs ++ ys) ≡ true → ok xs ≡ true)
+lines_run : {X : Type 0} (d : Draft) (put : List X → Part) (tail : X → List Word) (ok : List X → Bool) → ((xs ys : List X) → ok (xs ++ ys) ≡ true → ok xs ≡ true)
     → ((xs : List X) (x : X) → ok (xs ++ x ∷ []) ≡ true → part_next d.vars d.clauses (put xs) (codes "c" ∷ tail x) ≡ Some (put (xs ++ x ∷ [])))
-    → (xs ys : List X) (rest : List (List Word)) → ok (xs ++ ys) ≡ true → run scope (at_body d (put xs)) (map (λ x. codes "c" ∷ tail x) ys ++ rest) ≡ run scope (at_body d (put (xs ++ ys))) rest
-lines_run scope d put tail ok front step xs [] rest h = ap (λ (zs : List _). run scope (at_body d (put zs)) rest) (sym (append-nil xs))
-lines_run scope d put tail ok front step xs (y ∷ ys) rest h =
+    → (xs ys : List X) (rest : List (List Word)) → ok (xs ++ ys) ≡ true → run (at_body d (put xs)) (map (λ x. codes "c" ∷ tail x) ys ++ rest) ≡ run (at_body d (put (xs ++ ys))) rest
+lines_run d put tail ok front step xs [] rest h = ap (λ (zs : List _). run (at_body d (put zs)) rest) (sym (append-nil xs))
+lines_run d put tail ok front step xs (y ∷ ys) rest h =
     let joined : (xs ++ y ∷ []) ++ ys ≡ xs ++ y ∷ ys = append_assoc xs (y ∷ []) ys in
     let ahead : ok ((xs ++ y ∷ []) ++ ys) ≡ true = ap ok joined ∙ h in
-    part_runs scope d (put xs) (put (xs ++ y ∷ [])) (tail y) (map (λ x. codes "c" ∷ tail x) ys ++ rest) (step xs y (front (xs ++ y ∷ []) ys ahead))
-    ∙ lines_run scope d put tail ok front step (xs ++ y ∷ []) ys rest ahead
-    ∙ ap (λ (zs : List _). run scope (at_body d (put zs)) rest) joined
+    part_runs d (put xs) (put (xs ++ y ∷ [])) (tail y) (map (λ x. codes "c" ∷ tail x) ys ++ rest) (step xs y (front (xs ++ y ∷ []) ys ahead))
+    ∙ lines_run d put tail ok front step (xs ++ y ∷ []) ys rest ahead
+    ∙ ap (λ (zs : List _). run (at_body d (put zs)) rest) joined
 
-pure_runs : (scope : Scope) (d : Draft) (order : List ℤ) (pairs : List Pair) (rest : List (List Word)) → d.vars ≤ 1000000 → d.clauses ≤ 4000000
+pub pure_runs : (d : Draft) (order : List ℤ) (pairs : List Pair) (rest : List (List Word)) → d.vars ≤ 1000000 → d.clauses ≤ 4000000
     → list_all (is_literal d.vars) order ≡ true → are_listed (λ (q : Pair). q.var) (is_pair d.clauses) 0 d.vars pairs ≡ true
-    → run scope (at_body d (Pure fresh_pure)) (class_lines (body.Pure order pairs) ++ rest) ≡ run scope (at_body d (part_from (body.Pure order pairs))) rest
-pure_runs scope d order pairs rest few small orders listed =
+    → run (at_body d (Pure fresh_pure)) (class_lines (body.Pure order pairs) ++ rest) ≡ run (at_body d (part_from (body.Pure order pairs))) rest
+pure_runs d order pairs rest few small orders listed =
     let put : List Pair → Part = λ qs. Pure (record { ordered = true; order = order; pairs = qs }) in
-    part_runs scope d (Pure fresh_pure) (put []) (codes "order" ∷ literal_words order) (map pair_line pairs ++ rest)
+    part_runs d (Pure fresh_pure) (put []) (codes "order" ∷ literal_words order) (map pair_line pairs ++ rest)
     (ap (λ (o : Option (List Word)). option_map Pure (option_map (λ (ls : List ℤ). record fresh_pure { ordered = true; order = ls }) (option_and_then (literals_from false d.vars 0) o))) (after_ended (codes "order") (map signed_decimal order) refl)
     ∙ ap (λ (o : Option (List ℤ)). option_map Pure (option_map (λ (ls : List ℤ). record fresh_pure { ordered = true; order = ls }) o)) (literals_back false d.vars 0 order few (any_literals d.vars 0 order ∙ orders)))
-    ∙ lines_run scope d put (λ (q : Pair). codes "pair" ∷ number_words (q.var ∷ q.with ∷ q.against ∷ [])) (are_listed (λ (q : Pair). q.var) (is_pair d.clauses) 0 d.vars)
+    ∙ lines_run d put (λ (q : Pair). codes "pair" ∷ number_words (q.var ∷ q.with ∷ q.against ∷ [])) (are_listed (λ (q : Pair). q.var) (is_pair d.clauses) 0 d.vars)
     (listed_front (λ (q : Pair). q.var) (is_pair d.clauses) 0 d.vars)
     (λ qs q h. ap (λ (o : Option Pair). option_map Pure (option_map (λ (x : Pair). record { ordered = true; order = order; pairs = qs ++ x ∷ [] }) o))
     (items_back (λ last ws. pair_within last d.vars d.clauses ws) (λ (x : Pair). number_words (x.var ∷ x.with ∷ x.against ∷ [])) (λ x. x.var) (is_pair d.clauses) d.vars (pair_items d.vars d.clauses few small) qs q h))
     [] pairs rest listed
 
-matching_runs : (scope : Scope) (d : Draft) (own : List Own) (rows : List MatchRow) (rest : List (List Word)) → d.vars ≤ 1000000 → d.clauses ≤ 4000000
+pub matching_runs : (d : Draft) (own : List Own) (rows : List MatchRow) (rest : List (List Word)) → d.vars ≤ 1000000 → d.clauses ≤ 4000000
     → are_listed (λ (o : Own). o.pos) (λ (o : Own). is_between 1 d.vars o.var) 0 d.clauses own ≡ true → are_listed (λ (r : MatchRow). r.var) (is_match_row d.clauses) 0 d.vars rows ≡ true
-    → run scope (at_body d (Matching fresh_matching)) (class_lines (body.Matching own rows) ++ rest) ≡ run scope (at_body d (part_from (body.Matching own rows))) rest
-matching_runs scope d own rows rest few small owns listed =
+    → run (at_body d (Matching fresh_matching)) (class_lines (body.Matching own rows) ++ rest) ≡ run (at_body d (part_from (body.Matching own rows))) rest
+matching_runs d own rows rest few small owns listed =
     let put : List Own → Part = λ os. Matching (record { own = os; rows = [] }) in
     let put_rows : List MatchRow → Part = λ rs. Matching (record { own = own; rows = rs }) in
-    ap (run scope (at_body d (Matching fresh_matching))) (append_assoc (map own_line own) (map row_line rows) rest)
-    ∙ lines_run scope d put (λ (o : Own). codes "own" ∷ number_words (o.pos ∷ o.var ∷ [])) (are_listed (λ (o : Own). o.pos) (λ (o : Own). is_between 1 d.vars o.var) 0 d.clauses)
+    ap (run (at_body d (Matching fresh_matching))) (append_assoc (map own_line own) (map row_line rows) rest)
+    ∙ lines_run d put (λ (o : Own). codes "own" ∷ number_words (o.pos ∷ o.var ∷ [])) (are_listed (λ (o : Own). o.pos) (λ (o : Own). is_between 1 d.vars o.var) 0 d.clauses)
     (listed_front (λ (o : Own). o.pos) (λ (o : Own). is_between 1 d.vars o.var) 0 d.clauses)
     (λ os o h. ap (λ (x : Option Own). option_map Matching (option_map (λ (y : Own). record { own = os ++ y ∷ []; rows = [] }) x))
     (items_back (λ last ws. own_within last d.vars d.clauses ws) (λ (x : Own). number_words (x.pos ∷ x.var ∷ [])) (λ x. x.pos) (λ x. is_between 1 d.vars x.var) d.clauses (own_items d.vars d.clauses few small) os o h))
     [] own (map row_line rows ++ rest) owns
-    ∙ lines_run scope d put_rows (λ (r : MatchRow). codes "row" ∷ number_words (r.var ∷ r.own ∷ r.escape ∷ r.rank ∷ [])) (are_listed (λ (r : MatchRow). r.var) (is_match_row d.clauses) 0 d.vars)
+    ∙ lines_run d put_rows (λ (r : MatchRow). codes "row" ∷ number_words (r.var ∷ r.own ∷ r.escape ∷ r.rank ∷ [])) (are_listed (λ (r : MatchRow). r.var) (is_match_row d.clauses) 0 d.vars)
     (listed_front (λ (r : MatchRow). r.var) (is_match_row d.clauses) 0 d.vars)
     (λ rs r h. ap (λ (x : Option MatchRow). option_map Matching (option_map (λ (y : MatchRow). record { own = own; rows = rs ++ y ∷ [] }) x))
     (items_back (λ last ws. row_within last d.vars d.clauses ws) (λ (x : MatchRow). number_words (x.var ∷ x.own ∷ x.escape ∷ x.rank ∷ [])) (λ x. x.var) (is_match_row d.clauses) d.vars (row_items d.vars d.clauses few small) rs r h))
     [] rows rest listed
 
-linear_runs : (scope : Scope) (d : Draft) (stages : List Stage) (dual : List Dual) (units : List Unit) (rest : List (List Word)) → d.vars ≤ 1000000 → d.clauses ≤ 4000000
+pub linear_runs : (d : Draft) (stages : List Stage) (dual : List Dual) (units : List Unit) (rest : List (List Word)) → d.vars ≤ 1000000 → d.clauses ≤ 4000000
     → list_all (is_stage d.vars) stages ≡ true → are_listed (λ (y : Dual). y.pos) (λ (y : Dual). is_in_range y.y) 0 d.clauses dual ≡ true → are_listed (λ (u : Unit). u.var) (is_unit d.clauses) 0 d.vars units ≡ true
-    → run scope (at_body d (Linear fresh_linear)) (class_lines (body.Linear stages dual units) ++ rest) ≡ run scope (at_body d (part_from (body.Linear stages dual units))) rest
-linear_runs scope d stages dual units rest few small staged duals listed =
+    → run (at_body d (Linear fresh_linear)) (class_lines (body.Linear stages dual units) ++ rest) ≡ run (at_body d (part_from (body.Linear stages dual units))) rest
+linear_runs d stages dual units rest few small staged duals listed =
     let put : List Stage → Part = λ ss. Linear (record { stages = ss; dual = []; units = [] }) in
     let put_duals : List Dual → Part = λ ys. Linear (record { stages = stages; dual = ys; units = [] }) in
     let put_units : List Unit → Part = λ us. Linear (record { stages = stages; dual = dual; units = us }) in
-    ap (run scope (at_body d (Linear fresh_linear)))
+    ap (run (at_body d (Linear fresh_linear)))
     (append_assoc (map stage_line stages ++ map dual_line dual) (map unit_line units) rest ∙ append_assoc (map stage_line stages) (map dual_line dual) (map unit_line units ++ rest))
-    ∙ lines_run scope d put (λ (s : Stage). codes "stage" ∷ ended (flat_map weight_words s.weights)) (list_all (is_stage d.vars)) (tested_front (is_stage d.vars))
+    ∙ lines_run d put (λ (s : Stage). codes "stage" ∷ ended (flat_map weight_words s.weights)) (list_all (is_stage d.vars)) (tested_front (is_stage d.vars))
     (λ ss s h. ap (λ (o : Option (List Word)). option_map Linear (linear_by d.vars d.clauses (record { stages = ss; dual = []; units = [] }) o (after (codes "c") (codes "dual") (stage_line s)) (after (codes "c") (codes "unit") (stage_line s)))) (after_ended (codes "stage") (flat_map weight_words s.weights) refl)
     ∙ ap (λ (o : Option (List Weight)). option_map Linear (option_map (λ (ws : List Weight). record { stages = ss ++ stage_of ws ∷ []; dual = []; units = [] }) o))
     (twos_back (weight_within d.vars) weight_words (are_weights d.vars) (weights_two d.vars few) [] s.weights (tested_last (is_stage d.vars) ss s h)))
     [] stages (map dual_line dual ++ (map unit_line units ++ rest)) staged
-    ∙ lines_run scope d put_duals (λ (y : Dual). codes "dual" ∷ decimal y.pos ∷ signed_decimal y.y ∷ []) (are_listed (λ (y : Dual). y.pos) (λ (y : Dual). is_in_range y.y) 0 d.clauses)
+    ∙ lines_run d put_duals (λ (y : Dual). codes "dual" ∷ decimal y.pos ∷ signed_decimal y.y ∷ []) (are_listed (λ (y : Dual). y.pos) (λ (y : Dual). is_in_range y.y) 0 d.clauses)
     (listed_front (λ (y : Dual). y.pos) (λ (y : Dual). is_in_range y.y) 0 d.clauses)
     (λ ys y h. ap (λ (o : Option Dual). option_map Linear (option_map (λ (x : Dual). record { stages = stages; dual = ys ++ x ∷ []; units = [] }) o))
     (items_back (λ last ws. dual_within last d.clauses ws) (λ (x : Dual). decimal x.pos ∷ signed_decimal x.y ∷ []) (λ x. x.pos) (λ x. is_in_range x.y) d.clauses (dual_items d.clauses small) ys y h))
     [] dual (map unit_line units ++ rest) duals
-    ∙ lines_run scope d put_units (λ (u : Unit). codes "unit" ∷ decimal u.var ∷ signed_decimal u.d ∷ ended (flat_map share_words u.shares)) (are_listed (λ (u : Unit). u.var) (is_unit d.clauses) 0 d.vars)
+    ∙ lines_run d put_units (λ (u : Unit). codes "unit" ∷ decimal u.var ∷ signed_decimal u.d ∷ ended (flat_map share_words u.shares)) (are_listed (λ (u : Unit). u.var) (is_unit d.clauses) 0 d.vars)
     (listed_front (λ (u : Unit). u.var) (is_unit d.clauses) 0 d.vars)
     (λ us u h. ap (λ (o : Option Unit). option_map Linear (option_map (λ (x : Unit). record { stages = stages; dual = dual; units = us ++ x ∷ [] }) o))
     (items_back (λ last ws. unit_within last d.vars d.clauses ws) (λ (x : Unit). decimal x.var ∷ signed_decimal x.d ∷ ended (flat_map share_words x.shares)) (λ x. x.var) (is_unit d.clauses) d.vars (unit_items d.vars d.clauses few small) us u h))
     [] units rest listed
-
-pub body_runs : (scope : Scope) (d : Draft) (b : Body) (rest : List (List Word)) → IsReadBody b → d.vars ≤ 1000000 → d.clauses ≤ 4000000 → is_body d.vars d.clauses b ≡ true
-    → run scope (at_body d (fresh_of b)) (class_lines b ++ rest) ≡ run scope (at_body d (part_from b)) rest
-unfolding is_body
-body_runs scope d (body.Pure order pairs) rest r few small h =
-    let outer = and_true (list_all (is_literal d.vars) order && rises_within 0 d.vars (map (λ (q : Pair). q.var) pairs)) (list_all (is_pair d.clauses) pairs) h in
-    let inner = and_true (list_all (is_literal d.vars) order) (rises_within 0 d.vars (map (λ (q : Pair). q.var) pairs)) outer.0 in
-    pure_runs scope d order pairs rest few small inner.0 (and_from (rises_within 0 d.vars (map (λ (q : Pair). q.var) pairs)) (list_all (is_pair d.clauses) pairs) inner.1 outer.1)
-body_runs scope d (body.Matching own rows) rest r few small h =
-    let both = and_true (are_listed (λ (o : Own). o.pos) (λ (o : Own). is_between 1 d.vars o.var) 0 d.clauses own) (are_listed (λ (r : MatchRow). r.var) (is_match_row d.clauses) 0 d.vars rows) h in
-    matching_runs scope d own rows rest few small both.0 both.1
-body_runs scope d (body.Linear stages dual units) rest r few small h =
-    let rise = rises_within 0 d.vars (map (λ (u : Unit). u.var) units) in
-    let duals = are_listed (λ (y : Dual). y.pos) (λ (y : Dual). is_in_range y.y) 0 d.clauses dual in
-    let outer = and_true ((list_all (is_stage d.vars) stages && duals) && rise) (list_all (is_unit d.clauses) units) h in
-    let middle = and_true (list_all (is_stage d.vars) stages && duals) rise outer.0 in
-    let inner = and_true (list_all (is_stage d.vars) stages) duals middle.0 in
-    linear_runs scope d stages dual units rest few small inner.0 inner.1 (and_from rise (list_all (is_unit d.clauses) units) middle.1 outer.1)
-body_runs scope d (body.General rounds) rest r few small h = absurd r
 
 -- THE CLAUSES
 
@@ -205,17 +185,17 @@ body_runs scope d (body.General rounds) rest r few small h = absurd r
 abbrev pub at_clauses : Draft → List (List ℤ) → Draft
 at_clauses d cs = record d { due = Clauses; texts = record { vars = d.vars; clauses = cs } }
 
-pub clauses_run : (scope : Scope) (d : Draft) (cs ds : List (List ℤ)) → d.vars ≤ 1000000 → list_all (is_clause d.vars) ds ≡ true → length (cs ++ ds) ≤ clause_count d → sum_by length (cs ++ ds) ≤ max_literals
-    → run scope (at_clauses d cs) (map literal_words ds) ≡ Some (at_clauses d (cs ++ ds))
-clauses_run scope d cs [] few h room fits = ap (λ (xs : List (List ℤ)). Some (at_clauses d xs)) (sym (append-nil cs))
-clauses_run scope d cs (c ∷ ds) few h room fits =
+pub clauses_run : (d : Draft) (cs ds : List (List ℤ)) → d.vars ≤ 1000000 → list_all (is_clause d.vars) ds ≡ true → length (cs ++ ds) ≤ clause_count d → sum_by length (cs ++ ds) ≤ max_literals
+    → run (at_clauses d cs) (map literal_words ds) ≡ Some (at_clauses d (cs ++ ds))
+clauses_run d cs [] few h room fits = ap (λ (xs : List (List ℤ)). Some (at_clauses d xs)) (sym (append-nil cs))
+clauses_run d cs (c ∷ ds) few h room fits =
     let both = and_true (is_clause d.vars c) (list_all (is_clause d.vars) ds) h in
     let joined : (cs ++ c ∷ []) ++ ds ≡ cs ++ c ∷ ds = append_assoc cs (c ∷ []) ds in
     let size = length-append cs (c ∷ ds) in
     let there : has_room (at_clauses d cs) c ≡ true = and_from (nat_lt (length cs) (clause_count d)) (nat_le (sum_by length cs + length c) max_literals)
     (lt-ltb (length cs) (clause_count d) (omega (arith, size, room)))
     (le-leb (sum_by length cs + length c) max_literals (omega (arith, fits, sum_by-append length cs (c ∷ ds), sum_by-cons length c ds))) in
-    run_cons scope (at_clauses d cs) (at_clauses d (cs ++ c ∷ [])) (literal_words c) (map literal_words ds)
+    run_cons (at_clauses d cs) (at_clauses d (cs ++ c ∷ [])) (literal_words c) (map literal_words ds)
     (ap (option_and_then (put_clause (at_clauses d cs))) (clause_back d.vars [] c few both.0) ∙ ap (λ (b : Bool). cond b (Some (at_clauses d (cs ++ c ∷ []))) None) there)
-    ∙ clauses_run scope d (cs ++ c ∷ []) ds few both.1 (omega (arith, room, ap length joined)) (subst (λ (xs : List (List ℤ)). sum_by length xs ≤ max_literals) (sym joined) fits)
+    ∙ clauses_run d (cs ++ c ∷ []) ds few both.1 (omega (arith, room, ap length joined)) (subst (λ (xs : List (List ℤ)). sum_by length xs ≤ max_literals) (sym joined) fits)
     ∙ ap (λ (xs : List (List ℤ)). Some (at_clauses d xs)) joined

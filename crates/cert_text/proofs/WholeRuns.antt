@@ -4,6 +4,7 @@ use Rattle.std.specs.Prelude.{option_map, option_and_then, codes}
 use Rattle.std.specs.Fmt.{signed_decimal}
 use Rattle.std.specs.List.{list_all}
 use Rattle.std.proofs.lemmas.Bool.{eq-eqb, eqb-true, leb-true}
+use Rattle.std.proofs.lemmas.List.{append-nil}
 use Rattle.lk_model.specs.Lists.{rises_within}
 use Rattle.lk_model.specs.Limits.{max_vars, max_clauses, max_literals}
 use Rattle.lk_model.specs.Formulas.Literal.{variable, is_clause}
@@ -20,25 +21,18 @@ use Rattle.lk_model.specs.declared.document.Document.{Document}
 use Rattle.lk_model.specs.declared.document.Document.TheVariants as document
 use Rattle.lk_model.proofs.Booleans.{and_true}
 use Rattle.lk_model.proofs.Rising.{rising_count}
-use Rattle.cert_text.specs.Built.{IsBuiltBody}
-use Rattle.cert_text.specs.Scopes.{IsReadBody, IsIn}
 use Rattle.cert_text.specs.declared.part.Part.{Part}
-use Rattle.cert_text.specs.declared.part.Part.TheVariants.{Pure, Matching, Linear}
 use Rattle.cert_text.specs.declared.draft.Draft.{Draft}
 use Rattle.cert_text.specs.declared.draft.LineDue.{LineDue}
 use Rattle.cert_text.specs.declared.draft.LineDue.TheVariants as due
-use Rattle.cert_text.specs.declared.draft.Scope.{Scope}
-use Rattle.cert_text.specs.declared.draft.Scope.TheVariants.{All, Built}
 use Rattle.cert_text.specs.FieldLists.{rising_from, literals_from}
-use Rattle.cert_text.specs.PureLines.{fresh_pure}
-use Rattle.cert_text.specs.MatchingLines.{fresh_matching}
-use Rattle.cert_text.specs.LinearLines.{fresh_linear}
 use Rattle.cert_text.specs.Parts.{may_end, is_finished, body_of}
-use Rattle.cert_text.specs.Drafts.{format_line, size_line, keep_line, set_line, problem_line, clause_count, fresh_draft, allows, due_then, due_first, next_format, next_sizes, done_by, open_by, document_by, finished}
+use Rattle.cert_text.specs.Drafts.{format_line, size_line, keep_line, set_line, problem_line, clause_count, fresh_draft, due_then, due_first, next_format, next_sizes, done_by, open_by, document_by, finished}
 use Rattle.cert_text.proofs.ListForms.{rising_back, literals_back, literals_rising}
 use Rattle.cert_text.proofs.NumberForms.{two_back}
 use Rattle.cert_text.proofs.OpenRuns.{problem_run, open_runs}
-use Rattle.cert_text.proofs.Runs.{run, run_cons, after_ended, fresh_of, part_from, at_body, body_runs, at_clauses, clauses_run}
+use Rattle.cert_text.proofs.BodyRuns.{body_runs}
+use Rattle.cert_text.proofs.Runs.{run, run_cons, after_ended, fresh_of, part_from, at_body, at_clauses, clauses_run}
 
 -- THE FIRST LINES
 
@@ -47,50 +41,26 @@ blank : Option (List ℕ) → Option (List ℕ)
 blank None = None
 blank (Some vars) = Some []
 
-allowed_in : (scope : Scope) (d : DoneDocument) → IsIn scope (document.Done d) → IsReadBody d.body → allows scope (blank d.protect) (fresh_of d.body) ≡ true
-unfolding blank
-allowed_in All d h r = by_body d.body r
-  where
-    by_body : (b : Body) → IsReadBody b → allows All (blank d.protect) (fresh_of b) ≡ true
-    by_body (body.Pure order pairs) s = refl
-    by_body (body.Matching own rows) s = refl
-    by_body (body.Linear stages dual units) s = refl
-    by_body (body.General rounds) s = absurd s
-allowed_in Built d h r = ap (λ (o : Option (List ℕ)). allows Built (blank o) (fresh_of d.body)) h.unprotected ∙ by_body d.body h.body
-  where
-    by_body : (b : Body) → IsBuiltBody b → allows Built None (fresh_of b) ≡ true
-    by_body (body.Pure order pairs) s = refl
-    by_body (body.Matching own rows) s = absurd s
-    by_body (body.Linear stages dual units) s = absurd s
-    by_body (body.General rounds) s = absurd s
-
 -- what is read first
 started : Option (List ℕ) → Part → Draft
 started protect p = record fresh_draft { due = due.Sizes; protect = protect; part = p }
 
-format_run : (scope : Scope) (protect : Option (List ℕ)) (b : Body) → IsReadBody b → allows scope (blank protect) (fresh_of b) ≡ true
-    → next_format scope fresh_draft (format_line protect (class_word (class_of b))) ≡ Some (started (blank protect) (fresh_of b))
+format_run : (protect : Option (List ℕ)) (b : Body) → next_format fresh_draft (format_line protect (class_word (class_of b))) ≡ Some (started (blank protect) (fresh_of b))
 unfolding started blank
-format_run scope None (body.Pure order pairs) r e =
-    ap (λ (t : Bool). option_map (λ (h : Option (List ℕ) × Part). started h.0 h.1) (cond t (Some (None, Pure fresh_pure)) None)) e
-format_run scope None (body.Matching own rows) r e =
-    ap (λ (t : Bool). option_map (λ (h : Option (List ℕ) × Part). started h.0 h.1) (cond t (Some (None, Matching fresh_matching)) None)) e
-format_run scope None (body.Linear stages dual units) r e =
-    ap (λ (t : Bool). option_map (λ (h : Option (List ℕ) × Part). started h.0 h.1) (cond t (Some (None, Linear fresh_linear)) None)) e
-format_run scope None (body.General rounds) r e = absurd r
-format_run scope (Some vars) (body.Pure order pairs) r e =
-    ap (λ (t : Bool). option_map (λ (h : Option (List ℕ) × Part). started h.0 h.1) (cond t (Some (Some [], Pure fresh_pure)) None)) e
-format_run scope (Some vars) (body.Matching own rows) r e =
-    ap (λ (t : Bool). option_map (λ (h : Option (List ℕ) × Part). started h.0 h.1) (cond t (Some (Some [], Matching fresh_matching)) None)) e
-format_run scope (Some vars) (body.Linear stages dual units) r e =
-    ap (λ (t : Bool). option_map (λ (h : Option (List ℕ) × Part). started h.0 h.1) (cond t (Some (Some [], Linear fresh_linear)) None)) e
-format_run scope (Some vars) (body.General rounds) r e = absurd r
+format_run None (body.Pure order pairs) = refl
+format_run None (body.Matching own rows) = refl
+format_run None (body.Linear stages dual units) = refl
+format_run None (body.General rounds) = refl
+format_run (Some vars) (body.Pure order pairs) = refl
+format_run (Some vars) (body.Matching own rows) = refl
+format_run (Some vars) (body.Linear stages dual units) = refl
+format_run (Some vars) (body.General rounds) = refl
 
-then_keep : (b : Body) → IsReadBody b → due_then (fresh_of b) ≡ due.Keep
-then_keep (body.Pure order pairs) r = refl
-then_keep (body.Matching own rows) r = refl
-then_keep (body.Linear stages dual units) r = refl
-then_keep (body.General rounds) r = absurd r
+then_keep : (b : Body) → due_then (fresh_of b) ≡ due.Keep
+then_keep (body.Pure order pairs) = refl
+then_keep (body.Matching own rows) = refl
+then_keep (body.Linear stages dual units) = refl
+then_keep (body.General rounds) = refl
 
 -- a draft of which no line of the body was read
 front : LineDue → ℕ → ℕ → Option (List ℕ) → List ℕ → List ℤ → Body → Draft
@@ -102,36 +72,36 @@ sizes_run n m protect b few small =
     ap (option_map (λ (h : ℕ × ℕ). record (started protect (fresh_of b)) { due = due_first protect (fresh_of b); vars = h.0; clauses = h.1; texts = record { vars = h.0; clauses = [] } }))
     (two_back 1000000 4000000 n m (omega arith) (omega arith) few small)
 
-first_run : (scope : Scope) (protect : Option (List ℕ)) (b : Body) (n m : ℕ) (rest : List (List Word)) → IsReadBody b → allows scope (blank protect) (fresh_of b) ≡ true → n ≤ 1000000 → m ≤ 4000000 → is_protect_line n protect ≡ true
-    → run scope fresh_draft (first_lines (class_word (class_of b)) n m protect ++ rest) ≡ run scope (front due.Keep n m protect [] [] b) rest
+first_run : (protect : Option (List ℕ)) (b : Body) (n m : ℕ) (rest : List (List Word)) → n ≤ 1000000 → m ≤ 4000000 → is_protect_line n protect ≡ true
+    → run fresh_draft (first_lines (class_word (class_of b)) n m protect ++ rest) ≡ run (front due.Keep n m protect [] [] b) rest
 unfolding started blank front
-first_run scope None b n m rest r e few small h =
-    run_cons scope fresh_draft (started None (fresh_of b)) (format_line None (class_word (class_of b))) (size_line n m ∷ rest) (format_run scope None b r e)
-    ∙ run_cons scope (started None (fresh_of b)) (front (due_then (fresh_of b)) n m None [] [] b) (size_line n m) rest (sizes_run n m None b few small)
-    ∙ ap (λ (s : LineDue). run scope (front s n m None [] [] b) rest) (then_keep b r)
-first_run scope (Some vars) b n m rest r e few small h =
+first_run None b n m rest few small h =
+    run_cons fresh_draft (started None (fresh_of b)) (format_line None (class_word (class_of b))) (size_line n m ∷ rest) (format_run None b)
+    ∙ run_cons (started None (fresh_of b)) (front (due_then (fresh_of b)) n m None [] [] b) (size_line n m) rest (sizes_run n m None b few small)
+    ∙ ap (λ (s : LineDue). run (front s n m None [] [] b) rest) (then_keep b)
+first_run (Some vars) b n m rest few small h =
     let protected = λ (x : List ℕ). record (front due.Protect n m (Some []) [] [] b) { due = due_then (fresh_of b); protect = Some x } in
     let line = comment (codes "protect") (ended (number_words vars)) in
-    run_cons scope fresh_draft (started (Some []) (fresh_of b)) (format_line (Some vars) (class_word (class_of b))) (size_line n m ∷ line ∷ rest) (format_run scope (Some vars) b r e)
-    ∙ run_cons scope (started (Some []) (fresh_of b)) (front due.Protect n m (Some []) [] [] b) (size_line n m) (line ∷ rest) (sizes_run n m (Some []) b few small)
-    ∙ run_cons scope (front due.Protect n m (Some []) [] [] b) (front (due_then (fresh_of b)) n m (Some vars) [] [] b) line rest
+    run_cons fresh_draft (started (Some []) (fresh_of b)) (format_line (Some vars) (class_word (class_of b))) (size_line n m ∷ line ∷ rest) (format_run (Some vars) b)
+    ∙ run_cons (started (Some []) (fresh_of b)) (front due.Protect n m (Some []) [] [] b) (size_line n m) (line ∷ rest) (sizes_run n m (Some []) b few small)
+    ∙ run_cons (front due.Protect n m (Some []) [] [] b) (front (due_then (fresh_of b)) n m (Some vars) [] [] b) line rest
     (ap (λ (o : Option (List Word)). option_map protected (option_and_then (rising_from 0 n) o)) (after_ended (codes "protect") (number_words vars) refl)
     ∙ ap (option_map protected) (rising_back 0 n vars (omega (arith, few)) h))
-    ∙ ap (λ (s : LineDue). run scope (front s n m (Some vars) [] [] b) rest) (then_keep b r)
+    ∙ ap (λ (s : LineDue). run (front s n m (Some vars) [] [] b) rest) (then_keep b)
 
 -- THE KEPT POSITIONS AND THE SET
 
-middle_run : (scope : Scope) (protect : Option (List ℕ)) (b : Body) (n m : ℕ) (kept : List ℕ) (set : List ℤ) (rest : List (List Word)) → n ≤ 1000000 → m ≤ 4000000
+middle_run : (protect : Option (List ℕ)) (b : Body) (n m : ℕ) (kept : List ℕ) (set : List ℤ) (rest : List (List Word)) → n ≤ 1000000 → m ≤ 4000000
     → rises_within 0 m kept ≡ true → rises_within 0 n (map variable set) ≡ true
-    → run scope (front due.Keep n m protect [] [] b) (keep_line kept ∷ set_line set ∷ rest) ≡ run scope (front due.Body n m protect kept set b) rest
+    → run (front due.Keep n m protect [] [] b) (keep_line kept ∷ set_line set ∷ rest) ≡ run (front due.Body n m protect kept set b) rest
 unfolding front
-middle_run scope protect b n m kept set rest few small h g =
+middle_run protect b n m kept set rest few small h g =
     let with_kept = λ (x : List ℕ). record (front due.Keep n m protect [] [] b) { due = due.Set; kept = x } in
     let with_set = λ (x : List ℤ). record (front due.Set n m protect kept [] b) { due = due.Body; set = x } in
-    run_cons scope (front due.Keep n m protect [] [] b) (front due.Set n m protect kept [] b) (keep_line kept) (set_line set ∷ rest)
+    run_cons (front due.Keep n m protect [] [] b) (front due.Set n m protect kept [] b) (keep_line kept) (set_line set ∷ rest)
     (ap (λ (o : Option (List Word)). option_map with_kept (option_and_then (rising_from 0 m) o)) (after_ended (codes "keep") (number_words kept) refl)
     ∙ ap (option_map with_kept) (rising_back 0 m kept small h))
-    ∙ run_cons scope (front due.Set n m protect kept [] b) (front due.Body n m protect kept set b) (set_line set) rest
+    ∙ run_cons (front due.Set n m protect kept [] b) (front due.Body n m protect kept set b) (set_line set) rest
     (ap (λ (o : Option (List Word)). option_map with_set (option_and_then (literals_from true n 0) o)) (after_ended (codes "set") (map signed_decimal set) refl)
     ∙ ap (option_map with_set) (literals_back true n 0 set few (literals_rising n 0 set g)))
 
@@ -143,23 +113,23 @@ record IsWholePart (b : Body) : Type 0 where
   ends : may_end (part_from b) ≡ true
   body : body_of (part_from b) ≡ b
 
-whole_part : (b : Body) → IsReadBody b → IsWholePart b
-whole_part (body.Pure order pairs) r = record { finished = refl; ends = refl; body = refl }
-whole_part (body.Matching own rows) r = record { finished = refl; ends = refl; body = refl }
-whole_part (body.Linear stages dual units) r = record { finished = refl; ends = refl; body = refl }
-whole_part (body.General rounds) r = absurd r
+whole_part : (b : Body) → IsWholePart b
+whole_part (body.Pure order pairs) = record { finished = refl; ends = refl; body = refl }
+whole_part (body.Matching own rows) = record { finished = refl; ends = refl; body = refl }
+whole_part (body.Linear stages dual units) = record { finished = refl; ends = refl; body = refl }
+whole_part (body.General rounds) = record { finished = refl; ends = refl; body = ap body.General (append-nil rounds) }
 
 -- THE WHOLE
 
 -- the draft that the lines of a document lead to
-pub record RunsTo (scope : Scope) (d : Document) : Type 0 where
+pub record RunsTo (d : Document) : Type 0 where
   pub draft : Draft
-  pub runs : run scope fresh_draft (document_lines d) ≡ Some draft
+  pub runs : run fresh_draft (document_lines d) ≡ Some draft
   pub is : finished draft ≡ Some d
 
-done_runs : (scope : Scope) (d : DoneDocument) → IsIn scope (document.Done d) → IsReadBody d.body → is_done_in_form d ≡ true → RunsTo scope (document.Done d)
+done_runs : (d : DoneDocument) → is_done_in_form d ≡ true → RunsTo (document.Done d)
 unfolding is_done_in_form are_clause_lines front
-done_runs scope d h r f =
+done_runs d f =
     let outer = and_true _ (are_clause_lines d.vars (length d.kept) d.texts) f in
     let upper = and_true _ (is_body d.vars d.clauses d.body) outer.0 in
     let sets = and_true _ (rises_within 0 d.vars (map variable d.set)) upper.0 in
@@ -174,7 +144,7 @@ done_runs scope d h r f =
     let vars = eqb-true d.texts.vars d.vars counts.0 in
     let count = eqb-true (length d.texts.clauses) (length d.kept) counts.1 in
     let kept_few = rising_count 0 d.clauses d.kept keeps.1 (omega arith) in
-    let whole = whole_part d.body r in
+    let whole = whole_part d.body in
     let at = front due.Body d.vars d.clauses d.protect d.kept d.set d.body in
     let there = at_body at (part_from d.body) in
     let number : clause_count there ≡ length d.kept = ap (λ (t : Bool). cond t (length d.kept) d.clauses) whole.finished in
@@ -187,31 +157,19 @@ done_runs scope d h r f =
     let same : done_by end ≡ d = λ i. record d { body = whole.body i; texts = texts i } in
     record {
       draft = end;
-      runs = ap (run scope fresh_draft) (append_assoc first (keep_line d.kept ∷ set_line d.set ∷ class_lines d.body) (formula_lines d.texts))
-          ∙ first_run scope d.protect d.body d.vars d.clauses _ r (allowed_in scope d h r) few small protects.1
-          ∙ middle_run scope d.protect d.body d.vars d.clauses d.kept d.set (class_lines d.body ++ formula_lines d.texts) few small keeps.1 sets.1
-          ∙ body_runs scope at d.body (formula_lines d.texts) r few small upper.1
-          ∙ ap (run scope there) problem
-          ∙ problem_run scope at (part_from d.body) clauses whole.ends few (omega (arith, number, kept_few, small))
-          ∙ clauses_run scope there [] d.texts.clauses few (subst (λ (n : ℕ). list_all (is_clause n) d.texts.clauses ≡ true) vars formulas.1)
+      runs = ap (run fresh_draft) (append_assoc first (keep_line d.kept ∷ set_line d.set ∷ class_lines d.body) (formula_lines d.texts))
+          ∙ first_run d.protect d.body d.vars d.clauses _ few small protects.1
+          ∙ middle_run d.protect d.body d.vars d.clauses d.kept d.set (class_lines d.body ++ formula_lines d.texts) few small keeps.1 sets.1
+          ∙ body_runs at d.body (formula_lines d.texts) few small upper.1
+          ∙ ap (run there) problem
+          ∙ problem_run at (part_from d.body) clauses whole.ends few (omega (arith, number, kept_few, small))
+          ∙ clauses_run there [] d.texts.clauses few (subst (λ (n : ℕ). list_all (is_clause n) d.texts.clauses ≡ true) vars formulas.1)
           (omega (arith, number, count)) (leb-true (literal_count d.texts) max_literals last.1);
       is = ap (λ (t : Bool). cond t (Some (document_by end)) None) (eq-eqb (length d.texts.clauses) (clause_count end) (count ∙ sym number))
           ∙ ap (λ (t : Bool). Some (cond t (document.Done (done_by end)) (document.Unfinished (open_by end)))) whole.finished
           ∙ ap (λ (x : DoneDocument). Some (document.Done x)) same;
     }
 
--- documents of a scope are read
-pub is_read : (scope : Scope) (d : DoneDocument) → IsIn scope (document.Done d) → IsReadBody d.body
-is_read All d h = h
-is_read Built d h = by_body d.body h.body
-  where
-    by_body : (b : Body) → IsBuiltBody b → IsReadBody b
-    by_body (body.Pure order pairs) s = tt
-    by_body (body.Matching own rows) s = absurd s
-    by_body (body.Linear stages dual units) s = absurd s
-    by_body (body.General rounds) s = absurd s
-
-pub document_runs : (scope : Scope) (d : Document) → IsIn scope d → is_in_form d ≡ true → RunsTo scope d
-document_runs scope (document.Done d) h f = done_runs scope d h (is_read scope d h) f
-document_runs All (document.Unfinished d) h f = let r = open_runs d f in record { draft = r.draft; runs = r.runs; is = r.is }
-document_runs Built (document.Unfinished d) h f = absurd h
+pub document_runs : (d : Document) → is_in_form d ≡ true → RunsTo d
+document_runs (document.Done d) f = done_runs d f
+document_runs (document.Unfinished d) f = let r = open_runs d f in record { draft = r.draft; runs = r.runs; is = r.is }

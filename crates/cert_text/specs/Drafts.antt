@@ -16,8 +16,6 @@ use Rattle.cert_text.specs.declared.part.Part.TheVariants as part
 use Rattle.cert_text.specs.declared.draft.Draft.{Draft}
 use Rattle.cert_text.specs.declared.draft.LineDue.{LineDue}
 use Rattle.cert_text.specs.declared.draft.LineDue.TheVariants.{Format, Sizes, Protect, Keep, Set, Learned, Body, Clauses}
-use Rattle.cert_text.specs.declared.draft.Scope.{Scope}
-use Rattle.cert_text.specs.declared.draft.Scope.TheVariants.{All, Built}
 use Rattle.cert_text.specs.Fields.{after, one_within, two_within}
 use Rattle.cert_text.specs.FieldLists.{rising_from, literals_from, clause_from}
 use Rattle.cert_text.specs.Parts.{part_word, part_of, part_lines, part_next, may_end, is_finished, body_of, rounds_of}
@@ -78,24 +76,14 @@ fresh_draft = record { due = Format; vars = 0; clauses = 0; protect = None; kept
 abbrev pub protect_of : Word → Option (Option (List ℕ))
 protect_of word = if bytes_eq word (codes "1") then Some None else if bytes_eq word (codes "2") then Some (Some []) else None
 
--- such documents are read
-abbrev pub allows : Scope → Option (List ℕ) → Part → Bool
-allows All protect (part.General p) = false
-allows All protect _ = true
-allows Built None (part.Pure p) = true
-allows Built _ _ = false
-
-abbrev pub if_allowed : Scope → Option (List ℕ) × Part → Option (Option (List ℕ) × Part)
-if_allowed scope h = if allows scope h.0 h.1 then Some h else None
-
 abbrev pub format_words : List Word → Option (Option (List ℕ) × Part)
 format_words (v ∷ w ∷ []) = option_zip (protect_of v) (part_of w)
 format_words _ = None
 
-abbrev pub next_format : Scope → Draft → List Word → Option Draft
-next_format scope d words =
+abbrev pub next_format : Draft → List Word → Option Draft
+next_format d words =
     option_map (λ (h : Option (List ℕ) × Part). record d { due = Sizes; protect = h.0; part = h.1 })
-    (option_and_then (if_allowed scope) (option_and_then format_words (after (codes "c") (codes "leank") words)))
+    (option_and_then format_words (after (codes "c") (codes "leank") words))
 
 -- the line behind that of the protected variables
 abbrev pub due_then : Part → LineDue
@@ -143,19 +131,19 @@ put_clause d clause = if has_room d clause then Some (record d { texts = with_cl
 abbrev pub next_clause : Draft → List Word → Option Draft
 next_clause d words = option_and_then (put_clause d) (clause_from d.vars [] words)
 
-abbrev pub next_at : LineDue → Scope → Draft → List Word → Option Draft
-next_at Format scope d words = next_format scope d words
-next_at Sizes scope d words = next_sizes d words
-next_at Protect scope d words = next_protect d words
-next_at Keep scope d words = next_keep d words
-next_at Set scope d words = next_set d words
-next_at Learned scope d words = next_learned d words
-next_at Body scope d words = next_body d words
-next_at Clauses scope d words = next_clause d words
+abbrev pub next_at : LineDue → Draft → List Word → Option Draft
+next_at Format d words = next_format d words
+next_at Sizes d words = next_sizes d words
+next_at Protect d words = next_protect d words
+next_at Keep d words = next_keep d words
+next_at Set d words = next_set d words
+next_at Learned d words = next_learned d words
+next_at Body d words = next_body d words
+next_at Clauses d words = next_clause d words
 
 -- what a line of these words leads to, if one may come
-abbrev pub next_draft : Scope → Draft → List Word → Option Draft
-next_draft scope d words = next_at d.due scope d words
+abbrev pub next_draft : Draft → List Word → Option Draft
+next_draft d words = next_at d.due d words
 
 -- THE END
 

@@ -1,4 +1,3 @@
-pub mod Built
 pub mod Printed
 pub mod Fields
 pub mod FieldLists
@@ -10,6 +9,5 @@ pub mod RoundLines
 pub mod Parts
 pub mod Drafts
 pub mod Taking
-pub mod Readings
-pub mod Scopes
+pub mod ReadTexts
 pub mod ModelTexts

@@ -30,10 +30,3 @@ pub(crate) struct Draft {
     pub part: Part,
     pub texts: Formula,
 }
-
-/// Which documents are read: all, or those alone that are checked so far.
-#[derive(Clone, Copy, PartialEq, Eq, Debug)]
-pub(crate) enum Scope {
-    All,
-    Built,
-}

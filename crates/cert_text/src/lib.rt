@@ -17,7 +17,7 @@ mod reading;
 mod signed_lists;
 mod steps;
 
-pub use laws::{built_law, text_law};
+pub use laws::text_law;
 pub use model::read_model;
 pub use printing::print;
-pub use reading::{read, read_built};
+pub use reading::read;

@@ -1,13 +1,12 @@
 //! Reading documents.
 ghost use Rattle.std.specs.Prelude.{◌≡◌, ◌<◌, IfOk, IfErr, false};
-ghost use Rattle.cert_text.specs.declared.draft.Scope.TheVariants.{All};
 ghost use Rattle.lk_model.specs.declared.document.Document.TheVariants.{Done, Unfinished};
 ghost use Rattle.cert_text.specs.Parts.{is_finished};
 ghost use Rattle.cert_text.specs.Drafts.{done_by, open_by, finished, fresh_draft};
-ghost use Rattle.cert_text.specs.Readings.{IsStop, IsReadAs};
-ghost use Rattle.cert_text.specs.Scopes.{IsReadIn, IsStopIn};
+ghost use Rattle.lk_model.specs.Documents.Reading.{IsTextOf};
+ghost use Rattle.cert_text.specs.ReadTexts.{IsStopAt};
 
-use crate::draft::{Draft, LineDue, Scope};
+use crate::draft::{Draft, LineDue};
 use crate::part::{Part, body_of, is_finished, rounds_of};
 use crate::read_pure::PurePart;
 use crate::steps::{clause_count, take_line};
@@ -18,31 +17,12 @@ use lk_model::{
 use lk_text::next_line;
 use std::alloc::Global;
 
-/// The document that has this text: any but a finished one of the class general, until its lines are read.
-/// Other bytes are refused with the first line in which no such document's text
-/// can go on, counted from 1. A last line without its byte 10 is such a line; where the text ends too
+/// The document that has this text. Other bytes are refused with the first line in which no document's
+/// text can go on, counted from 1. A last line without its byte 10 is such a line; where the text ends too
 /// early, so is the line after its last one. The other error is want of memory.
 pub fn read(alloc: Global, bytes: &[u8]) -> Result<Document, ReadStop>
-    ensures document { IfOk result (IsReadIn All bytes.now) }
-    ensures stop { IfErr result (IsStopIn All bytes.now) }
-{
-    read_in(alloc, Scope::All, bytes)
-}
-
-/// The document that has this text, as `read` gives it, if it is a finished one of the class pure without
-/// protected variables. Other bytes are refused with the first line in which no such document's text can
-/// go on.
-pub fn read_built(alloc: Global, bytes: &[u8]) -> Result<Document, ReadStop>
-    ensures document { IfOk result (IsReadAs bytes.now) }
-    ensures stop { IfErr result (IsStop bytes.now) }
-{
-    read_in(alloc, Scope::Built, bytes)
-}
-
-/// The document of this scope that has this text.
-fn read_in(alloc: Global, scope: Scope, bytes: &[u8]) -> Result<Document, ReadStop>
-    ensures document { IfOk result (IsReadIn scope bytes.now) }
-    ensures stop { IfErr result (IsStopIn scope bytes.now) }
+    ensures document { IfOk result (IsTextOf bytes.now) }
+    ensures stop { IfErr result (IsStopAt bytes.now) }
 {
     let mut draft = fresh(alloc)?;
     let mut growing = OpenClause::new(alloc, 0)?;
@@ -53,13 +33,7 @@ fn read_in(alloc: Global, scope: Scope, bytes: &[u8]) -> Result<Document, ReadSt
         if cut.end == bytes.len() {
             return Err(ReadStop::Line(number));
         }
-        if !take_line(
-            alloc,
-            scope,
-            &mut draft,
-            &mut growing,
-            &bytes[cut.begin..cut.end],
-        )? {
+        if !take_line(alloc, &mut draft, &mut growing, &bytes[cut.begin..cut.end])? {
             return Err(ReadStop::Line(number));
         }
         from = cut.next;

@@ -1,11 +1,11 @@
 //! One line more of a document.
-ghost use Rattle.std.specs.Prelude.{◌≡◌, ◌≤◌, IfOk, true, option_and_then};
+ghost use Rattle.std.specs.Prelude.{◌≡◌, ◌≤◌, IfOk, true};
 ghost use Rattle.lk_model.specs.Limits.{max_vars, max_clauses};
 ghost use Rattle.cert_text.specs.Fields.{fields};
-ghost use Rattle.cert_text.specs.Drafts.{clause_count, due_then, due_first, is_problem, next_format, next_sizes, next_protect, next_keep, next_set, next_learned, next_body, next_clause, next_draft, allows, protect_of, if_allowed, format_words};
+ghost use Rattle.cert_text.specs.Drafts.{clause_count, due_then, due_first, is_problem, next_format, next_sizes, next_protect, next_keep, next_set, next_learned, next_body, next_clause, next_draft, protect_of, format_words};
 ghost use Rattle.cert_text.specs.Taking.{IsReady, IsReadyAgain, IsSmall, IsTaken};
 
-use crate::draft::{Draft, LineDue, Scope};
+use crate::draft::{Draft, LineDue};
 use crate::fields::{behind, first_field, one_number, two_numbers};
 use crate::lists::{literals_in, numbers_in, read_clause};
 use crate::part::{Part, is_finished, may_end, part_of, take_part};
@@ -19,18 +19,17 @@ const MAX_LEARNED: u64 = (1 << 63) - 1;
 /// draft's variables without a literal, and is so again where the line was taken.
 pub(crate) fn take_line(
     alloc: Global,
-    scope: Scope,
     draft: &mut Draft,
     growing: &mut OpenClause,
     line: &[u8],
 ) -> Result<bool, OutOfMemory>
     requires small { IsSmall draft.old }
     requires growing { IsReady draft.old growing.old }
-    ensures taken { IfOk result (λ taken. IsTaken (next_draft scope draft.old (fields line.now)) taken draft.new) }
+    ensures taken { IfOk result (λ taken. IsTaken (next_draft draft.old (fields line.now)) taken draft.new) }
     ensures ready { IfOk result (λ taken. IsReadyAgain taken draft.new growing.new) }
 {
     match draft.due {
-        LineDue::Format => Ok(take_format(alloc, scope, draft, line)),
+        LineDue::Format => Ok(take_format(alloc, draft, line)),
         LineDue::Sizes => {
             let taken = take_sizes(alloc, draft, line)?;
             if taken {
@@ -48,14 +47,14 @@ pub(crate) fn take_line(
 }
 
 /// Takes the line of the version and the class.
-fn take_format(alloc: Global, scope: Scope, draft: &mut Draft, line: &[u8]) -> bool
-    ensures taken { IsTaken (next_format scope draft.old (fields line.now)) result draft.new }
+fn take_format(alloc: Global, draft: &mut Draft, line: &[u8]) -> bool
+    ensures taken { IsTaken (next_format draft.old (fields line.now)) result draft.new }
     ensures vars { draft.new.vars ≡ draft.old.vars }
 {
     let Some(rest) = behind(line, b"c", b"leank") else {
         return false;
     };
-    let Some((protect, part)) = format_in(alloc, scope, rest) else {
+    let Some((protect, part)) = format_in(alloc, rest) else {
         return false;
     };
     draft.due = LineDue::Sizes;
@@ -64,9 +63,9 @@ fn take_format(alloc: Global, scope: Scope, draft: &mut Draft, line: &[u8]) -> b
     true
 }
 
-/// What the words of the version and the class say, where such documents are read.
-fn format_in(alloc: Global, scope: Scope, line: &[u8]) -> Option<(Option<List<u32>>, Part)>
-    ensures { result ≡ option_and_then (if_allowed scope) (format_words (fields line.now)) }
+/// What the words of the version and the class say.
+fn format_in(alloc: Global, line: &[u8]) -> Option<(Option<List<u32>>, Part)>
+    ensures { result ≡ format_words (fields line.now) }
 {
     let (version, Some(rest)) = first_field(line) else {
         return None;
@@ -77,11 +76,7 @@ fn format_in(alloc: Global, scope: Scope, line: &[u8]) -> Option<(Option<List<u3
     }
     let protect = protect_of(alloc, version)?;
     let part = part_of(alloc, word)?;
-    if allows(scope, &protect, &part) {
-        Some((protect, part))
-    } else {
-        None
-    }
+    Some((protect, part))
 }
 
 /// Whether there is a line of protected variables, by the word of the version. None of them was read.
@@ -95,22 +90,6 @@ fn protect_of(alloc: Global, version: &[u8]) -> Option<Option<List<u32>>>
         return Some(Some(List::new(alloc)));
     }
     None
-}
-
-/// Whether such documents are read.
-fn allows(scope: Scope, protect: &Option<List<u32>>, part: &Part) -> bool
-    ensures { result ≡ allows scope protect.now part.now }
-{
-    match scope {
-        Scope::All => match part {
-            Part::General(_) => false,
-            _ => true,
-        },
-        Scope::Built => match part {
-            Part::Pure(_) => protect.is_none(),
-            _ => false,
-        },
-    }
 }
 
 /// The line behind that of the protected variables.

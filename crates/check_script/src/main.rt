@@ -2,20 +2,23 @@
 //!
 //! A line has the number of variables of a formula, its clauses with commas between them, and the text of a
 //! document with `\n` for the end of each line; semicolons stand between the three. It is printed again, and
-//! behind it stands the verdict, in a line that begins with `=`. A line that begins with `#` is a remark.
+//! behind it stands the verdict, in a line that begins with `=`: that of one worker, with which those of two
+//! and of eight are compared. A line that begins with `#` is a remark.
+//!
+//! Where `meet` stands before it, two workers check with a gate that holds each half until the other one has
+//! entered, and a second line tells how often each entered, and whether it met the other one.
 #![tactic(auto)]
 
-ghost use Rattle.std.specs.Prelude.{◌≤◌, IfOk, IsTrue};
+ghost use Rattle.std.specs.Prelude.{IfOk, IsTrue};
 ghost use Rattle.lk_model.specs.Documents.Form.{is_in_form};
-ghost use Rattle.lean_checker.specs.Checked.{IsChecked, IsCheckedBody};
 
+mod verdicts;
+
+use crate::verdicts::{print_meeting, print_verdict};
 use cert_text::read;
-use lean_checker::{Verdict, VerdictText, check, put_verdict};
-use lk_model::{Body, Document, Formula, OutOfMemory, ReadStop};
-use lk_outside::OpenGate;
+use lk_model::{Document, Formula, ReadStop};
 use lk_samples::formula_of_text;
 use std::alloc::Global;
-use std::io::{self, Write};
 use std::test::Fail;
 use std::thread::Threads;
 
@@ -26,72 +29,31 @@ fn document_of(alloc: Global, bytes: &[u8]) -> Result<Document, ReadStop>
     read(alloc, bytes)
 }
 
-/// Whether the document is one of those that are checked.
-fn is_checked(d: &Document) -> bool
-    ensures { IsTrue result → IsChecked d.now }
-{
-    match d {
-        Document::Done(done) => done.protect.is_none() && is_checked_body(&done.body),
-        Document::Unfinished(_) => false,
-    }
-}
-
-fn is_checked_body(body: &Body) -> bool
-    ensures { IsTrue result → IsCheckedBody body.now }
-{
-    match body {
-        Body::Pure { .. } => true,
-        Body::Matching { .. } => true,
-        Body::Linear { .. } => true,
-        Body::General { .. } => false,
-    }
-}
-
-/// The verdict on a document.
-fn verdict_of<R: Threads + Sync>(
+/// Prints what a command says of a document.
+fn print_checked<R: Threads + Sync + AllocGlobal + Print>(
     rt: &R,
-    alloc: Global,
-    f: &Formula,
-    d: &Document,
-) -> Result<Verdict, OutOfMemory>
-    requires form { IsTrue (is_in_form d.now) }
-    requires checked { IsChecked d.now }
-{
-    check(rt, alloc, &OpenGate, f, d, 1)
-}
-
-/// Prints the line that tells a verdict.
-fn print_text<R: Print>(rt: &R, text: &VerdictText) -> io::Result<()>
-    requires { text.now.len ≤ 64 }
-{
-    print!(rt; "= ")?;
-    io::writer(rt).write_all(&text.bytes[..text.len])
-}
-
-/// Prints the verdict on a document, or that it is none of those that are checked.
-fn print_verdict<R: Threads + Sync + AllocGlobal + Print>(
-    rt: &R,
+    meets: bool,
     f: &Formula,
     d: &Document,
 ) -> Result<(), Fail>
     requires { IsTrue (is_in_form d.now) }
 {
-    if !is_checked(d) {
-        println!(rt; "= not checked")?;
-        return Ok(());
+    if meets {
+        print_meeting(rt, f, d)
+    } else {
+        print_verdict(rt, f, d)
     }
-    let verdict = verdict_of(rt, rt.alloc(), f, d)?;
-    Ok(print_text(rt, &put_verdict(&verdict))?)
 }
 
 /// Prints the verdict on the document that the bytes are, or the line at which they stop being one.
 fn print_read<R: Threads + Sync + AllocGlobal + Print>(
     rt: &R,
+    meets: bool,
     f: &Formula,
     bytes: &[u8],
 ) -> Result<(), Fail> {
     match document_of(rt.alloc(), bytes) {
-        Ok(d) => print_verdict(rt, f, &d)?,
+        Ok(d) => print_checked(rt, meets, f, &d)?,
         Err(ReadStop::Line(line)) => println!(rt; "= line {line}")?,
         Err(ReadStop::OutOfMemory) => println!(rt; "= out of memory")?,
     }
@@ -101,13 +63,14 @@ fn print_read<R: Threads + Sync + AllocGlobal + Print>(
 /// Prints the verdict on what the parts of a line have.
 fn print_parts<R: Threads + Sync + AllocGlobal + Print>(
     rt: &R,
+    meets: bool,
     vars: &str,
     text: &str,
 ) -> Result<(), Fail> {
     let (clauses, document) = text.split_once("; ").unwrap_or((text, ""));
     let f = formula_of_text(rt.alloc(), vars.trim().parse()?, clauses)?;
     let lines = document.replace(rt.alloc(), "\\n", "\n")?;
-    print_read(rt, &f, lines.as_str().as_bytes())
+    print_read(rt, meets, &f, lines.as_str().as_bytes())
 }
 
 /// Prints a line, and what is said of it.
@@ -116,8 +79,12 @@ fn tell<R: Threads + Sync + AllocGlobal + Print>(rt: &R, line: &str) -> Result<(
     if line.starts_with("#") {
         return Ok(());
     }
-    match line.split_once("; ") {
-        Some((vars, text)) => print_parts(rt, vars, text),
+    let (meets, text) = match line.strip_prefix("meet ") {
+        Some(text) => (true, text),
+        None => (false, line),
+    };
+    match text.split_once("; ") {
+        Some((vars, text)) => print_parts(rt, meets, vars, text),
         None => Ok(()),
     }
 }

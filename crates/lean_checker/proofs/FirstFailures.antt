@@ -21,11 +21,12 @@ use Rattle.lk_model.specs.declared.document.Body.TheVariants.{Pure}
 use Rattle.lk_model.specs.declared.document.Document.TheVariants.{Done}
 use Rattle.lk_model.specs.declared.document.DoneDocument.{DoneDocument}
 use Rattle.lk_model.specs.declared.verdict.Kind.{Kind}
-use Rattle.lk_model.specs.declared.verdict.Kind.TheVariants.{OtherFormula, KeptClause, ProtectedSet, NotAutarky, NotExactlyRemoved, BadOrder, BadPair}
+use Rattle.lk_model.specs.declared.verdict.Kind.TheVariants.{OtherFormula, BadOrder, BadPair}
 use Rattle.lk_model.specs.declared.verdict.Why.{Why}
 use Rattle.lk_model.proofs.Booleans.{and_true}
 use Rattle.lk_model.proofs.Rising.{rises}
 use Rattle.kernel_laws.proofs.Passed.{in_form}
+use Rattle.lean_checker.specs.Common.{common_checks}
 
 -- a kind that fails at a place
 abbrev pub failure : Kind → ℕ → Why
@@ -53,78 +54,24 @@ other_kind : (F : Cnf) (d : DoneDocument) → (other_formula F d.vars d.clauses)
 unfolding other_formula
 other_kind F d = refl
 
-kept_kind : (F : Cnf) (d : DoneDocument) → (kept_clause F d).kind ≡ KeptClause
-unfolding kept_clause
-kept_kind F d = refl
-
-protected_kind : (P : Variables) (F : Cnf) (d : DoneDocument) → (protected_set P F d).kind ≡ ProtectedSet
-unfolding protected_set
-protected_kind P F d = refl
-
-autarky_kind : (F : Cnf) (d : DoneDocument) → (not_autarky F d).kind ≡ NotAutarky
-unfolding not_autarky
-autarky_kind F d = refl
-
-removed_kind : (F : Cnf) (d : DoneDocument) → (not_exactly_removed F d).kind ≡ NotExactlyRemoved
-unfolding not_exactly_removed
-removed_kind F d = refl
-
 -- the place of not-autarky is what an assignment finds
 pub unsatisfied_is : (F : Cnf) (d : DoneDocument) → first_unsatisfied (assignment_of d.set) F ≡ (not_autarky F d).place
 unfolding not_autarky
 unsatisfied_is F d = refl
 
-abbrev behind_third : Cnf → DoneDocument → List Check
-behind_third F d = not_autarky F d ∷ not_exactly_removed F d ∷ []
-
-abbrev behind_second : Variables → Cnf → DoneDocument → List Check
-behind_second P F d = protected_set P F d ∷ behind_third F d
-
-abbrev behind_first : Variables → Cnf → DoneDocument → List Check
-behind_first P F d = kept_clause F d ∷ behind_second P F d
-
--- the first two of them pass
-pub record PassTwo (F : Cnf) (d : DoneDocument) : Type 0 where
-  pub formula : None ≡ (other_formula F d.vars d.clauses).place
-  pub lines : None ≡ (kept_clause F d).place
-
--- the first three
-pub record PassThree (P : Variables) (F : Cnf) (d : DoneDocument) : Type 0 where
-  pub two : PassTwo F d
-  pub unset : None ≡ (protected_set P F d).place
-
--- then the first failure of all is that of what stands behind these
-behind_two : (P : Variables) (F : Cnf) (d : DoneDocument) → PassTwo F d → first_of (behind_second P F d) ≡ first_of (first_five P F d)
-behind_two P F d h = passes_first (kept_clause F d) (behind_second P F d) h.lines ∙ passes_first (other_formula F d.vars d.clauses) (behind_first P F d) h.formula
-
-behind_three : (P : Variables) (F : Cnf) (d : DoneDocument) → PassThree P F d → first_of (behind_third F d) ≡ first_of (first_five P F d)
-behind_three P F d h = passes_first (protected_set P F d) (behind_third F d) h.unset ∙ behind_two P F d h.two
-
+-- the first of them fails
 pub first_fails : (P : Variables) (F : Cnf) (d : DoneDocument) (p : ℕ) → Some p ≡ (other_formula F d.vars d.clauses).place → Some (failure OtherFormula p) ≡ first_of (first_five P F d)
-first_fails P F d p e = ap (λ (k : Kind). Some (failure k p)) (sym (other_kind F d)) ∙ fails_first (other_formula F d.vars d.clauses) (behind_first P F d) p e
+first_fails P F d p e =
+    ap (λ (k : Kind). Some (failure k p)) (sym (other_kind F d))
+    ∙ fails_first (other_formula F d.vars d.clauses) (kept_clause F d ∷ protected_set P F d ∷ not_autarky F d ∷ not_exactly_removed F d ∷ []) p e
 
-pub second_fails : (P : Variables) (F : Cnf) (d : DoneDocument) (p : ℕ) → None ≡ (other_formula F d.vars d.clauses).place → Some p ≡ (kept_clause F d).place → Some (failure KeptClause p) ≡ first_of (first_five P F d)
-second_fails P F d p a e =
-    ap (λ (k : Kind). Some (failure k p)) (sym (kept_kind F d)) ∙ fails_first (kept_clause F d) (behind_second P F d) p e
-    ∙ passes_first (other_formula F d.vars d.clauses) (behind_first P F d) a
-
-pub protected_fails_first : (P : Variables) (F : Cnf) (d : DoneDocument) (p : ℕ) → PassTwo F d → Some p ≡ (protected_set P F d).place → Some (failure ProtectedSet p) ≡ first_of (first_five P F d)
-protected_fails_first P F d p h e =
-    ap (λ (k : Kind). Some (failure k p)) (sym (protected_kind P F d)) ∙ fails_first (protected_set P F d) (behind_third F d) p e ∙ behind_two P F d h
-
-pub autarky_fails_first : (P : Variables) (F : Cnf) (d : DoneDocument) (p : ℕ) → PassThree P F d → Some p ≡ (not_autarky F d).place → Some (failure NotAutarky p) ≡ first_of (first_five P F d)
-autarky_fails_first P F d p h e =
-    ap (λ (k : Kind). Some (failure k p)) (sym (autarky_kind F d)) ∙ fails_first (not_autarky F d) (not_exactly_removed F d ∷ []) p e ∙ behind_three P F d h
-
-pub removal_fails_first : (P : Variables) (F : Cnf) (d : DoneDocument) (p : ℕ) → PassThree P F d → None ≡ (not_autarky F d).place
-    → Some p ≡ (not_exactly_removed F d).place → Some (failure NotExactlyRemoved p) ≡ first_of (first_five P F d)
-removal_fails_first P F d p h c e =
-    ap (λ (k : Kind). Some (failure k p)) (sym (removed_kind F d)) ∙ fails_first (not_exactly_removed F d) [] p e
-    ∙ passes_first (not_autarky F d) (not_exactly_removed F d ∷ []) c ∙ behind_three P F d h
-
-pub none_of_five : (P : Variables) (F : Cnf) (d : DoneDocument) → PassThree P F d → None ≡ (not_autarky F d).place → None ≡ (not_exactly_removed F d).place
-    → None ≡ first_of (first_five P F d)
-none_of_five P F d h c e = passes_first (not_exactly_removed F d) [] e ∙ passes_first (not_autarky F d) (not_exactly_removed F d ∷ []) c ∙ behind_three P F d h
+-- or the first of the others, by their places
+pub others_first : (P : Variables) (F : Cnf) (d : DoneDocument) (k p u m : Option ℕ) → None ≡ (other_formula F d.vars d.clauses).place → k ≡ (kept_clause F d).place
+    → p ≡ (protected_set P F d).place → u ≡ (not_autarky F d).place → m ≡ (not_exactly_removed F d).place → first_of (common_checks k p u m) ≡ first_of (first_five P F d)
+unfolding kept_clause protected_set not_autarky not_exactly_removed
+others_first P F d k p u m other a b c e =
+    (λ i. first_of (common_checks (a i) (b i) (c i) (e i)))
+    ∙ passes_first (other_formula F d.vars d.clauses) (kept_clause F d ∷ protected_set P F d ∷ not_autarky F d ∷ not_exactly_removed F d ∷ []) other
 
 -- THE CLASS PURE
 
@@ -147,18 +94,13 @@ none_of_pure F d order pairs a e = passes_first (bad_pair no_variable F d pairs)
 
 -- ALL
 
-failure_is : (F : Cnf) (d : DoneDocument) → d.protect ≡ None → option_or (first_of (first_five (protected_by d.protect) F d)) (first_of (class_checks no_variable F d d.body)) ≡ first_failure F (Done d)
+failure_is : (F : Cnf) (d : DoneDocument) → option_or (first_of (first_five (protected_by d.protect) F d)) (first_of (class_checks (protected_by d.protect) F d d.body)) ≡ first_failure F (Done d)
 unfolding first_failure_under
-failure_is F d none = sym (first_of-append (first_five (protected_by d.protect) F d) (class_checks no_variable F d d.body))
-    ∙ ap (λ (o : Option (List ℕ)). first_of (first_five (protected_by d.protect) F d ++ class_checks (protected_by o) F d d.body)) (sym none)
+failure_is F d = sym (first_of-append (first_five (protected_by d.protect) F d) (class_checks (protected_by d.protect) F d d.body))
 
 -- one of the five is the first that fails
-pub common_found : (F : Cnf) (d : DoneDocument) (why : Why) → d.protect ≡ None → Some why ≡ first_of (first_five (protected_by d.protect) F d) → Some why ≡ first_failure F (Done d)
-common_found F d why none e = ap (λ (o : Option Why). option_or o (first_of (class_checks no_variable F d d.body))) e ∙ failure_is F d none
-
--- or the first of those of the class
-pub class_found : (F : Cnf) (d : DoneDocument) (o : Option Why) → d.protect ≡ None → None ≡ first_of (first_five (protected_by d.protect) F d) → o ≡ first_of (class_checks no_variable F d d.body) → o ≡ first_failure F (Done d)
-class_found F d o unprotected none e = e ∙ ap (λ (w : Option Why). option_or w (first_of (class_checks no_variable F d d.body))) none ∙ failure_is F d unprotected
+pub common_found : (F : Cnf) (d : DoneDocument) (why : Why) → Some why ≡ first_of (first_five (protected_by d.protect) F d) → Some why ≡ first_failure F (Done d)
+common_found F d why e = ap (λ (o : Option Why). option_or o (first_of (class_checks (protected_by d.protect) F d d.body))) e ∙ failure_is F d
 
 -- WHAT THE FORM GIVES
 

@@ -1,5 +1,5 @@
 -- The first failing check of the class linear, and what the form of its body gives.
-use Rattle.std.proofs.Common.{◌≡◌, ◌∙◌, ℕ, true, refl, ◌&&◌, List, [], ◌∷◌, map, sym, ap, subst, Some, None}
+use Rattle.std.proofs.Common.{◌≡◌, ◌∙◌, ℕ, true, List, [], ◌∷◌, map, subst, Some, None}
 use Rattle.std.specs.List.{list_all}
 use Rattle.lk_model.specs.Lists.{rises_within}
 use Rattle.lk_model.specs.Formulas.Formula.{Cnf}

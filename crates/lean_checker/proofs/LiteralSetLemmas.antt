@@ -1,5 +1,5 @@
 -- Sets of literals that grow.
-use Rattle.std.proofs.Common.{◌≡◌, ◌≢◌, ℕ, zero, suc, ◌+◌, ◌*◌, ◌<◌, ◌≤◌, true, false, ◌||◌, List, [], ◌∷◌, ◌++◌, length, get_or, take, refl, sym, ◌∙◌, ap, subst, arith, ℤ, Bool, inl, inr, get_or-set_same, get_or-set_other}
+use Rattle.std.proofs.Common.{◌≡◌, ◌≢◌, ℕ, zero, suc, ◌+◌, ◌*◌, ◌<◌, ◌≤◌, true, false, not, ◌&&◌, ◌||◌, List, [], ◌∷◌, ◌++◌, length, get_or, take, refl, sym, ◌∙◌, ap, subst, arith, ℤ, Bool, inl, inr, get_or-set_same, get_or-set_other}
 use Rattle.std.specs.Prelude.{replicate, slice_set}
 use Rattle.std.specs.List.{list_all, All}
 use Rattle.std.specs.Ordering.{int_eq}
@@ -10,8 +10,9 @@ use Rattle.lk_model.specs.Formulas.Literal.{contains, is_literal, rank_of}
 use Rattle.lk_model.proofs.Booleans.{and_true}
 use Rattle.lk_model.proofs.Ranks.{rank_apart, rank_small}
 use Rattle.lk_model.proofs.Flags.{contains-push, or_no, or_yes}
-use Rattle.lk_model.proofs.Literals.{literal_at}
-use Rattle.lean_checker.specs.LiteralSets.{has_literal, with_literal, IsSetOf}
+use Rattle.lk_model.specs.Chains.Chain.{without}
+use Rattle.lk_model.proofs.Literals.{literal_at, contains_filter}
+use Rattle.lean_checker.specs.LiteralSets.{has_literal, with_literal, without_literal, less, IsSetOf}
 
 -- a set without flags is empty
 pub set_none : (n : ℕ) → n ≤ 1000000 → IsSetOf n [] (replicate (2 * n + 2) false)
@@ -72,3 +73,55 @@ all_front t (suc k) [] all = refl
 all_front t (suc k) (l ∷ ls) all =
     let both = and_true (t l) (list_all t ls) all in
     rw (both.0, all_front t k ls both.1) refl
+
+-- the flag of a literal that is taken out goes down, and no other
+pub set_less : (n : ℕ) (c : List ℤ) (l : ℤ) (flags : List Bool) → is_literal n l ≡ true → IsSetOf n c flags → IsSetOf n (without c l) (without_literal flags l)
+set_less n c l flags lit s = record {
+  small = s.small;
+  size = length-set flags (rank_of l) false ∙ s.size;
+  told = λ k kit. elim (cases_Bool (int_eq k l)) [
+    | inl e ↦
+        let same : k ≡ l = (Decides-int_eq k l).0 e in
+        ap (λ (z : ℤ). get_or (slice_set flags (rank_of l) false) (rank_of z) false) same
+        ∙ get_or-set_same flags (rank_of l) false false (rank_within n l flags s.size lit)
+        ∙ sym (contains_filter (λ (z : ℤ). not (int_eq z l)) c k ∙ ap (λ (b : Bool). not b && contains c k) e)
+    | inr e ↦
+        let other : rank_of k ≢ rank_of l = λ r. absurd (cc (e, (Decides-int_eq k l).1 (rank_apart k l r))) in
+        get_or-set_other flags (rank_of l) (rank_of k) false false other ∙ s.told k kit
+        ∙ sym (contains_filter (λ (z : ℤ). not (int_eq z l)) c k ∙ ap (λ (b : Bool). not b && contains c k) e)
+  ];
+}
+
+-- the same literals
+set_same : (n : ℕ) (c d : List ℤ) (flags : List Bool) → ((k : ℤ) → contains c k ≡ contains d k) → IsSetOf n c flags → IsSetOf n d flags
+set_same n c d flags same s = record { small = s.small; size = s.size; told = λ k kit. s.told k kit ∙ same k }
+
+-- one literal more of some is taken out
+pub less_more : (n : ℕ) (c d : List ℤ) (i : ℕ) (l : ℤ) (flags : List Bool) → list_all (is_literal n) d ≡ true → i < length d → l ≡ get_or d i l
+    → IsSetOf n (less c (take i d)) flags → IsSetOf n (less c (take (i + 1) d)) (without_literal flags l)
+less_more n c d i l flags all lt is s =
+    set_same n (without (less c (take i d)) l) (less c (take (i + 1) d)) (without_literal flags l) (λ k.
+    let more : contains (take (i + 1) d) k ≡ (contains (take i d) k || (int_eq k l || false)) =
+    ap (λ (ls : List ℤ). contains ls k) (take_more d i l lt ∙ ap (λ (z : ℤ). take i d ++ z ∷ []) (sym is)) ∙ contains-push (take i d) l k in
+    contains_filter (λ (z : ℤ). not (int_eq z l)) (less c (take i d)) k ∙ ap (λ (b : Bool). not (int_eq k l) && b) (contains_filter (λ (z : ℤ). not (contains (take i d) z)) c k)
+    ∙ moved (int_eq k l) (contains (take i d) k) (contains c k)
+    ∙ sym (contains_filter (λ (z : ℤ). not (contains (take (i + 1) d) z)) c k ∙ ap (λ (b : Bool). not b && contains c k) more))
+    (set_less n (less c (take i d)) l flags (item_literal n d i l all lt is) s)
+  where
+    moved : (a b x : Bool) → (not a && (not b && x)) ≡ (not (b || (a || false)) && x)
+    moved true true x = refl
+    moved true false x = refl
+    moved false true x = refl
+    moved false false x = refl
+
+-- at first none is
+pub less_none : (n : ℕ) (c : List ℤ) (flags : List Bool) → IsSetOf n c flags → IsSetOf n (less c []) flags
+less_none n c flags s = set_same n c (less c []) flags (λ k. sym (contains_filter (λ (z : ℤ). true) c k)) s
+
+-- a list less itself is empty
+pub all_less : (n : ℕ) (c : List ℤ) (flags : List Bool) → IsSetOf n (less c c) flags → IsSetOf n [] flags
+all_less n c flags s = set_same n (less c c) [] flags (λ k. contains_filter (λ (z : ℤ). not (contains c z)) c k ∙ gone (contains c k)) s
+  where
+    gone : (b : Bool) → (not b && b) ≡ false
+    gone true = refl
+    gone false = refl

@@ -1,11 +1,13 @@
 -- Places of literals in an order.
-use Rattle.std.proofs.Common.{◌≡◌, ◌∙◌, ℕ, zero, suc, ◌+◌, ◌-◌, ◌<◌, ◌≤◌, Bool, true, ◌||◌, List, [], ◌∷◌, length, get_or, take, drop, map, min, refl, sym, ap, arith, ℤ, inl, inr, add-one, drop-cons}
-use Rattle.std.specs.Prelude.{nat_le}
+use Rattle.std.proofs.Common.{◌≡◌, ◌∙◌, ℕ, zero, suc, ◌+◌, ◌-◌, ◌<◌, ◌≤◌, Bool, true, false, ◌||◌, List, [], ◌∷◌, length, get_or, take, drop, map, min, refl, sym, ap, arith, ℤ, None, inl, inr, add-one, drop-cons}
+use Rattle.std.specs.Prelude.{find, nat_le}
 use Rattle.std.specs.Ordering.{int_eq}
-use Rattle.std.proofs.lemmas.Bool.{cases_Bool, cond-true, cond-false, leb-true, le-leb}
+use Rattle.std.proofs.lemmas.Bool.{cases_Bool, cond-true, cond-false, leb-true, leb-false, le-leb}
 use Rattle.std.proofs.lemmas.Bool.Decides.{Decides-int_eq}
 use Rattle.lk_model.specs.Formulas.Literal.{complement, contains}
+use Rattle.lk_model.specs.Formulas.Formula.{Cnf, clause_at, positions_of}
 use Rattle.lk_model.proofs.Booleans.{or_true, or_left, or_right}
+use Rattle.lk_model.proofs.Founds.{none_to}
 use Rattle.lean_checker.specs.Order.{place_in, least_place, broken_place, first_broken}
 
 -- PLACES
@@ -124,3 +126,16 @@ pub first_next : (order : List ℤ) (cs : List (List ℤ)) (i : ℕ) → i < len
 first_next order cs i lt =
     ap (first_broken order) (drop-cons cs i [] lt)
     ∙ ap (λ (k : ℕ). min (broken_place order (get_or cs i [])) (first_broken order (drop k cs))) (sym (add-one i))
+
+-- where no clause breaks the order, the place is the one after the last
+none_of : (order : List ℤ) (cs : List (List ℤ)) → ((k : ℕ) → k < length cs → nat_le (broken_place order (get_or cs k [])) (length order) ≡ false) → first_broken order cs ≡ length order + 1
+none_of order [] none = refl
+none_of order (c ∷ cs) none =
+    let here = leb-false (broken_place order c) (length order) (none 0 (omega arith)) in
+    let rest = none_of order cs (λ k inside. none (suc k) (omega (arith, inside))) in
+    omega (arith, here, rest)
+
+pub none_broken : (F : Cnf) (order : List ℤ) → find (λ p. nat_le (broken_place order (clause_at F p)) (length order)) (positions_of F) ≡ None → first_broken order F.clauses ≡ length order + 1
+none_broken F order none = none_of order F.clauses (λ k inside.
+    ap (λ (p : ℕ). nat_le (broken_place order (clause_at F p)) (length order)) (sym (add-one k))
+    ∙ none_to (λ p. nat_le (broken_place order (clause_at F p)) (length order)) (length F.clauses) (k + 1) none (omega arith) (omega (arith, inside)))

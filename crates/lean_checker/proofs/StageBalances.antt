@@ -1,21 +1,25 @@
 -- The balances of stages, by the first weights of the variables.
 use Rattle.std.proofs.Common.{◌≡◌, ◌≢◌, ◌∙◌, ℕ, ◌+◌, ◌-◌, ◌<◌, ◌≤◌, Bool, true, false, cond, List, [], ◌∷◌, ◌++◌, length, get_or, drop, map, min, refl, sym, ap, arith, ℤ, pos, negsuc, ◌+ℤ◌, Option, Some, inl, inr}
-use Rattle.std.specs.Prelude.{◌==◌, nat_le, int_lt}
+use Rattle.std.specs.Prelude.{find, ◌==◌, nat_le, int_lt}
 use Rattle.std.specs.List.{list_any, list_all}
 use Rattle.std.specs.Option.{option_map_or}
 use Rattle.std.proofs.lemmas.Bool.{cases_Bool, cond-true, cond-false, eq-eqb, ne_eqb, leb-true}
 use Rattle.std.proofs.lemmas.Int.{ints}
 use Rattle.lk_model.specs.Lists.{is_nonzero, sum_of}
-use Rattle.lk_model.specs.Formulas.Literal.{variable, is_literal, is_distinct, is_clause}
-use Rattle.lk_model.specs.Formulas.Formula.{Cnf, clause_at}
+use Rattle.lk_model.specs.Formulas.Literal.{variable, is_literal}
+use Rattle.lk_model.specs.Formulas.Formula.{Cnf, clause_at, is_formula, positions_of}
 use Rattle.lk_model.specs.Formulas.Balance.{Weighting, balance}
 use Rattle.lk_model.specs.Formulas.Autarky.{first_balance}
 use Rattle.lk_model.specs.Documents.Documents.{weighting_of}
+use Rattle.lk_model.specs.Checks.LinearChecks.{bad_stage}
+use Rattle.lk_model.specs.declared.document.DoneDocument.{DoneDocument}
 use Rattle.lk_model.specs.declared.document.Stage.{Stage}
+use Rattle.lk_model.proofs.Clauses.{literals_of}
 use Rattle.lk_model.proofs.Booleans.{and_true, or_true, or_false}
 use Rattle.lk_model.proofs.Lists.{drop_read}
 use Rattle.kernel_laws.proofs.Linear.Balances.{zero_is}
-use Rattle.lean_checker.proofs.StageChecks.{fails_stage}
+use Rattle.lean_checker.proofs.KeptFlags.{find_to}
+use Rattle.lean_checker.proofs.StageChecks.{bad_stage_is, fails_stage}
 use Rattle.lean_checker.specs.Linear.{signed, first_stage, first_weight, AreFirsts, least_stage, weights_at, is_bad_stage}
 
 -- the least stage of a clause, and the weights at it, by functions in place of tables
@@ -178,10 +182,10 @@ weights_next m places weights c i l lt is = ap (weights_at m places weights) (dr
     apart true rest = refl
     apart false rest = refl
 
--- THE TEST OF A POSITION
-
-pub stage_tested : (F : Cnf) (n : ℕ) (stages : List Stage) (places : List ℕ) (weights : List ℤ) (clause : List ℤ) (p : ℕ) (b : Bool) → n ≡ F.vars → AreFirsts n 0 stages places weights → is_clause F.vars clause ≡ true
-    → clause ≡ clause_at F p → b ≡ is_bad_stage (length stages) places weights clause → b ≡ fails_stage F stages p
-stage_tested F n stages places weights clause p b same a form is e =
-    let all : list_all (is_literal n) clause ≡ true = ap (λ (m : ℕ). list_all (is_literal m) clause) same ∙ (and_true (list_all (is_literal F.vars) clause) (is_distinct clause) form).0 in
-    e ∙ stage_told n stages places weights clause a all ∙ ap (λ (c : List ℤ). option_map_or (λ b. int_lt b (pos 0)) (first_balance (map weighting_of stages) c) false) is
+-- so the first position that fails is the first one by the tables
+pub stage_found : (F : Cnf) (d : DoneDocument) (stages : List Stage) (places : List ℕ) (weights : List ℤ) → is_formula F ≡ true → AreFirsts F.vars 0 stages places weights
+    → find (λ p. is_bad_stage (length stages) places weights (clause_at F p)) (positions_of F) ≡ (bad_stage F d stages).place
+stage_found F d stages places weights form a =
+    find_to (length F.clauses) (λ p. is_bad_stage (length stages) places weights (clause_at F p)) (fails_stage F stages)
+    (λ p low high. stage_told F.vars stages places weights (clause_at F p) a (literals_of F p form))
+    ∙ sym (bad_stage_is F d stages)

@@ -1,11 +1,11 @@
 -- The stages of a linear document.
-use Rattle.std.proofs.Common.{◌≡◌, ◌≢◌, ◌∙◌, ℕ, zero, suc, ◌+◌, ◌-◌, ◌<◌, ◌≤◌, Bool, true, false, cond, not, List, [], ◌∷◌, length, get_or, drop, map, refl, sym, ap, subst, arith, ℤ, pos, negsuc, Option, Some, None, inl, inr, get_or-set_same, get_or-set_other}
+use Rattle.std.proofs.Common.{◌≡◌, ◌≢◌, ◌∙◌, ℕ, zero, suc, ◌+◌, ◌-◌, ◌<◌, ◌≤◌, Bool, true, false, cond, not, List, [], ◌∷◌, length, get_or, drop, map, refl, sym, ap, subst, arith, ℤ, pos, negsuc, Option, Some, inl, inr, get_or-set_same, get_or-set_other}
 use Rattle.std.specs.Prelude.{find, slice_set, int_lt}
-use Rattle.std.specs.List.{list_all, range_with_len}
+use Rattle.std.specs.List.{list_all}
 use Rattle.std.specs.Option.{option_map_or}
-use Rattle.std.proofs.lemmas.Bool.{cases_Bool, cases_eq, cond-true, eq-eqb, ne_eqb}
+use Rattle.std.proofs.lemmas.Bool.{cases_eq, cond-true, eq-eqb, ne_eqb}
 use Rattle.std.proofs.lemmas.List.{length-set, get_or-map, length-map, drop_more, drop_all}
-use Rattle.lk_model.specs.Lists.{is_nonzero, rises_within, up_to}
+use Rattle.lk_model.specs.Lists.{is_nonzero, rises_within}
 use Rattle.lk_model.specs.Limits.{is_in_range}
 use Rattle.lk_model.specs.Formulas.Formula.{Cnf, clause_at, positions_of, variables_to}
 use Rattle.lk_model.specs.Formulas.Assignment.{assignment_of}
@@ -140,33 +140,3 @@ fails_stage F stages p = option_map_or (λ b. int_lt b (pos 0)) (first_balance (
 pub bad_stage_is : (F : Cnf) (d : DoneDocument) (stages : List Stage) → (bad_stage F d stages).place ≡ find (fails_stage F stages) (positions_of F)
 unfolding bad_stage
 bad_stage_is F d stages = refl
-
--- none in a range, and its next number
-none_more : (t : ℕ → Bool) (a n : ℕ) → find t (range_with_len a n) ≡ None → t (a + n) ≡ false → find t (range_with_len a (n + 1)) ≡ None
-none_more t a zero none e = (let at : a + 0 ≡ a = omega arith in let here : t a ≡ false = ap t (sym at) ∙ e in rw here refl)
-none_more t a (suc n) none e = elim (cases_Bool (t a)) [
-  | inl y ↦ absurd (let f : ⊥ = cc (rw y at none) in f)
-  | inr gone ↦
-      let at : a + suc n ≡ (a + 1) + n = omega arith in
-      let more : suc n + 1 ≡ suc (n + 1) = omega arith in
-      let rest : find t (range_with_len (a + 1) n) ≡ None = rw gone at none in
-      rw (more, gone) (none_more t (a + 1) n rest (ap t (sym at) ∙ e))
-]
-
-found_more : (t : ℕ → Bool) (a n m : ℕ) → n < m → find t (range_with_len a n) ≡ None → t (a + n) ≡ true → Some (a + n) ≡ find t (range_with_len a m)
-found_more t a n zero lt none e = absurd (omega (arith, lt))
-found_more t a zero (suc m) lt none e = (let at : a + 0 ≡ a = omega arith in let here : t a ≡ true = ap t (sym at) ∙ e in rw here (ap Some at))
-found_more t a (suc n) (suc m) lt none e = elim (cases_Bool (t a)) [
-  | inl y ↦ absurd (let f : ⊥ = cc (rw y at none) in f)
-  | inr gone ↦
-      let at : a + suc n ≡ (a + 1) + n = omega arith in
-      let rest : find t (range_with_len (a + 1) n) ≡ None = rw gone at none in
-      rw gone (ap Some at ∙ found_more t (a + 1) n m (omega (arith, lt)) rest (ap t (sym at) ∙ e))
-]
-
--- so none up to a position, and its next one
-pub none_next : (t : ℕ → Bool) (i : ℕ) → find t (up_to i) ≡ None → t (i + 1) ≡ false → find t (up_to (i + 1)) ≡ None
-none_next t i none e = none_more t 1 i none (let at : 1 + i ≡ i + 1 = omega arith in ap t at ∙ e)
-
-pub found_next : (t : ℕ → Bool) (i m : ℕ) → i < m → find t (up_to i) ≡ None → t (i + 1) ≡ true → Some (i + 1) ≡ find t (up_to m)
-found_next t i m lt none e = let at : 1 + i ≡ i + 1 = omega arith in ap Some (sym at) ∙ found_more t 1 i m lt none (ap t at ∙ e)

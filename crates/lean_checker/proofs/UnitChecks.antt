@@ -1,17 +1,15 @@
 -- The units of a linear document.
-use Rattle.std.proofs.Common.{◌≡◌, ◌≢◌, ◌∙◌, ℕ, zero, suc, ◌+◌, ◌-◌, ◌<◌, ◌≤◌, Bool, true, false, cond, not, ◌&&◌, ◌||◌, List, [], ◌∷◌, ◌++◌, length, get_or, take, map, refl, sym, ap, subst, arith, ℤ, pos, negsuc, neg_ℤ, ◌+ℤ◌, Option, Some, None, inl, inr, get_or-set_same, get_or-set_other}
+use Rattle.std.proofs.Common.{◌≡◌, ◌≢◌, ◌∙◌, ℕ, zero, suc, ◌+◌, ◌-◌, ◌<◌, ◌≤◌, Bool, true, false, cond, not, ◌&&◌, ◌||◌, List, [], ◌∷◌, ◌++◌, length, get_or, take, map, refl, sym, ap, arith, ℤ, pos, neg_ℤ, ◌+ℤ◌, Option, Some, None, inl, inr, get_or-set_same, get_or-set_other}
 use Rattle.std.specs.Prelude.{find, slice_set, ◌==◌, nat_le}
 use Rattle.std.specs.List.{list_any, list_all, range_with_len}
-use Rattle.std.specs.Option.{option_map_or}
 use Rattle.std.specs.Ordering.{int_eq}
-use Rattle.std.proofs.lemmas.Bool.{cases_Bool, cases_eq, cond-true, cond-false, eq-eqb, eqb-true, ne_eqb, leb-true, le-leb, not-true}
+use Rattle.std.proofs.lemmas.Bool.{cases_Bool, cases_eq, cond-true, cond-false, eq-eqb, eqb-true, ne_eqb, leb-true, le-leb}
 use Rattle.std.proofs.lemmas.Bool.Decides.{Decides-int_eq}
 use Rattle.std.proofs.lemmas.Int.{ints}
-use Rattle.std.proofs.lemmas.List.{length-set, take_more, append-nil, get_or-map, length-map}
-use Rattle.std.proofs.Math.Bool.{or_assoc}
+use Rattle.std.proofs.lemmas.List.{get_or_default, length-set, take_more, append-nil, get_or-map, length-map}
 use Rattle.lk_model.specs.Lists.{among, is_zero, is_nonzero, sum_of, rises_within}
 use Rattle.lk_model.specs.Limits.{is_in_range}
-use Rattle.lk_model.specs.Formulas.Literal.{variable, contains, mentions, is_literal}
+use Rattle.lk_model.specs.Formulas.Literal.{variable, mentions, is_literal}
 use Rattle.lk_model.specs.Formulas.Formula.{Cnf, clause_at, is_formula, variable_occurs, variables_to}
 use Rattle.lk_model.specs.Formulas.Crossed.{no_variable}
 use Rattle.lk_model.specs.Formulas.Balance.{balance_in}
@@ -31,9 +29,10 @@ use Rattle.lk_model.proofs.Founds.{up_to_bounds}
 use Rattle.lk_model.proofs.Variables.{literal_passing, in_variables}
 use Rattle.lean_checker.specs.Flags.{is_flagged, AreKeptFlags}
 use Rattle.lean_checker.specs.Pairs.{AreOccurring}
-use Rattle.lean_checker.specs.Linear.{numbers_in, numbers_at, numbers_of, numbers_by, unit_numbers, AreNumbers, AddsNumbers, AreUnitNumbers, AreNone, ClearsShares, is_shared, is_unbalanced, is_unbalanced_clause, is_unbalanced_share, is_bad_unit_line, AreUnits, is_bad_unit}
+use Rattle.lean_checker.specs.Linear.{numbers_in, numbers_at, numbers_of, numbers_by, unit_numbers, AreNumbers, AddsNumbers, AreUnitNumbers, AreNone, ClearsShares, is_shared, is_unbalanced, is_unbalanced_clause, is_unbalanced_share, is_bad_unit_line, AreUnitPlaces, no_unit, unit_numbered, is_bad_unit}
 use Rattle.lean_checker.proofs.FirstTables.{found_passes}
 use Rattle.lean_checker.proofs.KeptFlags.{find_to}
+use Rattle.lean_checker.proofs.UnitPlaces.{line_is}
 use Rattle.lean_checker.proofs.Numbers.{numbers_at_both, sum_append, balance_sum}
 
 -- SHARES
@@ -196,6 +195,12 @@ unit_bounds n units i u rising lt is =
     let at : get_or (map (λ (w : Unit). w.var) units) i 0 ≡ u.var = get_or-map (λ (w : Unit). w.var) units i u 0 lt ∙ ap (λ (w : Unit). w.var) (sym is) in
     (omega (arith, b.0, at), omega (arith, b.1, at))
 
+-- and so of the unit of a number
+pub numbered_bounds : (n : ℕ) (units : List Unit) (k : ℕ) (u : Unit) → rises_within 0 n (map (λ (u : Unit). u.var) units) ≡ true → 0 < k → k ≤ length units → u ≡ unit_numbered units k → (1 ≤ u.var) × (u.var ≤ n)
+numbered_bounds n units k u rising low high is =
+    let inside : k - 1 < length units = omega (arith, low, high) in
+    unit_bounds n units (k - 1) u rising inside (is ∙ get_or_default units (k - 1) no_unit u inside)
+
 pub unit_at : (m : ℕ) (units : List Unit) (i : ℕ) (u : Unit) → list_all (is_unit m) units ≡ true → i < length units → u ≡ get_or units i u → is_unit m u ≡ true
 unit_at m units i u all lt is = ap (is_unit m) is ∙ all_at (is_unit m) units i u all lt
 
@@ -266,16 +271,16 @@ unit_var (x ∷ units) v u e = elim (cases_Bool (x.var == v)) [
   | inr gone ↦ unit_var units v u (rw gone at e)
 ]
 
-place_told : (F : Cnf) (kept : List ℕ) (flags occurring : List Bool) (units : List Unit) (v : ℕ) (o : Option Unit) → is_formula F ≡ true → AreKeptFlags (length F.clauses) kept flags → AreOccurring F kept occurring
+line_told_by : (F : Cnf) (kept : List ℕ) (flags occurring : List Bool) (units : List Unit) (v : ℕ) (o : Option Unit) → is_formula F ≡ true → AreKeptFlags (length F.clauses) kept flags → AreOccurring F kept occurring
     → list_all (is_unit (length F.clauses)) units ≡ true → unit_of units v ≡ o
-    → line_fails (variable_occurs F kept v) (option_map_or (λ (u : Unit). Some (is_bad_unit_line F flags occurring u)) o None) (λ b. b) ≡ line_fails (variable_occurs F kept v) o (asks F kept v)
-place_told F kept flags occurring units v None form k o all is = refl
-place_told F kept flags occurring units v (Some u) form k o all is =
+    → line_fails (variable_occurs F kept v) o (is_bad_unit_line F flags occurring) ≡ line_fails (variable_occurs F kept v) o (asks F kept v)
+line_told_by F kept flags occurring units v None form k o all is = refl
+line_told_by F kept flags occurring units v (Some u) form k o all is =
     ap (λ (b : Bool). not (variable_occurs F kept v) || b) (line_asks F kept flags occurring u v form k o (found_passes (is_unit (length F.clauses)) (λ (x : Unit). x.var == v) units u all is) (unit_var units v u is))
 
-pub unit_found : (F : Cnf) (d : DoneDocument) (units : List Unit) (flags occurring : List Bool) (table : List (Option Bool)) → is_formula F ≡ true → AreKeptFlags (length F.clauses) d.kept flags → AreOccurring F d.kept occurring
-    → list_all (is_unit (length F.clauses)) units ≡ true → AreUnits F flags occurring units table → find (is_bad_unit occurring table) (variables_to F.vars) ≡ (bad_unit no_variable F d units).place
+pub unit_found : (F : Cnf) (d : DoneDocument) (units : List Unit) (flags occurring : List Bool) (table : List ℕ) → is_formula F ≡ true → AreKeptFlags (length F.clauses) d.kept flags → AreOccurring F d.kept occurring
+    → list_all (is_unit (length F.clauses)) units ≡ true → AreUnitPlaces F.vars units table → find (is_bad_unit F flags occurring units table) (variables_to F.vars) ≡ (bad_unit no_variable F d units).place
 unfolding bad_unit
 unit_found F d units flags occurring table form k o all t =
-    find_to F.vars (is_bad_unit occurring table) (λ v. line_fails (variable_occurs F d.kept v) (unit_of units v) (asks F d.kept v)) (λ v low high.
-    (λ j. line_fails (o.told v low high j) (t.told v low high j) (λ b. b)) ∙ place_told F d.kept flags occurring units v (unit_of units v) form k o all refl)
+    find_to F.vars (is_bad_unit F flags occurring units table) (λ v. line_fails (variable_occurs F d.kept v) (unit_of units v) (asks F d.kept v)) (λ v low high.
+    (λ j. line_fails (o.told v low high j) (line_is F.vars units table v t low high j) (is_bad_unit_line F flags occurring)) ∙ line_told_by F d.kept flags occurring units v (unit_of units v) form k o all refl)

@@ -1,6 +1,5 @@
 pub mod Verdicts
 pub mod Accepted
-pub mod Checked
 pub mod Lines
 pub mod LiteralSets
 pub mod Flags
@@ -8,3 +7,10 @@ pub mod Order
 pub mod Pairs
 pub mod Matching
 pub mod Linear
+pub mod Places
+pub mod Common
+pub mod Blocking
+pub mod Chains
+pub mod Index
+pub mod Learned
+pub mod Unfinished

@@ -1,10 +1,10 @@
 -- What tables tell of the lines of a linear document.
-use Rattle.std.specs.Prelude.{◌≡◌, ◌≤◌, ◌-◌, ◌+◌, ℕ, zero, suc, Bool, true, false, if◌then◌else◌, not, ◌&&◌, ◌||◌, ◌==◌, List, [], ◌∷◌, ◌++◌, length, map, find, min, ℤ, pos, negsuc, neg_ℤ, int_lt, Option, Some, None, slice_index_or}
+use Rattle.std.specs.Prelude.{◌≡◌, ◌≤◌, ◌-◌, ◌+◌, ℕ, zero, suc, Bool, true, false, if◌then◌else◌, not, ◌&&◌, ◌||◌, ◌==◌, List, [], ◌∷◌, ◌++◌, length, map, find, min, ℤ, pos, negsuc, neg_ℤ, int_lt, Option, Some, None, slice_index, slice_index_or}
 use Rattle.std.specs.List.{list_any}
 use Rattle.std.specs.Option.{option_map_or}
-use Rattle.lk_model.specs.Lists.{among, sum_of, is_zero, is_nonzero}
+use Rattle.lk_model.specs.Lists.{sum_of, is_zero, is_nonzero, up_to}
 use Rattle.lk_model.specs.Formulas.Literal.{variable, mentions}
-use Rattle.lk_model.specs.Formulas.Formula.{Cnf, clause_at, variable_occurs, variables_to}
+use Rattle.lk_model.specs.Formulas.Formula.{Cnf, clause_at, variables_to}
 use Rattle.lk_model.specs.Held.VariableSets.{is_in}
 use Rattle.lk_model.specs.Checks.Check.{line_fails}
 use Rattle.lk_model.specs.Documents.Documents.{weighting_of, shares_at}
@@ -149,12 +149,27 @@ abbrev pub is_bad_unit_line : Cnf → List Bool → List Bool → Unit → Bool
 is_bad_unit_line F kept occurring u = is_zero u.d || list_any (λ (s : Share). not (is_flagged kept s.pos)) u.shares
     || list_any (λ w. is_in occurring w && is_nonzero (sum_of (unit_numbers F u w))) (variables_to F.vars)
 
--- whether the unit of a variable is bad, where it has one
-abbrev pub AreUnits : Cnf → List Bool → List Bool → List Unit → List (Option Bool) → Type 0
-AreUnits F kept occurring units table = IsFirstTable F.vars (λ (u : Unit). u.var) (λ (u : Unit). Some (is_bad_unit_line F kept occurring u)) None None units table
+-- the unit of a number, which counts from 1; none of the number 0
+abbrev pub no_unit : Unit
+no_unit = record { var = 0; d = pos 0; shares = [] }
 
-abbrev pub is_bad_unit : List Bool → List (Option Bool) → ℕ → Bool
-is_bad_unit occurring table v = line_fails (is_in occurring v) (slice_index_or table (v - 1) None) (λ b. b)
+abbrev pub unit_numbered : List Unit → ℕ → Unit
+unit_numbered units k = slice_index_or units (k - 1) no_unit
+
+abbrev pub unit_line : List Unit → ℕ → Option Unit
+unit_line units k = if k == 0 then None else Some (unit_numbered units k)
+
+-- of these numbers of units the one of each variable's unit; 0 where the variable has none
+abbrev pub HasUnitPlaces : ℕ → List Unit → List ℕ → List ℕ → Type 0
+HasUnitPlaces n units numbers table = IsFirstTable n (λ k. (unit_numbered units k).var) (λ k. k) 0 0 numbers table
+
+-- and so of all units
+abbrev pub AreUnitPlaces : ℕ → List Unit → List ℕ → Type 0
+AreUnitPlaces n units table = HasUnitPlaces n units (up_to (length units)) table
+
+-- the unit of a variable is missing, not wanted or bad
+abbrev pub is_bad_unit : Cnf → List Bool → List Bool → List Unit → List ℕ → ℕ → Bool
+is_bad_unit F kept occurring units table v = line_fails (is_in occurring v) (unit_line units (slice_index table (v - 1))) (is_bad_unit_line F kept occurring)
 
 -- the numbers of shares, at their positions
 abbrev pub numbers_by : List Share → List (ℕ × ℤ)

@@ -1,5 +1,5 @@
 -- Sets of literals, by a flag at the rank of each.
-use Rattle.std.specs.Prelude.{◌≡◌, ◌≤◌, ℕ, ◌+◌, ◌*◌, Bool, false, true, List, length, ℤ, IsTrue, slice_index_or, slice_set}
+use Rattle.std.specs.Prelude.{◌≡◌, ◌≤◌, ℕ, ◌+◌, ◌*◌, Bool, false, true, not, List, filter, length, ℤ, IsTrue, slice_index_or, slice_set}
 use Rattle.lk_model.specs.Formulas.Literal.{contains, is_literal, rank_of}
 
 abbrev pub has_literal : List Bool → ℤ → Bool
@@ -7,6 +7,13 @@ has_literal flags l = slice_index_or flags (rank_of l) false
 
 abbrev pub with_literal : List Bool → ℤ → List Bool
 with_literal flags l = slice_set flags (rank_of l) true
+
+abbrev pub without_literal : List Bool → ℤ → List Bool
+without_literal flags l = slice_set flags (rank_of l) false
+
+-- the list without the literals of another one
+abbrev pub less : List ℤ → List ℤ → List ℤ
+less c d = filter (λ l. not (contains d l)) c
 
 -- of the literals over the variables from 1 to n, the set has those of the list
 pub record IsSetOf (n : ℕ) (ls : List ℤ) (flags : List Bool) : Type 0 where

@@ -1,4 +1,4 @@
-//! The checks of every finished document.
+//! The checks of every finished document, each in one pass.
 ghost use Rattle.std.specs.Prelude.{◌≡◌, ◌≤◌, ◌<◌, length, map, IfOk, IsTrue};
 ghost use Rattle.lk_model.specs.Lists.{rises_within};
 ghost use Rattle.lk_model.specs.Formulas.Literal.{variable, is_same_list};
@@ -6,10 +6,14 @@ ghost use Rattle.lk_model.specs.Formulas.Formula.{clause_at, is_formula};
 ghost use Rattle.lk_model.specs.Formulas.Lean.{are_positions};
 ghost use Rattle.lk_model.specs.Held.PartialValues.{assignment_by};
 ghost use Rattle.lk_model.specs.Formulas.Assignment.{assignment_of};
+ghost use Rattle.lk_model.specs.Documents.Form.{is_done_in_form};
+ghost use Rattle.lk_model.specs.Checks.Check.{first_of};
 ghost use Rattle.lk_model.specs.Checks.CommonChecks.{other_formula, kept_clause, not_exactly_removed};
+ghost use Rattle.lean_checker.specs.Accepted.{HasSizes};
 ghost use Rattle.lean_checker.specs.Flags.{AreKeptFlags, is_flagged, is_misplaced};
+ghost use Rattle.lean_checker.specs.Common.{common_checks};
 
-use lk_model::{DoneDocument, Formula, Lit, OutOfMemory};
+use lk_model::{DoneDocument, Formula, Kind, Lit, OutOfMemory, Why};
 use partial_assign::Partial;
 use std::alloc::Global;
 
@@ -42,7 +46,7 @@ pub(crate) fn kept_clause(f: &Formula, d: &DoneDocument) -> Option<u32>
 }
 
 /// Whether two clauses are the same literals in the same order.
-fn is_same_list(one: &[Lit], other: &[Lit]) -> bool
+pub(crate) fn is_same_list(one: &[Lit], other: &[Lit]) -> bool
     ensures { result ≡ is_same_list one.now other.now }
 {
     one == other
@@ -90,7 +94,7 @@ pub(crate) fn not_exactly_removed(
 }
 
 /// Whether the clause at a position is touched and kept, or neither.
-fn is_misplaced(f: &Formula, values: &Partial, flags: &[bool], p: u32) -> bool
+pub(crate) fn is_misplaced(f: &Formula, values: &Partial, flags: &[bool], p: u32) -> bool
     requires vars { length values.now ≡ f.now.vars }
     requires flags { length flags.now ≡ length f.now.clauses }
     requires first { 0 < p }
@@ -98,4 +102,59 @@ fn is_misplaced(f: &Formula, values: &Partial, flags: &[bool], p: u32) -> bool
     ensures { result ≡ is_misplaced (assignment_by values.now) (is_flagged flags.now p) (clause_at f.now p) }
 {
     flags[p as usize - 1] == values.touches(f.clause(p))
+}
+
+/// What a document sets, and which positions it keeps.
+#[derive(Drop)]
+pub(crate) struct Marks {
+    pub values: Partial,
+    pub kept: Vec<bool>,
+}
+
+/// What a document sets and keeps, for a formula with the numbers that it states.
+pub(crate) fn marks_of(alloc: Global, f: &Formula, d: &DoneDocument) -> Result<Marks, OutOfMemory>
+    requires form { IsTrue (is_done_in_form d.now) }
+    requires sizes { HasSizes f.now d.now }
+    ensures vars { IfOk result (λ marks. length marks.values ≡ f.now.vars) }
+    ensures values { IfOk result (λ marks. assignment_by marks.values ≡ assignment_of d.now.set) }
+    ensures kept { IfOk result (λ marks. AreKeptFlags (length f.now.clauses) d.now.kept marks.kept.items) }
+{
+    Ok(Marks {
+        values: assignment_of(alloc, f.vars(), d.set.as_slice())?,
+        kept: kept_flags(alloc, f.len(), d.kept.as_slice())?,
+    })
+}
+
+/// The first failure behind that of the numbers, by the places of the other checks.
+pub(crate) fn first_common(
+    changed: Option<u32>,
+    protected: Option<u32>,
+    unsatisfied: Option<u32>,
+    misplaced: Option<u32>,
+) -> Option<Why>
+    ensures { result ≡ first_of (common_checks changed protected unsatisfied misplaced) }
+{
+    if let Some(place) = changed {
+        return failure(Kind::KeptClause, place);
+    }
+    if let Some(place) = protected {
+        return failure(Kind::ProtectedSet, place);
+    }
+    if let Some(place) = unsatisfied {
+        return failure(Kind::NotAutarky, place);
+    }
+    if let Some(place) = misplaced {
+        return failure(Kind::NotExactlyRemoved, place);
+    }
+    None
+}
+
+/// The failure of a kind at a position or variable.
+pub(crate) fn failure(kind: Kind, place: u32) -> Option<Why>
+    ensures { result ≡ Some (record { kind = kind; place = place }) }
+{
+    Some(Why {
+        kind,
+        place: u64::from(place),
+    })
 }

@@ -2,14 +2,20 @@
 ghost use Rattle.std.specs.Prelude.{◌≡◌, ℕ, None, false, length, unwrap_or, IfOk, IsTrue};
 ghost use Rattle.lk_model.specs.Formulas.Assignment.{assignment_of, extended, extended_value};
 ghost use Rattle.lk_model.specs.Formulas.Crossed.{protected_by};
+ghost use Rattle.lk_model.specs.Formulas.Formula.{is_formula};
 ghost use Rattle.lk_model.specs.Formulas.Lean.{all_of, are_positions};
 ghost use Rattle.lk_model.specs.Held.PartialValues.{assignment_by};
 ghost use Rattle.lk_model.specs.Documents.Form.{is_done_in_form};
 ghost use Rattle.lk_model.specs.Checks.CommonChecks.{model_fails};
-ghost use Rattle.lk_model.specs.Checks.Checks.{first_failure_to_extend};
+ghost use Rattle.lk_model.specs.Checks.Check.{first_of};
+ghost use Rattle.lk_model.specs.Checks.Checks.{first_failure_to_extend, first_five};
 ghost use Rattle.lk_model.specs.Reduction.{IsModel};
+ghost use Rattle.lean_checker.specs.Accepted.{HasSizes};
 
-use crate::checking::{common_failure, failure};
+use crate::common::{
+    failure, first_common, kept_clause, marks_of, not_exactly_removed, other_formula,
+};
+use crate::protected::protected_set;
 use lk_model::{DoneDocument, Formula, Kind, OutOfMemory, Why};
 use partial_assign::Partial;
 use std::alloc::Global;
@@ -42,6 +48,25 @@ pub fn check_extend(
         Some(place) => Ok(failure(Kind::ModelFails, place)),
         None => Ok(None),
     }
+}
+
+/// The first failing check of those that every finished document has.
+fn common_failure(alloc: Global, f: &Formula, d: &DoneDocument) -> Result<Option<Why>, OutOfMemory>
+    requires { IsTrue (is_done_in_form d.now) }
+    ensures first { IfOk result (λ why. why ≡ first_of (first_five (protected_by d.now.protect) f.now d.now)) }
+    ensures sizes { IfOk result (λ why. why ≡ None → HasSizes f.now d.now) }
+    ensures formula { IsTrue (is_formula f.now) }
+{
+    if let Some(place) = other_formula(f, d.vars, d.clauses) {
+        return Ok(failure(Kind::OtherFormula, place));
+    }
+    let marks = marks_of(alloc, f, d)?;
+    Ok(first_common(
+        kept_clause(f, d),
+        protected_set(d, &marks.values),
+        marks.values.first_unsatisfied_touched(f),
+        not_exactly_removed(f, d, &marks.values, marks.kept.as_slice()),
+    ))
 }
 
 /// The first kept position whose clause the model by itself does not satisfy.

@@ -1,9 +1,10 @@
 //! The checks of a linear document.
-ghost use Rattle.std.specs.Prelude.{◌≡◌, ◌≤◌, ◌<◌, ◌-◌, ◌++◌, ◌∷◌, ℕ, pos, [], length, map, slice_index_or, IfOk, OnOk, IsTrue};
+ghost use Rattle.std.specs.Prelude.{◌≡◌, ◌≤◌, ◌<◌, ◌-◌, ◌+◌, ◌^◌, ◌++◌, ◌∷◌, ℕ, pos, [], find, length, map, slice_index_or, IfOk, OnOk, IsTrue};
 ghost use Rattle.std.specs.List.{list_all};
 ghost use Rattle.lk_model.specs.Lists.{is_nonzero, rises_within, sum_of};
 ghost use Rattle.lk_model.specs.Limits.{is_in_range};
 ghost use Rattle.lk_model.specs.Formulas.Literal.{is_literal, variable};
+ghost use Rattle.lk_model.specs.Formulas.Formula.{clause_at};
 ghost use Rattle.lk_model.specs.Formulas.Lean.{are_positions};
 ghost use Rattle.lk_model.specs.Formulas.Crossed.{no_variable};
 ghost use Rattle.lk_model.specs.Documents.Documents.{duals_at};
@@ -12,17 +13,22 @@ ghost use Rattle.lk_model.specs.Checks.LinearChecks.{bad_sign, bad_stage, bad_du
 ghost use Rattle.lk_model.specs.declared.document.Weight.{Weight};
 ghost use Rattle.exact_rows.specs.Made.{AreInRange};
 ghost use Rattle.lean_checker.specs.Pairs.{AreOccurring, NotesVariables};
+ghost use Rattle.lean_checker.specs.Places.{places_in};
 ghost use Rattle.lean_checker.specs.Linear.{is_bad_stage, least_stage, weights_at, AreFirsts, NotesStage, sign_of, is_bad_sign, AreDuals, is_bad_dual, signed, AreNumbers, AddsNumbers, is_unbalanced, numbers_of};
 
 use crate::common::{assignment_of, kept_flags};
+use crate::places::{Span, Workers};
 use exact_rows::sign_of_sum;
 use lk_model::{DoneDocument, Dual, Formula, List, Lit, OutOfMemory, Stage, VarSet, Weight};
+use par_parts::Gate;
 use partial_assign::Partial;
 use std::alloc::Global;
 use std::cmp::Ordering;
+use std::thread::Threads;
 
 /// The first position that is kept and has no dual, or has one and is not kept, or one below 1.
-pub(crate) fn bad_dual(
+pub(crate) fn bad_dual<R: Threads + Sync, G: Gate>(
+    workers: &Workers<R, G>,
     alloc: Global,
     f: &Formula,
     d: &DoneDocument,
@@ -37,7 +43,7 @@ pub(crate) fn bad_dual(
     let duals = duals_of(alloc, m, dual)?;
     let kept = flags.as_slice();
     let table = duals.as_slice();
-    Ok((1..m + 1).find(|p| is_bad_dual(kept, table, *p)))
+    workers.least_place(m, &|p| is_bad_dual(kept, table, p))
 }
 
 /// For each position whether the number of its dual is at least 1, where it has one.
@@ -67,7 +73,8 @@ fn is_bad_dual(kept: &[bool], table: &[Option<bool>], p: u32) -> bool
 }
 
 /// The first variable of the kept clauses in which the balance of all duals is not 0.
-pub(crate) fn bad_balance(
+pub(crate) fn bad_balance<R: Threads + Sync, G: Gate>(
+    workers: &Workers<R, G>,
     alloc: Global,
     f: &Formula,
     d: &DoneDocument,
@@ -81,7 +88,7 @@ pub(crate) fn bad_balance(
     let occurring = occurring_at(alloc, f, d.kept.as_slice())?;
     let numbers = dual_numbers(alloc, f, dual)?;
     let table = numbers.as_slice();
-    Ok((1..n + 1).find(|v| is_unbalanced(&occurring, table, *v)))
+    workers.least_place(n, &|v| is_unbalanced(&occurring, table, v))
 }
 
 /// The variables of the clauses at these positions.
@@ -184,7 +191,8 @@ struct Firsts {
 }
 
 /// The first variable that has not the sign of its first weight, or is set where it has none.
-pub(crate) fn bad_sign(
+pub(crate) fn bad_sign<R: Threads + Sync, G: Gate>(
+    workers: &Workers<R, G>,
     alloc: Global,
     f: &Formula,
     d: &DoneDocument,
@@ -198,7 +206,7 @@ pub(crate) fn bad_sign(
     let values = assignment_of(alloc, n, d.set.as_slice())?;
     let firsts = firsts_of(alloc, n, stages)?;
     let weights = firsts.weights.as_slice();
-    Ok((1..n + 1).find(|v| is_bad_sign(&values, weights, *v)))
+    workers.least_place(n, &|v| is_bad_sign(&values, weights, v))
 }
 
 /// The first weights of the variables up to n in stages.
@@ -268,19 +276,40 @@ fn is_same_value(one: Option<bool>, other: Option<bool>) -> bool
 }
 
 /// The first position at whose clause the balance that counts is below 0.
-pub(crate) fn bad_stage(
+pub(crate) fn bad_stage<R: Threads + Sync, G: Gate>(
+    workers: &Workers<R, G>,
     alloc: Global,
     f: &Formula,
     d: &DoneDocument,
     stages: &[Stage],
 ) -> Result<Option<u32>, OutOfMemory>
-    requires { IsTrue (list_all (is_stage f.now.vars) stages.now) }
+    requires stages { IsTrue (list_all (is_stage f.now.vars) stages.now) }
     ensures { IfOk result (λ place. place ≡ (bad_stage f.now d.now stages.now).place) }
 {
     let firsts = firsts_of(alloc, f.vars(), stages)?;
-    for i in 0..f.len() {
-        if is_bad_stage(alloc, &firsts, stages.len(), f.vars(), f.clause(i + 1))? {
-            return Ok(Some(i + 1));
+    let last = stages.len();
+    workers.least_found(f.len(), &|span| bad_stage_in(alloc, f, &firsts, last, span))
+}
+
+/// The first such position in a range.
+fn bad_stage_in(
+    alloc: Global,
+    f: &Formula,
+    firsts: &Firsts,
+    last: usize,
+    span: Span,
+) -> Result<Option<u32>, OutOfMemory>
+    requires places { length firsts.now.places.items ≡ f.now.vars }
+    requires weights { length firsts.now.weights.items ≡ f.now.vars }
+    requires range { AreInRange firsts.now.weights.items }
+    requires first { 0 < span.first }
+    requires within { span.first + span.count ≤ length f.now.clauses + 1 }
+    requires few { span.first + span.count < 2 ^ 32 }
+    ensures { IfOk result (λ place. place ≡ find (λ p. is_bad_stage last firsts.now.places.items firsts.now.weights.items (clause_at f.now p)) (places_in span)) }
+{
+    for p in span.first..span.first + span.count {
+        if is_bad_stage(alloc, firsts, last, f.vars(), f.clause(p))? {
+            return Ok(Some(p));
         }
     }
     Ok(None)

@@ -1,8 +1,8 @@
 //! Sets of literals.
-ghost use Rattle.std.specs.Prelude.{◌≡◌, ◌<◌, ◌≤◌, [], length, IfOk, IsTrue, All};
-ghost use Rattle.std.specs.List.{list_all};
+ghost use Rattle.std.specs.Prelude.{◌≡◌, ◌<◌, ◌≤◌, ◌++◌, [], ℕ, ℤ, List, true, length, IfOk, IsTrue, All};
+ghost use Rattle.std.specs.List.{list_all, list_any};
 ghost use Rattle.lk_model.specs.Formulas.Literal.{is_literal, rank_of};
-ghost use Rattle.lean_checker.specs.LiteralSets.{has_literal, with_literal, IsSetOf};
+ghost use Rattle.lean_checker.specs.LiteralSets.{has_literal, with_literal, without_literal, less, IsSetOf};
 
 use lk_model::{Lit, LitTable, OutOfMemory};
 use std::alloc::Global;
@@ -54,6 +54,36 @@ impl LiteralSet {
         self.flags[l] = true;
     }
 
+    /// Puts literals in.
+    pub fn add_all(&mut self, literals: &[Lit])
+        requires { All (λ l. rank_of l < length self.old) literals.now }
+        ensures size { length self.new ≡ length self.old }
+        ensures added { (n : ℕ) (c : List ℤ) → list_all (is_literal n) literals.now ≡ true → IsSetOf n c self.old → IsSetOf n (c ++ literals.now) self.new }
+    {
+        for l in literals {
+            self.add(*l);
+        }
+    }
+
+    /// Takes a literal out.
+    pub fn remove(&mut self, l: Lit)
+        requires { rank_of l < length self.old }
+        ensures { self.new ≡ without_literal self.old l }
+    {
+        self.flags[l] = false;
+    }
+
+    /// Takes literals out.
+    pub fn remove_all(&mut self, literals: &[Lit])
+        requires { All (λ l. rank_of l < length self.old) literals.now }
+        ensures size { length self.new ≡ length self.old }
+        ensures removed { (n : ℕ) (c : List ℤ) → list_all (is_literal n) literals.now ≡ true → IsSetOf n c self.old → IsSetOf n (less c literals.now) self.new }
+    {
+        for l in literals {
+            self.remove(*l);
+        }
+    }
+
     /// Whether it has a literal.
     pub fn has(&self, l: Lit) -> bool
         requires { rank_of l < length self.now }
@@ -68,5 +98,12 @@ impl LiteralSet {
         ensures { result ≡ list_all (has_literal self.now) literals.now }
     {
         literals.iter().all(|l| self.has(*l))
+    }
+    /// Whether it has one of these literals.
+    pub fn has_any(&self, literals: &[Lit]) -> bool
+        requires { All (λ l. rank_of l < length self.now) literals.now }
+        ensures { result ≡ list_any (has_literal self.now) literals.now }
+    {
+        literals.iter().any(|l| self.has(*l))
     }
 }

@@ -18,9 +18,12 @@ ghost use Rattle.lean_checker.specs.Pairs.{AreOccurring, NotesVariables};
 ghost use Rattle.lean_checker.specs.Matching.{AreOwners, AreFirstOwners, AreRows, AreFirstRows, AreRankBounds, AreNamedThere, NotesNamed, has_own, has_escape, row_in, holds_true, is_bad_owner, is_bad_row};
 
 use crate::common::{assignment_of, kept_flags};
+use crate::places::Workers;
 use lk_model::{DoneDocument, Formula, Lit, MatchRow, OutOfMemory, Own, VarSet};
+use par_parts::Gate;
 use partial_assign::Partial;
 use std::alloc::Global;
+use std::thread::Threads;
 
 /// What the own lines say: the variable of each position's line, 0 where it has none, and the first
 /// position with a line of each variable, the last of all where none has it.
@@ -32,7 +35,8 @@ struct Owners {
 
 /// The first position that is removed and has no own line, or is kept and has one, or whose line has a
 /// variable on which no literal of the clause is true, or the variable of an earlier line.
-pub(crate) fn bad_owner(
+pub(crate) fn bad_owner<R: Threads + Sync, G: Gate>(
+    workers: &Workers<R, G>,
     alloc: Global,
     f: &Formula,
     d: &DoneDocument,
@@ -49,7 +53,7 @@ pub(crate) fn bad_owner(
     let flags = kept_flags(alloc, m, d.kept.as_slice())?;
     let owners = owners_of(alloc, n, m, own)?;
     let kept = flags.as_slice();
-    Ok((1..m + 1).find(|p| is_bad_owner(f, &values, kept, &owners, *p)))
+    workers.least_place(m, &|p| is_bad_owner(f, &values, kept, &owners, p))
 }
 
 /// The tables of the own lines over so many variables and positions.
@@ -111,7 +115,7 @@ fn makes_true(values: &Partial, l: Lit) -> bool
 }
 
 /// The number of a position or variable in a table, 0 outside of it.
-fn number_at(table: &[u32], k: u32) -> u32
+pub(crate) fn number_at(table: &[u32], k: u32) -> u32
     ensures { result ≡ slice_index table.now (k - 1) }
 {
     match table.get((k as usize).saturating_sub(1)) {
@@ -141,7 +145,8 @@ struct Seen {
 /// The first variable whose row is missing, or is not wanted since the variable does not occur in the kept
 /// clauses, or names a position that is not kept or lacks the variable, or has an earlier row's own
 /// position, or whose escape is the own position of a row with no lower rank.
-pub(crate) fn bad_row(
+pub(crate) fn bad_row<R: Threads + Sync, G: Gate>(
+    workers: &Workers<R, G>,
     alloc: Global,
     f: &Formula,
     d: &DoneDocument,
@@ -155,7 +160,7 @@ pub(crate) fn bad_row(
     let m = f.len();
     let tables = rows_of(alloc, n, m, rows)?;
     let seen = seen_at(alloc, f, d.kept.as_slice(), tables.of_variable.as_slice())?;
-    Ok((1..n + 1).find(|v| is_bad_row(*v, &tables, &seen)))
+    workers.least_place(n, &|v| is_bad_row(v, &tables, &seen))
 }
 
 /// The tables of the rows over so many variables and positions.

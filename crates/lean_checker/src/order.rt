@@ -1,21 +1,26 @@
 //! The check of an order of pure literals.
-ghost use Rattle.std.specs.Prelude.{◌≡◌, ◌≤◌, ◌<◌, ◌+◌, ◌*◌, length, take, IfOk, IsTrue};
+ghost use Rattle.std.specs.Prelude.{◌≡◌, ◌≤◌, ◌<◌, ◌+◌, ◌*◌, length, take, nat_le, IfOk, IsTrue};
 ghost use Rattle.std.specs.List.{list_all};
 ghost use Rattle.lk_model.specs.Formulas.Literal.{is_literal, contains};
+ghost use Rattle.lk_model.specs.Formulas.Formula.{clause_at};
 ghost use Rattle.lk_model.specs.Checks.PureChecks.{bad_order};
 ghost use Rattle.lean_checker.specs.LiteralSets.{IsSetOf};
 ghost use Rattle.lean_checker.specs.Order.{broken_place, first_broken, IsSoundCount, ArePlaces};
 
 use crate::literal_set::LiteralSet;
+use crate::places::Workers;
 use lk_model::{DoneDocument, Formula, Lit, LitTable, OutOfMemory};
+use par_parts::Gate;
 use std::alloc::Global;
+use std::thread::Threads;
 
 /// The first index in the order, counted from 1, at which it is bad: the literal stands earlier, or is
 /// not in the set line, or a clause with its complement holds no earlier literal. The index after the
 /// last stands for a literal of the set line that is missing.
 ///
-/// One pass over the clauses finds the first that breaks the order, by the places of its literals.
-pub(crate) fn bad_order(
+/// One pass over the clauses finds whether one breaks the order, by the places of its literals.
+pub(crate) fn bad_order<R: Threads + Sync, G: Gate>(
+    workers: &Workers<R, G>,
     alloc: Global,
     f: &Formula,
     d: &DoneDocument,
@@ -28,7 +33,7 @@ pub(crate) fn bad_order(
     let set = d.set.as_slice();
     let sound = sound_count(alloc, f.vars(), set, order)?;
     let places = places_of(alloc, f.vars(), &order[..sound])?;
-    let broken = first_broken(f, &order[..sound], &places);
+    let broken = broken_by_any(workers, f, &order[..sound], &places)?;
     if broken <= sound {
         return Ok(Some(broken));
     }
@@ -79,6 +84,33 @@ fn places_of(alloc: Global, n: u32, order: &[Lit]) -> Result<LitTable<usize>, Ou
         places[order[i]] = i + 1;
     }
     Ok(places)
+}
+
+/// The least place at which a clause breaks the order, or the place after the last. The workers look for a
+/// clause that breaks it, and where there is one, the clauses are gone through for the least place.
+fn broken_by_any<R: Threads + Sync, G: Gate>(
+    workers: &Workers<R, G>,
+    f: &Formula,
+    order: &[Lit],
+    places: &LitTable<usize>,
+) -> Result<usize, OutOfMemory>
+    requires { ArePlaces f.now.vars order.now places.now }
+    ensures { IfOk result (λ place. place ≡ first_broken order.now f.now.clauses) }
+{
+    match workers.least_place(f.len(), &|p| breaks(f, order, places, p))? {
+        Some(_) => Ok(first_broken(f, order, places)),
+        None => Ok(order.len() + 1),
+    }
+}
+
+/// Whether the clause at a position breaks the order.
+fn breaks(f: &Formula, order: &[Lit], places: &LitTable<usize>, p: u32) -> bool
+    requires places { ArePlaces f.now.vars order.now places.now }
+    requires first { 0 < p }
+    requires last { p ≤ length f.now.clauses }
+    ensures { result ≡ nat_le (broken_place order.now (clause_at f.now p)) (length order.now) }
+{
+    broken_place(f.vars(), f.clause(p), order, places) <= order.len()
 }
 
 /// The least place at which a clause breaks the order, or the place after the last.

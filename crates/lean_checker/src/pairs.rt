@@ -11,8 +11,11 @@ ghost use Rattle.lk_model.specs.declared.document.Pair.{Pair};
 ghost use Rattle.lean_checker.specs.Pairs.{AreNamed, AreOccurring, AreShown, NotesVariables, NotesLiterals, is_bad_at};
 
 use crate::literal_set::LiteralSet;
+use crate::places::Workers;
 use lk_model::{DoneDocument, Formula, Lit, LitTable, OutOfMemory, Pair, VarSet};
+use par_parts::Gate;
 use std::alloc::Global;
+use std::thread::Threads;
 
 /// What the kept clauses hold: the variables that occur in them, and the literals whose named position
 /// is that of a kept clause with the literal.
@@ -26,7 +29,8 @@ struct Seen {
 /// kept clauses, or names a position that is not kept or lacks the literal.
 ///
 /// One pass over the kept clauses finds what they hold.
-pub(crate) fn bad_pair(
+pub(crate) fn bad_pair<R: Threads + Sync, G: Gate>(
+    workers: &Workers<R, G>,
     alloc: Global,
     f: &Formula,
     d: &DoneDocument,
@@ -39,7 +43,7 @@ pub(crate) fn bad_pair(
 {
     let named = named_positions(alloc, f.vars(), pairs)?;
     let seen = seen_at(alloc, f, d.kept.as_slice(), &named)?;
-    Ok((1..f.vars() + 1).find(|v| is_bad(*v, &named, &seen)))
+    workers.least_place(f.vars(), &|v| is_bad(v, &named, &seen))
 }
 
 /// For each literal the position that the pair of its variable names for it, or 0.

@@ -1,8 +1,8 @@
 //! The check of the units of a linear document.
 //!
-//! One table of numbers serves all units: it is filled at the variables of a unit's shares, read there, and made empty there
-//! again. So a unit takes the time of its shares' literals.
-ghost use Rattle.std.specs.Prelude.{◌≡◌, ◌≤◌, ◌<◌, ◌||◌, not, neg_ℤ, length, map, IfOk, OnOk, IsTrue};
+//! One table of numbers serves all units of a range: it is filled at the variables of a unit's shares, read there, and made
+//! empty there again. So a unit takes the time of its shares' literals.
+ghost use Rattle.std.specs.Prelude.{◌≡◌, ◌≤◌, ◌<◌, ◌+◌, ◌^◌, ◌||◌, not, neg_ℤ, find, length, map, IfOk, OnOk, IsTrue};
 ghost use Rattle.std.specs.List.{list_all, list_any};
 ghost use Rattle.lk_model.specs.Lists.{is_zero, rises_within};
 ghost use Rattle.lk_model.specs.Limits.{is_in_range};
@@ -15,17 +15,33 @@ ghost use Rattle.lk_model.specs.Checks.LinearChecks.{bad_unit};
 ghost use Rattle.lk_model.specs.declared.document.Share.{Share};
 ghost use Rattle.lk_model.specs.declared.document.Unit.{Unit};
 ghost use Rattle.lean_checker.specs.Flags.{is_flagged};
-ghost use Rattle.lean_checker.specs.Linear.{AreUnits, is_bad_unit, AreNone, AreNumbers, ClearsNumbers, ClearsShares, numbers_by, is_unbalanced, is_unbalanced_clause, is_unbalanced_share, is_bad_unit_line};
+ghost use Rattle.lean_checker.specs.Places.{places_in};
+ghost use Rattle.lean_checker.specs.Linear.{AreUnitPlaces, unit_numbered, is_bad_unit, AreNone, AreNumbers, ClearsNumbers, ClearsShares, numbers_by, is_unbalanced, is_unbalanced_clause, is_unbalanced_share, is_bad_unit_line};
 
 use crate::common::kept_flags;
 use crate::linear::{add_numbers, is_unbalanced, no_numbers, occurring_at};
+use crate::places::{Span, Workers};
 use lk_model::{DoneDocument, Formula, List, Lit, OutOfMemory, Share, Unit, VarSet};
+use par_parts::Gate;
 use std::alloc::Global;
+use std::thread::Threads;
+
+/// What the units are checked by.
+#[derive(Drop)]
+struct UnitTables {
+    /// Which positions are kept.
+    kept: Vec<bool>,
+    /// The variables of the kept clauses.
+    occurring: VarSet,
+    /// For each variable the number of its unit, counted from 1, or 0.
+    numbers: Vec<usize>,
+}
 
 /// The first variable whose unit is missing, or is not wanted since the variable does not occur in the kept
 /// clauses, or has d 0, or names a position that is not kept, or whose balance is not d in the variable, or
 /// not 0 in another variable of the kept clauses.
-pub(crate) fn bad_unit(
+pub(crate) fn bad_unit<R: Threads + Sync, G: Gate>(
+    workers: &Workers<R, G>,
     alloc: Global,
     f: &Formula,
     d: &DoneDocument,
@@ -38,46 +54,96 @@ pub(crate) fn bad_unit(
 {
     let n = f.vars();
     let kept = d.kept.as_slice();
-    let occurring = occurring_at(alloc, f, kept)?;
-    let flags = kept_flags(alloc, f.len(), kept)?;
-    let bad = bad_lines(alloc, f, flags.as_slice(), &occurring, units)?;
-    let table = bad.as_slice();
-    Ok((1..n + 1).find(|v| is_bad_unit(&occurring, table, *v)))
+    let tables = UnitTables {
+        kept: kept_flags(alloc, f.len(), kept)?,
+        occurring: occurring_at(alloc, f, kept)?,
+        numbers: unit_places(alloc, n, units)?,
+    };
+    workers.least_found(n, &|span| bad_unit_in(alloc, f, &tables, units, span))
 }
 
-/// Whether the unit of a variable is missing, not wanted or bad.
-fn is_bad_unit(occurring: &VarSet, table: &[Option<bool>], v: u32) -> bool
-    requires first { 0 < v }
-    requires occurring { v ≤ length occurring.now }
-    requires table { v ≤ length table.now }
-    ensures { result ≡ is_bad_unit occurring.now table.now v }
-{
-    match table[v as usize - 1] {
-        Some(bad) => !occurring.has(v) || bad,
-        None => occurring.has(v),
-    }
-}
-
-/// For each variable whether its unit is bad, where it has one.
-fn bad_lines(
+/// The first such variable in a range.
+fn bad_unit_in(
     alloc: Global,
     f: &Formula,
-    kept: &[bool],
-    occurring: &VarSet,
+    tables: &UnitTables,
     units: &[Unit],
-) -> Result<Vec<Option<bool>>, OutOfMemory>
-    requires occurring { length occurring.now ≡ f.now.vars }
+    span: Span,
+) -> Result<Option<u32>, OutOfMemory>
+    requires occurring { length tables.now.occurring ≡ f.now.vars }
+    requires numbers { AreUnitPlaces f.now.vars units.now tables.now.numbers.items }
     requires rising { IsTrue (rises_within 0 f.now.vars (map (λ (u : Unit). u.var) units.now)) }
     requires units { IsTrue (list_all (is_unit (length f.now.clauses)) units.now) }
-    ensures { IfOk result (λ table. AreUnits f.now kept.now occurring.now units.now table.items) }
+    requires first { 0 < span.first }
+    requires within { span.first + span.count ≤ f.now.vars + 1 }
+    requires few { span.first + span.count < 2 ^ 32 }
+    ensures { IfOk result (λ place. place ≡ find (is_bad_unit f.now tables.now.kept.items tables.now.occurring units.now tables.now.numbers.items) (places_in span)) }
 {
-    let n = f.vars();
-    let mut table = vec![in alloc; None; n as usize]?;
-    let mut numbers = no_numbers(alloc, n)?;
+    let mut numbers = no_numbers(alloc, f.vars())?;
+    for v in span.first..span.first + span.count {
+        if is_bad_unit(alloc, f, tables, units, v, &mut numbers)? {
+            return Ok(Some(v));
+        }
+    }
+    Ok(None)
+}
+
+/// Whether the unit of a variable is missing, not wanted or bad. The table of numbers is empty before and
+/// behind.
+fn is_bad_unit(
+    alloc: Global,
+    f: &Formula,
+    tables: &UnitTables,
+    units: &[Unit],
+    v: u32,
+    numbers: &mut Vec<List<i128>>,
+) -> Result<bool, OutOfMemory>
+    requires occurring { length tables.now.occurring ≡ f.now.vars }
+    requires numbers { AreUnitPlaces f.now.vars units.now tables.now.numbers.items }
+    requires rising { IsTrue (rises_within 0 f.now.vars (map (λ (u : Unit). u.var) units.now)) }
+    requires units { IsTrue (list_all (is_unit (length f.now.clauses)) units.now) }
+    requires first { 0 < v }
+    requires last { v ≤ f.now.vars }
+    requires none { AreNone f.now.vars numbers.old.items }
+    ensures bad { IfOk result (λ bad. bad ≡ is_bad_unit f.now tables.now.kept.items tables.now.occurring units.now tables.now.numbers.items v) }
+    ensures none { OnOk result (AreNone f.now.vars numbers.new.items) }
+{
+    let k = tables.numbers[v as usize - 1];
+    if k == 0 {
+        return Ok(tables.occurring.has(v));
+    }
+    if !tables.occurring.has(v) {
+        return Ok(true);
+    }
+    let unit = unit_numbered(units, k);
+    is_bad_line(
+        alloc,
+        f,
+        tables.kept.as_slice(),
+        &tables.occurring,
+        unit,
+        numbers,
+    )
+}
+
+/// The unit of a number.
+fn unit_numbered(units: &[Unit], k: usize) -> &Unit
+    requires first { 0 < k }
+    requires last { k ≤ length units.now }
+    ensures { result.now ≡ unit_numbered units.now k }
+{
+    &units[k - 1]
+}
+
+/// For each variable up to n the number of its unit, counted from 1, or 0.
+fn unit_places(alloc: Global, n: u32, units: &[Unit]) -> Result<Vec<usize>, OutOfMemory>
+    requires { IsTrue (rises_within 0 n (map (λ (u : Unit). u.var) units.now)) }
+    ensures { IfOk result (λ table. AreUnitPlaces n units.now table.items) }
+{
+    let mut table = vec![in alloc; 0usize; n as usize]?;
     for i in (0..units.len()).rev() {
         let unit = &units[i];
-        let bad = is_bad_line(alloc, f, kept, occurring, unit, &mut numbers)?;
-        table[unit.var as usize - 1] = Some(bad);
+        table[unit.var as usize - 1] = i + 1;
     }
     Ok(table)
 }

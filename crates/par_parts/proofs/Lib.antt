@@ -4,4 +4,5 @@ pub mod Labelling
 pub mod Passing
 pub mod Numbers
 pub mod PartLists
+pub mod GroupLists
 pub mod HalfResults

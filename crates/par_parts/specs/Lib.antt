@@ -1,3 +1,4 @@
 pub mod Positions
 pub mod Numbering
+pub mod Groups
 pub mod Answering

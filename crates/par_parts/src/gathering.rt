@@ -20,8 +20,12 @@ pub fn parts(alloc: Global, f: &Formula) -> Result<List<List<u32>>, OutOfMemory>
     Ok(List::from_vec(lists))
 }
 
-// The positions of each number.
-fn gather(alloc: Global, labels: &[u32], count: usize) -> Result<Vec<List<u32>>, OutOfMemory>
+/// The positions of each number from 1 on, ascending.
+pub(crate) fn gather(
+    alloc: Global,
+    labels: &[u32],
+    count: usize,
+) -> Result<Vec<List<u32>>, OutOfMemory>
     requires some { 0 < length labels.now }
     requires few { length labels.now ≤ max_clauses + 1 }
     requires labels { (p : ℕ) → 0 < p → p < length labels.now → slice_index labels.now p ≢ 0 }

@@ -2,7 +2,7 @@
 use crate::plain_parts::put_plain;
 use lk_model::{Formula, List};
 use lk_samples::{append, drawn_formula, formula_of_text};
-use par_parts::parts;
+use par_parts::{part_groups, parts};
 use std::alloc::Global;
 use std::test::Fail;
 
@@ -25,6 +25,24 @@ pub(crate) fn tell_parts(alloc: Global, n: u32, text: &str, out: &mut String) ->
     let f = formula_of_text(alloc, n, text)?;
     write!(out, "=")?;
     put_parts(alloc, &f, out)?;
+    writeln!(out, "")?;
+    Ok(())
+}
+
+/// Tells the parts of the formula over 40 variables with the clauses of a text, in at most so many groups.
+pub(crate) fn tell_groups(
+    alloc: Global,
+    most: u32,
+    text: &str,
+    out: &mut String,
+) -> Result<(), Fail> {
+    if most == 0 {
+        return Err(Fail::from("no group"));
+    }
+    let f = formula_of_text(alloc, 40, text)?;
+    let groups = part_groups(alloc, &f, most)?;
+    write!(out, "=")?;
+    put_lists(groups.as_slice(), out)?;
     writeln!(out, "")?;
     Ok(())
 }

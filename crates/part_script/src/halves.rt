@@ -1,7 +1,7 @@
 //! Numbers with their indices added, in halves.
 ghost use Rattle.std.specs.Prelude.{◌≡◌, ◌+◌, ◌<◌, ◌≤◌, ◌^◌, ℕ, length, slice_index, IfOk};
 
-use crate::gates::{FirstItem, Meeting};
+use gate_samples::{FirstItem, Meeting};
 use lk_model::{List, OutOfMemory};
 use lk_outside::OpenGate;
 use par_parts::{Gate, map_halves};

@@ -1,4 +1,4 @@
-//! Finds the parts of formulas, works on lists in halves, and prints what comes out.
+//! Finds the parts of formulas, and kernels by parts, works on lists in halves, and prints what comes out.
 //!
 //! A line of standard input is a command. It is printed again, and behind it stand the answers, each in a
 //! line that begins with `=`. A line that begins with `#` is a remark.
@@ -13,15 +13,22 @@
 //!   how often each half entered and whether it met the other one.
 //! - `sides N; NUMBERS` does it with a gate that holds half 1 until the first number was worked on, and
 //!   tells whether it was.
+//! - `kernel N; CLAUSES` tells the positions of the matching kernel of a formula as one worker finds it, and
+//!   whether 2, 3, 8 and 64 workers find the same.
+//! - `workers N; CLAUSES` tells it as two workers find it, with the gate that holds each half.
+//! - `fours N` counts the kept clauses of parts of one variable each: four unit clauses, which are kept, or
+//!   one, which is not, in turn.
+//! - `groups N; CLAUSES` tells the parts of a formula over 40 variables in at most so many groups.
 #![tactic(auto)]
 
 mod formulas;
-mod gates;
 mod halves;
+mod kernels;
 mod plain_parts;
 
-use crate::formulas::{tell_chain, tell_drawn, tell_parts, tell_units};
+use crate::formulas::{tell_chain, tell_drawn, tell_groups, tell_parts, tell_units};
 use crate::halves::tell_halves;
+use crate::kernels::{tell_fours, tell_kernel, tell_workers};
 use std::alloc::Global;
 use std::test::Fail;
 use std::thread::Threads;
@@ -41,6 +48,10 @@ fn tell<R: Threads + Sync>(
         "drawn" => tell_drawn(alloc, number, out),
         "units" => tell_units(alloc, number, out),
         "chain" => tell_chain(alloc, number, out),
+        "groups" => tell_groups(alloc, number, others, out),
+        "kernel" => tell_kernel(rt, alloc, number, others, out),
+        "workers" => tell_workers(rt, alloc, number, others, out),
+        "fours" => tell_fours(rt, alloc, number, out),
         "halves" | "meet" | "sides" => tell_halves(rt, alloc, word, number, others, out),
         _ => Ok(()),
     }

@@ -1,15 +1,12 @@
 //! What the reader of documents answers.
-ghost use Rattle.cert_text.specs.Built.{IsBuilt};
 
 use crate::shown::{Clauses, Numbers};
-use cert_text::{print, read_built};
+use cert_text::{print, read};
 use lk_model::{Body, Document, DoneDocument, OutOfMemory, ReadStop};
 use std::alloc::{AllocError, Global};
 
 /// Whether the document is printed as this text.
-fn is_printed_as(alloc: Global, document: &Document, text: &[u8]) -> bool
-    requires { IsBuilt document.now }
-{
+fn is_printed_as(alloc: Global, document: &Document, text: &[u8]) -> bool {
     match print(alloc, document) {
         Ok(printed) => printed.as_slice() == text,
         Err(_) => false,
@@ -42,9 +39,7 @@ fn put_document(
     document: &Document,
     text: &[u8],
     out: &mut String,
-) -> Result<(), AllocError>
-    requires { IsBuilt document.now }
-{
+) -> Result<(), AllocError> {
     if !is_printed_as(alloc, document, text) {
         writeln!(out, "= printed otherwise")?;
     }
@@ -56,7 +51,7 @@ fn put_document(
 
 /// Writes the document that a text is read as.
 fn put_read(alloc: Global, text: &[u8], out: &mut String) -> Result<(), ReadStop> {
-    let document = read_built(alloc, text)?;
+    let document = read(alloc, text)?;
     let put = put_document(alloc, &document, text, out);
     drop(document);
     Ok(put.map_err(OutOfMemory::from)?)
@@ -77,7 +72,7 @@ pub(crate) fn tell_document(
 
 /// The line at which a text stops, or else 0.
 fn stop_of(alloc: Global, text: &[u8]) -> u64 {
-    match read_built(alloc, text).err() {
+    match read(alloc, text).err() {
         Some(ReadStop::Line(line)) => line,
         _ => 0,
     }

@@ -5,7 +5,6 @@ ghost use Rattle.lk_model.specs.Formulas.Literal.{variable};
 ghost use Rattle.lk_model.specs.Formulas.Lean.{are_positions};
 ghost use Rattle.lk_model.specs.Formulas.Formula.{clauses_at};
 ghost use Rattle.lk_model.specs.Documents.Form.{are_own, are_rows, is_in_form};
-ghost use Rattle.lean_checker.specs.Checked.{IsChecked};
 
 use crate::form::{are_own, are_rows, are_set};
 use crate::parts::MatchingLines;
@@ -19,8 +18,7 @@ pub(crate) fn matching_document(
     f: &Formula,
     lines: MatchingLines,
 ) -> Result<Document, Fail>
-    ensures form { IfOk result (λ d. IsTrue (is_in_form d)) }
-    ensures checked { IfOk result (λ d. IsChecked d) }
+    ensures { IfOk result (λ d. IsTrue (is_in_form d)) }
 {
     if !are_in_form(alloc, f, &lines)? {
         return Err(Fail::from("no document in form"));
@@ -53,8 +51,7 @@ fn document_of(f: &Formula, lines: MatchingLines, texts: Formula) -> Document
     requires own { IsTrue (are_own f.now.vars (length f.now.clauses) lines.own.items) }
     requires rows { IsTrue (are_rows f.now.vars (length f.now.clauses) lines.rows.items) }
     requires texts { texts ≡ clauses_at f.now lines.kept.items }
-    ensures form { IsTrue (is_in_form result) }
-    ensures checked { IsChecked result }
+    ensures { IsTrue (is_in_form result) }
 {
     let vars = texts.vars();
     Document::Done(DoneDocument {

@@ -14,7 +14,6 @@
 
 ghost use Rattle.std.specs.Prelude.{◌≤◌, IsTrue};
 ghost use Rattle.lk_model.specs.Documents.Form.{is_in_form};
-ghost use Rattle.lean_checker.specs.Checked.{IsChecked};
 
 mod documents;
 mod extension;
@@ -39,8 +38,7 @@ fn verdict_of<R: Threads + Sync>(
     f: &Formula,
     d: &Document,
 ) -> Result<Verdict, OutOfMemory>
-    requires form { IsTrue (is_in_form d.now) }
-    requires checked { IsChecked d.now }
+    requires { IsTrue (is_in_form d.now) }
 {
     check(rt, alloc, &OpenGate, f, d, 1)
 }

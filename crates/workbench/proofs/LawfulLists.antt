@@ -1,194 +1,255 @@
 -- Lawful lists of words and what they begin with.
-use Rattle.std.proofs.Common.{◌≡◌, ℕ, zero, suc, ◌+◌, ◌<◌, ◌≤◌, ◌∙◌, true, false, ◌&&◌, List, [], ◌∷◌, ◌++◌, length, take, Option, Some, None, refl, ap, subst, arith, option_map, ◌⊎◌, inl, inr}
-use Rattle.std.specs.Prelude.{IsSomeAnd}
-use Rattle.std.specs.Str.{bytes_eq}
-use Rattle.std.proofs.lemmas.Slice.Eq.{bytes_eq-Decides}
-use Rattle.std.proofs.lemmas.Bool.{cases_Bool}
-use Rattle.lk_model.specs.declared.class.Class.TheVariants.{Pure}
+use Rattle.std.proofs.Common.{◌≡◌, ℕ, zero, suc, ◌+◌, ◌-◌, ◌<◌, ◌≤◌, ◌∙◌, Bool, true, false, cond, List, [], ◌∷◌, ◌++◌, length, take, drop, replicate, Option, Some, None, refl, ap, sym, subst, arith, option_map, nat_le, ◌⊎◌, inl, inr}
+use Rattle.std.proofs.lemmas.Bool.{cases_Bool, le-leb, leb-true, leb-false}
+use Rattle.std.proofs.lemmas.List.{append_assoc, append-nil, length-append, length-replicate, length-take-le, take-append-drop, take-append-le, take_at, drop_at}
+use Rattle.std.proofs.Math.Seq.{take-append-add}
 use Rattle.lk_model.specs.Texts.Lines.{Word}
-use Rattle.lk_model.proofs.Booleans.{and_true}
-use Rattle.workbench.specs.Lawful.{Key, Command, Options, command_of, options_of, options_by, AsksToReduce, AsksToCheck, reduce, check, pure, Begins, IsRefusedAt}
-use Rattle.workbench.specs.declared.options.Verb.TheVariants as verb
-use Rattle.workbench.specs.OptionPlaces.{keys_of, refused_place}
-use Rattle.workbench.proofs.LawfulOptions.{take_one, fits, options_fit, fit_options, all_pass, is_refused}
+use Rattle.workbench.specs.Commands.{commands, words_of, inputs_of, keys_of}
+use Rattle.workbench.specs.Settings.{Options, options_of, options_by}
+use Rattle.workbench.specs.OptionPlaces.{refused_place}
+use Rattle.workbench.specs.Lawful.{Request, request_of, request_among, with_names, behind, Begins, IsRefusedAt}
+use Rattle.workbench.specs.Requests.{common, IsUnknownAt}
+use Rattle.workbench.specs.declared.command.Command.{Command}
+use Rattle.workbench.proofs.CommandTable.{is_of, takes_one}
+use Rattle.workbench.proofs.CommonWords.{common_within, common_same, common_greatest, common_all, front_of}
+use Rattle.workbench.proofs.LawfulOptions.{fits, options_fit, fit_options, is_refused}
 
--- what is lawful has these words
-lawful_words : (first second third : Word) (words : List Word) (command : Command) → command_of (first ∷ second ∷ third ∷ words) ≡ Some command → ((first ≡ reduce) × (second ≡ pure)) ⊎ (first ≡ check)
-lawful_words first second third words command e =
-    elim (cases_Bool (bytes_eq first reduce && bytes_eq second pure)) [
-      | inl t ↦ let p = and_true _ _ t in inl ((bytes_eq-Decides first reduce).0 p.0, (bytes_eq-Decides second pure).0 p.1)
-      | inr f ↦ elim (cases_Bool (bytes_eq first check)) [
-        | inl t ↦ inr ((bytes_eq-Decides first check).0 t)
-        | inr g ↦ absurd (cc (e, f, g))
-      ]
-    ]
+-- WORDS WITH NAMES
 
--- the first word of a lawful list
-first_lawful : (first : Word) (more : List Word) (command : Command) → command_of (first ∷ more) ≡ Some command → (first ≡ reduce) ⊎ (first ≡ check)
-first_lawful first [] command e = absurd cc
-first_lawful first (second ∷ []) command e = absurd cc
-first_lawful first (second ∷ third ∷ more) command e = elim (lawful_words first second third more command e) [
-  | inl r ↦ inl r.0
-  | inr c ↦ inr c
-]
+abbrev pub arity : Command → ℕ
+arity c = length (inputs_of c)
 
--- the second one behind `reduce`
-class_lawful : (class : Word) (more : List Word) (command : Command) → command_of (reduce ∷ class ∷ more) ≡ Some command → class ≡ pure
-class_lawful class [] command e = absurd cc
-class_lawful class (name ∷ more) command e = elim (lawful_words reduce class name more command e) [
-  | inl r ↦ r.1
-  | inr c ↦ absurd (omega (arith, ap length c))
-]
+abbrev pub with_options : Command → List Word → Options → Request
+with_options c names o = record { command = c; names = names; options = o }
 
--- a list that no command is from is not lawful
-unlawful_if : (words : List Word) → ((command : Command) → command_of words ≡ Some command → ⊥) → command_of words ≡ None
-unlawful_if words never = by (command_of words) refl
+-- behind so many names stand options
+pub behind_names : (c : Command) (names words : List Word) → length names ≡ arity c → with_names c (names ++ words) ≡ option_map (with_options c names) (options_of (keys_of c) words)
+behind_names c names words count =
+    let enough : nat_le (arity c) (length (names ++ words)) ≡ true = le-leb (arity c) (length (names ++ words)) (omega (arith, count, length-append names words)) in
+    ap (λ (b : Bool). cond b (option_map (with_options c (take (arity c) (names ++ words))) (options_of (keys_of c) (drop (arity c) (names ++ words)))) None) enough
+    ∙ ap (λ (ns : List Word). option_map (with_options c ns) (options_of (keys_of c) (drop (arity c) (names ++ words)))) (take_at names words (arity c) count)
+    ∙ ap (λ (ws : List Word). option_map (with_options c names) (options_of (keys_of c) ws)) (drop_at names words (arity c) count)
+
+pub lawful_options : (c : Command) (names words : List Word) → length names ≡ arity c → request_of (words_of c ++ (names ++ words)) ≡ option_map (with_options c names) (options_of (keys_of c) words)
+lawful_options c names words count = is_of c (names ++ words) ∙ behind_names c names words count
+
+-- names alone are enough
+whole : (c : Command) (names : List Word) → length names ≡ arity c → request_of (words_of c ++ names) ≡ Some (with_options c names (options_by []))
+whole c names count =
+    ap (λ (ws : List Word). request_of (words_of c ++ ws)) (sym (append-nil names))
+    ∙ lawful_options c names [] count
+    ∙ ap (option_map (with_options c names)) (fit_options (keys_of c) [] refl)
+
+-- what is lawful begins with the words of a command
+record IsOf (words : List Word) (request : Request) : Type 0 where
+  pub command : Command
+  pub rest : List Word
+  pub words_are : words ≡ words_of command ++ rest
+  pub lawful : with_names command rest ≡ Some request
+
+lawful_among : (cs : List Command) (words : List Word) (r : Request) → request_among cs words ≡ Some r → IsOf words r
+lawful_among [] words r e = absurd (let f : ⊥ = cc e in f)
+lawful_among (c ∷ cs) words r e = by (λ h. lawful_among cs words r h) (behind (words_of c) words) refl e
   where
-    by : (o : Option Command) → command_of words ≡ o → o ≡ None
+    by : (request_among cs words ≡ Some r → IsOf words r) → (o : Option (List Word)) → behind (words_of c) words ≡ o → elim o [ Some rest ↦ with_names c rest | None ↦ request_among cs words ] ≡ Some r → IsOf words r
+    by later None eo h = later h
+    by later (Some rest) eo h = record { command = c; rest = rest; words_are = front_of (words_of c) words rest eo; lawful = h }
+
+lawful_of : (words : List Word) (r : Request) → request_of words ≡ Some r → IsOf words r
+lawful_of words r e = lawful_among commands words r e
+
+-- a list that no request is from is not lawful
+unlawful_if : (words : List Word) → ((r : Request) → request_of words ≡ Some r → ⊥) → request_of words ≡ None
+unlawful_if words never = by (request_of words) refl
+  where
+    by : (o : Option Request) → request_of words ≡ o → o ≡ None
     by None e = refl
-    by (Some command) e = absurd (never command e)
+    by (Some r) e = absurd (never r e)
 
 -- WHAT LAWFUL LISTS BEGIN WITH
 
-begins-none : Begins []
-begins-none = record { more = check ∷ [] ∷ [] ∷ []; command = Command.Check [] [] (options_by []); lawful = refl }
+-- names that are missing
+abbrev empty : Word
+empty = []
 
-begins-reduce : Begins (reduce ∷ [])
-begins-reduce = record { more = pure ∷ [] ∷ []; command = Command.Reduce Pure [] (options_by []); lawful = refl }
+abbrev some_names : ℕ → List Word
+some_names n = replicate n empty
 
-begins-pure : Begins (reduce ∷ pure ∷ [])
-begins-pure = record { more = [] ∷ []; command = Command.Reduce Pure [] (options_by []); lawful = refl }
+-- the first words of a command
+begins_front : (c : Command) (k : ℕ) → Begins (take k (words_of c))
+begins_front c k =
+    let names = some_names (arity c) in
+    record {
+      more = drop k (words_of c) ++ names;
+      request = with_options c names (options_by []);
+      lawful = ap request_of (sym (append_assoc (take k (words_of c)) (drop k (words_of c)) names) ∙ ap (λ (ws : List Word). ws ++ names) (take-append-drop k (words_of c)))
+          ∙ whole c names (length-replicate (arity c) empty);
+    }
 
-begins-check : Begins (check ∷ [])
-begins-check = record { more = [] ∷ [] ∷ []; command = Command.Check [] [] (options_by []); lawful = refl }
+-- its words and some names
+begins_names : (c : Command) (names : List Word) → length names ≤ arity c → Begins (words_of c ++ names)
+begins_names c names h =
+    let more = some_names (arity c - length names) in
+    record {
+      more = more;
+      request = with_options c (names ++ more) (options_by []);
+      lawful = ap request_of (append_assoc (words_of c) names more)
+          ∙ whole c (names ++ more) (length-append names more ∙ omega (arith, h, length-replicate (arity c - length names) empty));
+    }
 
-begins-formula : (formula : Word) → Begins (check ∷ formula ∷ [])
-begins-formula formula = record { more = [] ∷ []; command = Command.Check formula [] (options_by []); lawful = refl }
-
-below_one : (words : List Word) (k : ℕ) → k < 1 → Begins (take k words)
-below_one words zero h = begins-none
-below_one words (suc k) h = absurd (omega (arith, h))
-
-below_two : (first : Word) (words : List Word) → Begins (first ∷ []) → (k : ℕ) → k < 2 → Begins (take k (first ∷ words))
-below_two first words one zero h = begins-none
-below_two first words one (suc zero) h = one
-below_two first words one (suc (suc k)) h = absurd (omega (arith, h))
-
-below_three : (first second : Word) (words : List Word) → Begins (first ∷ []) → Begins (first ∷ second ∷ []) → (k : ℕ) → k < 3 → Begins (take k (first ∷ second ∷ words))
-below_three first second words one two zero h = begins-none
-below_three first second words one two (suc zero) h = one
-below_three first second words one two (suc (suc zero)) h = two
-below_three first second words one two (suc (suc (suc k))) h = absurd (omega (arith, h))
+-- these three stages of the words of a list
+begins_within : (c : Command) (names rest : List Word) (k : ℕ) → length names ≤ arity c → k ≤ length (words_of c) + length names → Begins (take k (words_of c ++ (names ++ rest)))
+begins_within c names rest k few h = elim (leq_cases k (length (words_of c))) [
+  | inl low ↦ subst Begins (sym (take-append-le k (words_of c) (names ++ rest) low)) (begins_front c k)
+  | inr high ↦
+      let j = k - length (words_of c) in
+      let count : length (words_of c) + j ≡ k = omega (arith, high) in
+      let at : take k (words_of c ++ (names ++ rest)) ≡ words_of c ++ take j names =
+      ap (λ (n : ℕ). take n (words_of c ++ (names ++ rest))) (sym count)
+      ∙ take-append-add (words_of c) (names ++ rest) j
+      ∙ ap (λ (ws : List Word). words_of c ++ ws) (take-append-le j names rest (omega (arith, h, high))) in
+      let size = length-take-le j names (omega (arith, h, high)) in
+      subst Begins (sym at) (begins_names c (take j names) (omega (arith, few, h, high, size)))
+]
+  where
+    leq_cases : (a b : ℕ) → (a ≤ b) ⊎ (b ≤ a)
+    leq_cases a b = elim (cases_Bool (nat_le a b)) [ inl t ↦ inl (leb-true a b t) | inr f ↦ inr (let l = leb-false a b f in omega (arith, l)) ]
 
 -- WHICH WORD IS REFUSED
 
--- all words pass and more are missing
-missing : (words : List Word) (i : ℕ) → i ≡ length words + 1 → command_of words ≡ None → ((k : ℕ) → k < i → Begins (take k words)) → IsRefusedAt words i
-missing words i count none begins = record {
-  unlawful = none;
-  first = omega (arith, count);
-  last = omega (arith, count);
-  before = begins;
-  refused = λ h b. absurd (omega (arith, h, count));
-}
-
-pub other_first : (first : Word) (more : List Word) → (first ≡ reduce → ⊥) → (first ≡ check → ⊥) → IsRefusedAt (first ∷ more) 1
-other_first first more other another = record {
-  unlawful = unlawful_if (first ∷ more) (λ command e. never more command e);
-  first = omega arith;
-  last = omega arith;
-  before = below_one (first ∷ more);
-  refused = λ h b. never b.more b.command b.lawful;
-}
+-- no command's words stand at the front
+never_unknown : (words more : List Word) (i : ℕ) → IsUnknownAt words i → i ≤ length words → (r : Request) → request_of (take i words ++ more) ≡ Some r → ⊥
+never_unknown words more i u h r e =
+    let of = lawful_of (take i words ++ more) r e in
+    let c = of.command in
+    let size = length-take-le i words h in
+    let fewer = u.fewer c in
+    let none = u.none c in
+    elim (cases_Bool (nat_le i (length (words_of c)))) [
+      | inl t ↦
+          let low = leb-true i (length (words_of c)) t in
+          let same : take i words ≡ take i (words_of c) =
+          sym (take_at (take i words) more i size) ∙ ap (take i) of.words_are ∙ take-append-le i (words_of c) of.rest low in
+          let known = common_greatest words (words_of c) i h low same in
+          absurd (omega (arith, known, fewer))
+      | inr f ↦
+          let n = length (words_of c) in
+          let low : n ≤ i = let l = leb-false i n f in omega (arith, l) in
+          let front : take n words ≡ take n (words_of c) =
+          sym (take_take n i words low)
+          ∙ sym (take-append-le n (take i words) more (omega (arith, low, size)))
+          ∙ ap (take n) of.words_are
+          ∙ take-append-le n (words_of c) of.rest (omega arith) in
+          let known = common_greatest words (words_of c) n (omega (arith, low, h)) (omega arith) front in
+          absurd (omega (arith, known, none))
+    ]
   where
-    never : (more : List Word) (command : Command) → command_of (first ∷ more) ≡ Some command → ⊥
-    never more command e = elim (first_lawful first more command e) [ inl r ↦ other r | inr c ↦ another c ]
+    take_take : (n i : ℕ) (xs : List Word) → n ≤ i → take n (take i xs) ≡ take n xs
+    take_take zero i xs h = refl
+    take_take (suc n) zero xs h = absurd (omega (arith, h))
+    take_take (suc n) (suc i) [] h = refl
+    take_take (suc n) (suc i) (x ∷ xs) h = ap (λ (ws : List Word). x ∷ ws) (take_take n i xs (omega (arith, h)))
 
-pub other_class : (class : Word) (more : List Word) → (class ≡ pure → ⊥) → IsRefusedAt (reduce ∷ class ∷ more) 2
-other_class class more other = record {
-  unlawful = unlawful_if (reduce ∷ class ∷ more) (λ command e. other (class_lawful class more command e));
-  first = omega arith;
-  last = omega arith;
-  before = below_two reduce (class ∷ more) begins-reduce;
-  refused = λ h b. other (class_lawful class b.more b.command b.lawful);
-}
-
-pub no_words : (words : List Word) → length words ≡ 0 → IsRefusedAt words 1
-no_words [] h = missing [] 1 refl refl (below_one [])
-no_words (word ∷ words) h = absurd (omega (arith, h))
-
-pub no_class : (words : List Word) → length words ≡ 0 → IsRefusedAt (reduce ∷ words) 2
-no_class [] h = missing (reduce ∷ []) 2 refl refl (below_two reduce [] begins-reduce)
-no_class (word ∷ words) h = absurd (omega (arith, h))
-
-pub no_name : (words : List Word) → length words ≡ 0 → IsRefusedAt (reduce ∷ pure ∷ words) 3
-no_name [] h = missing (reduce ∷ pure ∷ []) 3 refl refl (below_three reduce pure [] begins-reduce begins-pure)
-no_name (word ∷ words) h = absurd (omega (arith, h))
-
-pub no_formula : (words : List Word) → length words ≡ 0 → IsRefusedAt (check ∷ words) 2
-no_formula [] h = missing (check ∷ []) 2 refl refl (below_two check [] begins-check)
-no_formula (word ∷ words) h = absurd (omega (arith, h))
-
-pub no_document : (formula : Word) (words : List Word) → length words ≡ 0 → IsRefusedAt (check ∷ formula ∷ words) 3
-no_document formula [] h = missing (check ∷ formula ∷ []) 3 refl refl (below_three check formula [] begins-check (begins-formula formula))
-no_document formula (word ∷ words) h = absurd (omega (arith, h))
-
--- WORDS WITH OPTIONS
-
--- behind these three words, options with these keys make the command
-abbrev TakeOptions : Word → Word → Word → List Key → (Options → Command) → Type 0
-TakeOptions first second third keys make = (words : List Word) → command_of (first ∷ second ∷ third ∷ words) ≡ option_map make (options_of keys words)
-
--- the words behind the three of a lawful list fit
-lawful_fits : (keys : List Key) (make : Options → Command) (words : List Word) (command : Command) → option_map make (options_of keys words) ≡ Some command → fits keys [] words ≡ true
-lawful_fits keys make words command e = by (options_of keys words) refl e
-  where
-    by : (o : Option Options) → options_of keys words ≡ o → option_map make o ≡ Some command → fits keys [] words ≡ true
-    by None eo h = absurd (let f : ⊥ = cc in f)
-    by (Some o) eo h = options_fit keys words o eo
-
-refused_option : (first second third : Word) (keys : List Key) (make : Options → Command) → TakeOptions first second third keys make → take_one keys ≡ true → Begins (first ∷ []) → Begins (first ∷ second ∷ []) → (words : List Word) (i : ℕ) → refused_place keys [] words ≡ Some i → IsRefusedAt (first ∷ second ∷ third ∷ words) (i + 4)
-refused_option first second third keys make takes ones one two words i e =
-    let r = is_refused keys ones [] words i e in
+pub unknown : (words : List Word) (i : ℕ) → IsUnknownAt words i → IsRefusedAt words i
+unknown words i u =
+    let c = u.known.0 in
+    let at = u.known.1 in
+    let within = common_within words (words_of c) in
+    let in_words = within.0 in
     record {
-      unlawful = unlawful_if (first ∷ second ∷ third ∷ words) (λ command h. unfit words r.unfit command h);
-      first = omega arith;
-      last = omega (arith, r.last);
-      before = λ k h. by_count r.begins k h;
-      refused = λ h b.
-          let count : i + 4 ≡ suc (suc (suc (i + 1))) = omega arith in
-          unfit (take (i + 1) words ++ b.more) (r.never (omega (arith, h)) b.more) b.command
-          (subst (λ (n : ℕ). command_of (take n (first ∷ second ∷ third ∷ words) ++ b.more) ≡ Some b.command) count b.lawful);
+      unlawful = unlawful_if words (λ r e.
+          let of = lawful_of words r e in
+          let none = u.none of.command in
+          let all = ap (λ (ws : List Word). common ws (words_of of.command)) of.words_are ∙ common_all (words_of of.command) of.rest in
+          omega (arith, none, all));
+      first = omega (arith, at);
+      last = omega (arith, at, in_words);
+      before = λ k h. subst Begins (sym (agree k (omega (arith, h, at)))) (begins_front c k);
+      refused = λ h b. never_unknown words b.more i u h b.request b.lawful;
     }
   where
-    unfit : (words : List Word) → fits keys [] words ≡ false → (command : Command) → command_of (first ∷ second ∷ third ∷ words) ≡ Some command → ⊥
-    unfit words f command h =
-        let asked : option_map make (options_of keys words) ≡ Some command = cc (takes words, h) in
-        cc (f, lawful_fits keys make words command asked)
+    shorter : (k n : ℕ) (xs : List Word) → k ≤ n → take k (take n xs) ≡ take k xs
+    shorter zero n xs h = refl
+    shorter (suc k) zero xs h = absurd (omega (arith, h))
+    shorter (suc k) (suc n) [] h = refl
+    shorter (suc k) (suc n) (x ∷ xs) h = ap (λ (ws : List Word). x ∷ ws) (shorter k n xs (omega (arith, h)))
 
-    by_count : ((k : ℕ) → k ≤ i → (more : List Word) × (fits keys [] (take k words ++ more) ≡ true)) → (k : ℕ) → k < i + 4 → Begins (take k (first ∷ second ∷ third ∷ words))
-    by_count begins zero h = begins-none
-    by_count begins (suc zero) h = one
-    by_count begins (suc (suc zero)) h = two
-    by_count begins (suc (suc (suc k))) h =
-        let b = begins k (omega (arith, h)) in
-        let o = fit_options keys (take k words ++ b.0) b.1 in
-        record { more = b.0; command = make o.0; lawful = takes (take k words ++ b.0) ∙ ap (option_map make) o.1 }
+    agree : (k : ℕ) → k ≤ common words (words_of u.known.0) → take k words ≡ take k (words_of u.known.0)
+    agree k h =
+        let n = common words (words_of u.known.0) in
+        sym (shorter k n words h) ∙ ap (take k) (common_same words (words_of u.known.0)) ∙ shorter k n (words_of u.known.0) h
 
-pub lawful_reduce : (name : Word) (words : List Word) → refused_place (keys_of verb.Reduce) [] words ≡ None → AsksToReduce (command_of (reduce ∷ pure ∷ name ∷ words)) Pure name
-lawful_reduce name words e =
-    let o = fit_options (keys_of verb.Reduce) words (all_pass (keys_of verb.Reduce) [] words e) in
-    (o.0, ap (option_map (λ o. Command.Reduce Pure name o)) o.1)
-
-pub refused_reduce : (name : Word) (words : List Word) (i : ℕ) → refused_place (keys_of verb.Reduce) [] words ≡ Some i → IsRefusedAt (reduce ∷ pure ∷ name ∷ words) (i + 4)
-refused_reduce name words i e = refused_option reduce pure name (keys_of verb.Reduce) (λ o. Command.Reduce Pure name o) (λ ws. refl) refl begins-reduce begins-pure words i e
-
-pub lawful_check : (formula document : Word) (words : List Word) (count : ℕ) → IsSomeAnd (options_of (keys_of verb.Check) words) (λ o. o.workers ≡ count) → AsksToCheck (command_of (check ∷ formula ∷ document ∷ words)) formula document count
-lawful_check formula document words count h = by (options_of (keys_of verb.Check) words) refl h
+-- a name is missing
+pub missing_name : (c : Command) (rest : List Word) → length rest < arity c → IsRefusedAt (words_of c ++ rest) (length (words_of c ++ rest) + 1)
+missing_name c rest few =
+    let size = length-append (words_of c) rest in
+    record {
+      unlawful = is_of c rest ∙ none;
+      first = omega arith;
+      last = omega arith;
+      before = λ k h.
+          subst (λ (ws : List Word). Begins (take k (words_of c ++ ws))) (append-nil rest)
+          (begins_within c rest [] k (omega (arith, few)) (omega (arith, h, size)));
+      refused = λ h b. absurd (omega (arith, h));
+    }
   where
-    by : (o : Option Options) → options_of (keys_of verb.Check) words ≡ o → IsSomeAnd o (λ o. o.workers ≡ count) → AsksToCheck (command_of (check ∷ formula ∷ document ∷ words)) formula document count
-    by None e h = absurd h
-    by (Some o) e h = (o, ap (option_map (λ o. Command.Check formula document o)) e, h)
+    none : with_names c rest ≡ None
+    none =
+        let short : nat_le (arity c) (length rest) ≡ false = elim (cases_Bool (nat_le (arity c) (length rest))) [
+          | inl t ↦ let h = leb-true (arity c) (length rest) t in absurd (omega (arith, few, h))
+          | inr f ↦ f
+        ] in
+        rw short refl
 
-pub refused_check : (formula document : Word) (words : List Word) (i : ℕ) → refused_place (keys_of verb.Check) [] words ≡ Some i → IsRefusedAt (check ∷ formula ∷ document ∷ words) (i + 4)
-refused_check formula document words i e = refused_option check formula document (keys_of verb.Check) (λ o. Command.Check formula document o) (λ ws. refl) refl begins-check (begins-formula formula) words i e
+-- options that do not fit
+unfit : (c : Command) (names words : List Word) → length names ≡ arity c → fits (keys_of c) [] words ≡ false → (r : Request) → request_of (words_of c ++ (names ++ words)) ≡ Some r → ⊥
+unfit c names words count f r h = by (options_of (keys_of c) words) refl (sym (lawful_options c names words count) ∙ h)
+  where
+    by : (o : Option Options) → options_of (keys_of c) words ≡ o → option_map (with_options c names) o ≡ Some r → ⊥
+    by None eo e = cc e
+    by (Some o) eo e =
+        let fit = options_fit (keys_of c) words o eo in
+        cc (f, fit)
+
+-- an option is refused
+pub refused_option : (c : Command) (names words : List Word) (i : ℕ) → length names ≡ arity c → refused_place (keys_of c) [] words ≡ Some i → IsRefusedAt (words_of c ++ (names ++ words)) (length (words_of c) + arity c + i + 1)
+refused_option c names words i count e =
+    let r = is_refused (keys_of c) (takes_one c) [] words i e in
+    let last = r.last in
+    let size = length-append (words_of c) (names ++ words) in
+    let sizes = length-append names words in
+    record {
+      unlawful = unlawful_if (words_of c ++ (names ++ words)) (unfit c names words count r.unfit);
+      first = omega arith;
+      last = omega (arith, last, size, sizes, count);
+      before = λ k h. elim (cases_Bool (nat_le k (length (words_of c) + length names))) [
+        | inl t ↦ begins_within c names words k (omega (arith, count)) (leb-true k (length (words_of c) + length names) t)
+        | inr f ↦
+            let j = k - (length (words_of c) + length names) in
+            let high = leb-false k (length (words_of c) + length names) f in
+            let cut = seam k j (omega (arith, high)) in
+            let b = r.begins j (omega (arith, h, high, count)) in
+            record {
+              more = b.0;
+              request = with_options c names (options_by (take j words ++ b.0));
+              lawful = ap (λ (ws : List Word). request_of (ws ++ b.0)) cut
+                  ∙ ap request_of (append_assoc (words_of c) (names ++ take j words) b.0 ∙ ap (λ (ws : List Word). words_of c ++ ws) (append_assoc names (take j words) b.0))
+                  ∙ lawful_options c names (take j words ++ b.0) count
+                  ∙ ap (option_map (with_options c names)) (fit_options (keys_of c) (take j words ++ b.0) b.1);
+            }
+      ];
+      refused = λ h b.
+          let cut = seam (length (words_of c) + arity c + i + 1) (i + 1) (omega (arith, count)) in
+          unfit c names (take (i + 1) words ++ b.more) count (r.never (omega (arith, h, size, sizes, count)) b.more) b.request
+          (sym (ap request_of (append_assoc (words_of c) (names ++ take (i + 1) words) b.more ∙ ap (λ (ws : List Word). words_of c ++ ws) (append_assoc names (take (i + 1) words) b.more)))
+          ∙ sym (ap (λ (ws : List Word). request_of (ws ++ b.more)) cut)
+          ∙ b.lawful);
+    }
+  where
+    -- the first k words, of which j are options
+    seam : (k j : ℕ) → length (words_of c) + length names + j ≡ k → take k (words_of c ++ (names ++ words)) ≡ words_of c ++ (names ++ take j words)
+    seam k j at =
+        let n : length (words_of c) + (length names + j) ≡ k = omega (arith, at) in
+        ap (λ (m : ℕ). take m (words_of c ++ (names ++ words))) (sym n)
+        ∙ take-append-add (words_of c) (names ++ words) (length names + j)
+        ∙ ap (λ (ws : List Word). words_of c ++ ws) (take-append-add names words j)

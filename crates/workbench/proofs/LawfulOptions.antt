@@ -1,14 +1,14 @@
 -- Lawful options.
-use Rattle.std.proofs.Common.{◌≡◌, ℕ, ◌+◌, ◌<◌, ◌≤◌, ◌∙◌, zero, suc, Bool, true, false, not, ◌&&◌, ◌||◌, cond, List, [], ◌∷◌, ◌++◌, length, take, Option, Some, None, refl, ap, arith, inl, inr, option_map, subst, nat_le}
-use Rattle.std.specs.Prelude.{option_and_then, codes}
+use Rattle.std.proofs.Common.{◌≡◌, ℕ, ◌+◌, ◌<◌, ◌≤◌, ◌∙◌, zero, suc, Bool, true, false, not, ◌&&◌, ◌||◌, cond, List, [], ◌∷◌, ◌++◌, length, take, Option, Some, None, refl, ap, arith, inl, inr, option_map, subst}
+use Rattle.std.specs.Prelude.{codes}
 use Rattle.std.specs.List.{list_any, list_all}
+use Rattle.std.specs.Option.{option_map_or}
 use Rattle.std.specs.Str.{bytes_eq}
 use Rattle.std.proofs.lemmas.Bool.{cases_Bool, not-true, and_from, or_from}
 use Rattle.lk_model.specs.Texts.Lines.{Word}
-use Rattle.lk_model.specs.Texts.NumberWords.{natural}
 use Rattle.lk_model.proofs.Booleans.{and_true, or_true, or_left, or_right, or_false}
-use Rattle.workbench.specs.Lawful.{Key, Setting, sets, with_setting, settings_of, is_allowed, is_once, options_of, Options, options_by}
-use Rattle.workbench.specs.OptionPlaces.{has, is_word_of, is_new, is_number_for, is_value, refused_place}
+use Rattle.workbench.specs.Settings.{Key, Setting, sets, settings_of, is_value_of, is_allowed, is_once, are_options, options_of, Options, options_by}
+use Rattle.workbench.specs.OptionPlaces.{has, is_word_of, is_new, is_value, refused_place}
 
 -- the words are options, none of which stands twice or among the earlier ones
 abbrev pub fits : List Key → List Word → List Word → Bool
@@ -27,11 +27,11 @@ pub record AreSettings (keys : List Key) (before words : List Word) (ss : List S
   pub free : list_all (is_free before) ss ≡ true
 
 -- an allowed setting has an option's word
-allowed_word : (keys : List Key) (word : Word) (n : ℕ) → is_allowed keys (word, n) ≡ true → is_word_of keys word ≡ true
-allowed_word [] word n e = absurd (let f : ⊥ = cc in f)
-allowed_word (key ∷ keys) word n e = elim (or_true (sets key (word, n) && nat_le key.least n && nat_le n key.greatest) (is_allowed keys (word, n)) e) [
-  | inl h ↦ or_left (bytes_eq key.word word) (is_word_of keys word) (and_true _ _ (and_true _ _ h).0).0
-  | inr t ↦ or_right (bytes_eq key.word word) (is_word_of keys word) (allowed_word keys word n t)
+allowed_word : (keys : List Key) (word value : Word) → is_allowed keys (word, value) ≡ true → is_word_of keys word ≡ true
+allowed_word [] word value e = absurd (let f : ⊥ = cc in f)
+allowed_word (key ∷ keys) word value e = elim (or_true (sets key (word, value) && is_value_of key value) (is_allowed keys (word, value)) e) [
+  | inl h ↦ or_left (bytes_eq key.word word) (is_word_of keys word) (and_true _ _ h).0
+  | inr t ↦ or_right (bytes_eq key.word word) (is_word_of keys word) (allowed_word keys word value t)
 ]
 
 free_of : (word : Word) (before : List Word) (ss : List Setting) → list_all (is_free (word ∷ before)) ss ≡ true → (list_any (λ (t : Setting). bytes_eq word t.0) ss ≡ false) × (list_all (is_free before) ss ≡ true)
@@ -59,39 +59,36 @@ all_free (s ∷ ss) = all_free ss
 
 -- ONE OPTION MORE
 
-with_one : (keys : List Key) (before : List Word) (word value : Word) (words : List Word) (ss : List Setting) (n : ℕ) → natural value ≡ Some n → is_allowed keys (word, n) ≡ true → is_new keys before word ≡ true → AreSettings keys (word ∷ before) words ss → AreSettings keys before (word ∷ value ∷ words) ((word, n) ∷ ss)
-with_one keys before word value words ss n e ok new r =
+with_one : (keys : List Key) (before : List Word) (word value : Word) (words : List Word) (ss : List Setting) → is_allowed keys (word, value) ≡ true → is_new keys before word ≡ true → AreSettings keys (word ∷ before) words ss → AreSettings keys before (word ∷ value ∷ words) ((word, value) ∷ ss)
+with_one keys before word value words ss ok new r =
     let apart = free_of word before ss r.free in
     let alone = and_true (is_word_of keys word) (not (has before word)) new in
     record {
-      given = ap (λ (o : Option ℕ). with_setting word o (settings_of words)) e ∙ ap (λ (m : Option (List Setting)). with_setting word (Some n) m) r.given;
-      allowed = and_from (is_allowed keys (word, n)) (list_all (is_allowed keys) ss) ok r.allowed;
+      given = ap (option_map (λ (more : List Setting). (word, value) ∷ more)) r.given;
+      allowed = and_from (is_allowed keys (word, value)) (list_all (is_allowed keys) ss) ok r.allowed;
       once = and_from (not (list_any (λ (t : Setting). bytes_eq word t.0) ss)) (is_once ss) (ap not apart.0) r.once;
-      free = and_from (is_free before (word, n)) (list_all (is_free before) ss) alone.1 apart.1;
+      free = and_from (is_free before (word, value)) (list_all (is_free before) ss) alone.1 apart.1;
     }
 
-pub record Parts (word value : Word) (words : List Word) (ss : List Setting) : Type 0 where
-  pub n : ℕ
+record Parts (word value : Word) (words : List Word) (ss : List Setting) : Type 0 where
   pub more : List Setting
-  pub number : natural value ≡ Some n
   pub later : settings_of words ≡ Some more
-  pub all : ss ≡ (word, n) ∷ more
+  pub all : ss ≡ (word, value) ∷ more
 
-pub parts : (word value : Word) (words : List Word) (ss : List Setting) → settings_of (word ∷ value ∷ words) ≡ Some ss → Parts word value words ss
-parts word value words ss e = by (natural value) (settings_of words) refl refl e
+parts : (word value : Word) (words : List Word) (ss : List Setting) → settings_of (word ∷ value ∷ words) ≡ Some ss → Parts word value words ss
+parts word value words ss e = by (settings_of words) refl e
   where
-    by : (o : Option ℕ) (m : Option (List Setting)) → natural value ≡ o → settings_of words ≡ m → with_setting word o m ≡ Some ss → Parts word value words ss
-    by None m en em h = absurd (let f : ⊥ = cc in f)
-    by (Some n) None en em h = absurd (let f : ⊥ = cc in f)
-    by (Some n) (Some more) en em h = record { n = n; more = more; number = en; later = em; all = cc }
+    by : (m : Option (List Setting)) → settings_of words ≡ m → option_map (λ (more : List Setting). (word, value) ∷ more) m ≡ Some ss → Parts word value words ss
+    by None em h = absurd (let f : ⊥ = cc in f)
+    by (Some more) em h = record { more = more; later = em; all = cc }
 
-without_one : (keys : List Key) (before : List Word) (word value : Word) (words : List Word) (n : ℕ) (more : List Setting) → natural value ≡ Some n → settings_of words ≡ Some more → AreSettings keys before (word ∷ value ∷ words) ((word, n) ∷ more) → (is_new keys before word ≡ true) × (is_value keys word value ≡ true) × AreSettings keys (word ∷ before) words more
-without_one keys before word value words n more e later r =
-    let a = and_true (is_allowed keys (word, n)) (list_all (is_allowed keys) more) r.allowed in
+without_one : (keys : List Key) (before : List Word) (word value : Word) (words : List Word) (more : List Setting) → settings_of words ≡ Some more → AreSettings keys before (word ∷ value ∷ words) ((word, value) ∷ more) → (is_new keys before word ≡ true) × (is_value keys word value ≡ true) × AreSettings keys (word ∷ before) words more
+without_one keys before word value words more later r =
+    let a = and_true (is_allowed keys (word, value)) (list_all (is_allowed keys) more) r.allowed in
     let o = and_true (not (list_any (λ (t : Setting). bytes_eq word t.0) more)) (is_once more) r.once in
-    let f = and_true (is_free before (word, n)) (list_all (is_free before) more) r.free in (
-      and_from (is_word_of keys word) (not (has before word)) (allowed_word keys word n a.0) f.0,
-      ap (is_number_for keys word) e ∙ a.0,
+    let f = and_true (is_free before (word, value)) (list_all (is_free before) more) r.free in (
+      and_from (is_word_of keys word) (not (has before word)) (allowed_word keys word value a.0) f.0,
+      a.0,
       record {
         given = later;
         allowed = a.1;
@@ -107,7 +104,7 @@ settings_fit keys before [] ss r = refl
 settings_fit keys before (word ∷ []) ss r = absurd (cc r.given)
 settings_fit keys before (word ∷ value ∷ words) ss r =
     let p = parts word value words ss r.given in
-    let q = without_one keys before word value words p.n p.more p.number p.later (subst (AreSettings keys before (word ∷ value ∷ words)) p.all r) in
+    let q = without_one keys before word value words p.more p.later (subst (AreSettings keys before (word ∷ value ∷ words)) p.all r) in
     and_from (is_new keys before word) (is_value keys word value && fits keys (word ∷ before) words) q.0
     (and_from (is_value keys word value) (fits keys (word ∷ before) words) q.1 (settings_fit keys (word ∷ before) words p.more q.2))
 
@@ -118,36 +115,27 @@ fit_settings keys before (word ∷ value ∷ words) e =
     let p = and_true (is_new keys before word) (is_value keys word value && fits keys (word ∷ before) words) e in
     let q = and_true (is_value keys word value) (fits keys (word ∷ before) words) p.1 in
     let r = fit_settings keys (word ∷ before) words q.1 in
-    by p.0 r.0 r.1 (natural value) refl q.0
-  where
-    by : is_new keys before word ≡ true → (ss : List Setting) → AreSettings keys (word ∷ before) words ss → (o : Option ℕ) → natural value ≡ o → is_number_for keys word o ≡ true → (ss : List Setting) × AreSettings keys before (word ∷ value ∷ words) ss
-    by new ss r None en h = absurd (let f : ⊥ = cc in f)
-    by new ss r (Some n) en h = ((word, n) ∷ ss, with_one keys before word value words ss n en h new r)
-
-abbrev options_from : List Key → List Setting → Option Options
-options_from keys ss = cond (list_all (is_allowed keys) ss && is_once ss) (Some (options_by ss)) None
+    ((word, value) ∷ r.0, with_one keys before word value words r.0 q.0 p.0 r.1)
 
 pub options_fit : (keys : List Key) (words : List Word) (o : Options) → options_of keys words ≡ Some o → fits keys [] words ≡ true
-options_fit keys words o e = by (settings_of words) refl e
+options_fit keys words o e = elim (cases_Bool (are_options keys words)) [
+  | inl t ↦ by (settings_of words) refl t
+  | inr f ↦ absurd (cc (e, f))
+]
   where
-    by : (m : Option (List Setting)) → settings_of words ≡ m → option_and_then (options_from keys) m ≡ Some o → fits keys [] words ≡ true
+    by : (m : Option (List Setting)) → settings_of words ≡ m → option_map_or (λ ss. list_all (is_allowed keys) ss && is_once ss) m false ≡ true → fits keys [] words ≡ true
     by None em h = absurd (let f : ⊥ = cc in f)
-    by (Some ss) em h = elim (cases_Bool (list_all (is_allowed keys) ss && is_once ss)) [
-      | inl t ↦ let p = and_true (list_all (is_allowed keys) ss) (is_once ss) t in
-          settings_fit keys [] words ss (record { given = em; allowed = p.0; once = p.1; free = all_free ss })
-      | inr f ↦ absurd (cc (h, f))
-    ]
+    by (Some ss) em h =
+        let p = and_true (list_all (is_allowed keys) ss) (is_once ss) h in
+        settings_fit keys [] words ss (record { given = em; allowed = p.0; once = p.1; free = all_free ss })
 
--- the options that settings give
-pub options_given : (keys : List Key) (words : List Word) (ss : List Setting) → AreSettings keys [] words ss → options_of keys words ≡ Some (options_by ss)
-options_given keys words ss r =
-    ap (option_and_then (options_from keys)) r.given
-    ∙ ap (λ (b : Bool). cond b (Some (options_by ss)) None) (and_from (list_all (is_allowed keys) ss) (is_once ss) r.allowed r.once)
-
-pub fit_options : (keys : List Key) (words : List Word) → fits keys [] words ≡ true → (o : Options) × (options_of keys words ≡ Some o)
+-- words that fit are options
+pub fit_options : (keys : List Key) (words : List Word) → fits keys [] words ≡ true → options_of keys words ≡ Some (options_by words)
 fit_options keys words e =
     let r = fit_settings keys [] words e in
-    (options_by r.0, options_given keys words r.0 r.1)
+    let good = and_from (list_all (is_allowed keys) r.0) (is_once r.0) r.1.allowed r.1.once in
+    let all : are_options keys words ≡ true = ap (λ (m : Option (List Setting)). option_map_or (λ ss. list_all (is_allowed keys) ss && is_once ss) m false) r.1.given ∙ good in
+    ap (λ (b : Bool). cond b (Some (options_by words)) None) all
 
 -- THE PLACE OF THE REFUSED WORD
 
@@ -175,19 +163,18 @@ pub record IsRefused (keys : List Key) (before words : List Word) (i : ℕ) : Ty
   pub begins : (k : ℕ) → k ≤ i → (more : List Word) × (fits keys before (take k words ++ more) ≡ true)
   pub never : i < length words → (more : List Word) → fits keys before (take (i + 1) words ++ more) ≡ false
 
--- 1 is in the range of each of these options
+-- 1 is a value of each of these options
 abbrev pub take_one : List Key → Bool
-take_one keys = list_all (λ (key : Key). nat_le key.least 1 && nat_le 1 key.greatest) keys
+take_one keys = list_all (λ (key : Key). is_value_of key (codes "1")) keys
 
-one_allowed : (keys : List Key) (word : Word) → take_one keys ≡ true → is_word_of keys word ≡ true → is_allowed keys (word, 1) ≡ true
+one_allowed : (keys : List Key) (word : Word) → take_one keys ≡ true → is_word_of keys word ≡ true → is_allowed keys (word, codes "1") ≡ true
 one_allowed [] word one e = absurd (let f : ⊥ = cc in f)
 one_allowed (key ∷ keys) word one e =
-    let o = and_true (nat_le key.least 1 && nat_le 1 key.greatest) (take_one keys) one in
-    let range = and_true (nat_le key.least 1) (nat_le 1 key.greatest) o.0 in
-    let here = sets key (word, 1) && nat_le key.least 1 && nat_le 1 key.greatest in
+    let o = and_true (is_value_of key (codes "1")) (take_one keys) one in
+    let here = sets key (word, codes "1") && is_value_of key (codes "1") in
     elim (or_true (bytes_eq key.word word) (is_word_of keys word) e) [
-      | inl h ↦ or_left here (is_allowed keys (word, 1)) (and_from (sets key (word, 1) && nat_le key.least 1) (nat_le 1 key.greatest) (and_from (sets key (word, 1)) (nat_le key.least 1) h range.0) range.1)
-      | inr t ↦ or_right here (is_allowed keys (word, 1)) (one_allowed keys word o.1 t)
+      | inl h ↦ or_left here (is_allowed keys (word, codes "1")) (and_from (sets key (word, codes "1")) (is_value_of key (codes "1")) h o.0)
+      | inr t ↦ or_right here (is_allowed keys (word, codes "1")) (one_allowed keys word o.1 t)
     ]
 
 one_fits : (keys : List Key) (before : List Word) (word : Word) → take_one keys ≡ true → is_new keys before word ≡ true → fits keys before (word ∷ codes "1" ∷ []) ≡ true

@@ -1,18 +1,19 @@
 -- What was written and read so far.
-use Rattle.std.proofs.Common.{◌≡◌, ℕ, ◌+◌, ◌-◌, ◌≤◌, Bool, List, [], ◌++◌, length, take, drop, Option, Some, None, sym, ap, ◌∙◌, arith}
+use Rattle.std.proofs.Common.{◌≡◌, ℕ, ◌+◌, ◌-◌, ◌≤◌, ◌<◌, Bool, List, [], ◌++◌, length, take, drop, Option, Some, None, sym, ap, ◌∙◌, arith}
 use Rattle.std.specs.Prelude.{IfSome, IsTrue}
 use Rattle.std.specs.Io.KnownBytes.{Appends, Consumes, IsAtEnd}
 use Rattle.std.proofs.Math.Seq.{take-add}
 use Rattle.std.proofs.lemmas.List.{append-nil, length-drop, take_rest}
 use Rattle.std.proofs.KnownBytes.{Appends-trans}
 use Rattle.lk_outside.specs.Causes.{HasCause, Rose, TellsTheSame}
-use Rattle.workbench.specs.Causes.{Told}
+use Rattle.workbench.specs.Inputs.{Told}
 
--- so many bytes of the text were taken, and the count of faults has not fallen
+-- so many bytes of the text were taken, the count of faults has not fallen, and before the first byte nothing has changed
 pub record Written (before now : Option (List ℕ)) (faults_before faults_now : ℕ) (text : List ℕ) (at : ℕ) : Type 0 where
   pub within : at ≤ length text
   pub taken : Appends before now (take at text)
   pub later : faults_before ≤ faults_now
+  pub same : at ≡ 0 → now ≡ before
 
 -- The bytes were taken from a shelf: they lie before those that are left. The text is still started under its name, the
 -- shelf tells what it told, and the count of faults has not fallen.
@@ -28,11 +29,12 @@ pub Tells-then : (a b c : Told) → TellsTheSame a b → TellsTheSame b c → Te
 Tells-then a b c p q = λ name. q name ∙ p name
 
 -- what was taken before, and what one more write took of the rest
-pub Written-then : (a b c : Option (List ℕ)) (f g h : ℕ) (text : List ℕ) (at n : ℕ) → Written a b f g text at → n ≤ length (take (length text - at) (drop at text)) → Appends b c (take n (take (length text - at) (drop at text))) → g ≤ h → Written a c f h text (at + n)
-Written-then a b c f g h text at n w k p later = record {
+pub Written-then : (a b c : Option (List ℕ)) (f g h : ℕ) (text : List ℕ) (at n : ℕ) → Written a b f g text at → 0 < n → n ≤ length (take (length text - at) (drop at text)) → Appends b c (take n (take (length text - at) (drop at text))) → g ≤ h → Written a c f h text (at + n)
+Written-then a b c f g h text at n w some k p later = record {
   within = omega (arith, length-drop at text, ap length (take_rest text at), w.within);
   taken = rw take-add (Appends-trans a b c _ _ w.taken (rw (← take_rest text at) p));
   later = omega (arith, w.later);
+  same = λ none. absurd (omega (arith, some, none));
 }
 
 -- a count that rose from a later value rose

@@ -1,109 +1,149 @@
 -- How a run of the program ends.
-use Rattle.std.specs.Prelude.{◌≡◌, ◌≢◌, ◌⊎◌, ℕ, List, Bool, IfSome, IsSome, IsSomeAnd, IsTrue, Some, None}
+use Rattle.std.specs.Prelude.{◌≡◌, ◌⊎◌, ℕ, ◌<◌, List, [], Bool, length, take, IsTrue, Some, None}
 use Rattle.std.specs.declared.option.Option.{Option}
 use Rattle.std.specs.Io.KnownBytes.{Appends}
 use Rattle.lk_model.specs.Texts.Lines.{Word}
-use Rattle.lk_model.specs.Texts.Fault.{fault_of}
-use Rattle.lk_model.specs.Reduction.{ReducesTo}
-use Rattle.lk_model.specs.declared.document.Document.{Document as AnyDocument}
-use Rattle.lk_model.specs.declared.verdict.Why.{Why}
-use Rattle.cert_text.specs.Readings.{IsReadAs, StopsAtLine}
-use Rattle.workbench.specs.Lawful.{Command, Reduce, Check, command_of, IsRefusedAt}
-use Rattle.workbench.specs.Causes.{Told, IsRefusal}
-use Rattle.workbench.specs.Checking.{IsAccepted, IsRefusedFor, TellsAcceptance, TellsFailure}
+use Rattle.lk_outside.specs.Causes.{Rose}
+use Rattle.workbench.specs.Commands.{inputs_of, Answers, Decides}
+use Rattle.workbench.specs.Inputs.{Told, Values, AreRead, AreTold, IsFirstBad, HasBad, StopsOn, IsOneOf}
+use Rattle.workbench.specs.Lawful.{Request, request_of, IsRefusedAt}
+use Rattle.workbench.specs.Statuses.{code, is_result}
 use Rattle.workbench.specs.Stops.{line_of}
+use Rattle.workbench.specs.declared.status.Status.{Status}
+use Rattle.workbench.specs.declared.status.Status.TheVariants as status
 use Rattle.workbench.specs.declared.stop.Stop.{Stop}
-use Rattle.workbench.specs.declared.stop.Stop.TheVariants.{Words, Formula, Document, Read, Memory}
+use Rattle.workbench.specs.declared.stop.Stop.TheVariants as stop
 
--- The text is what the command asks for, where its inputs are told; unlawful words ask for nothing.
-abbrev pub IsResult : Option Command → Told → List ℕ → Type 0
-IsResult (Some (Reduce class name options)) told text = IfSome (told name) (λ bytes. ReducesTo bytes class None options.pivots text)
-IsResult (Some (Check formula document options)) told text = TellsAcceptance (told formula) (told document) text
-IsResult None told text = ⊥
+-- WHICH ENDINGS ARE ALLOWED
 
--- the text is what is written of a document that is refused
-abbrev pub IsFailure : Option Command → Told → List ℕ → Type 0
-IsFailure (Some (Reduce class name options)) told text = ⊥
-IsFailure (Some (Check formula document options)) told text = TellsFailure (told formula) (told document) text
-IsFailure None told text = ⊥
+-- The shelf over a run: the bytes that it tells, its count of faults before the run and after it, and whether it is ailing
+-- in the end, on which name.
+pub record Shelved : Type 0 where
+  pub told : Told
+  pub before : ℕ
+  pub after : ℕ
+  pub ailing : Bool
+  pub current : Option (List ℕ)
 
--- the status and the text of an answer: the result, or what is written of a document that is refused
-abbrev pub IsAnswer : Option Command → Told → ℕ → List ℕ → Type 0
-IsAnswer command told status text = ((status ≡ 0) × IsResult command told text) ⊎ ((status ≡ 8) × IsFailure command told text)
+abbrev pub shelved : Told → ℕ → ℕ → Bool → Option (List ℕ) → Shelved
+shelved told before after ailing current = record { told = told; before = before; after = after; ailing = ailing; current = current }
 
--- the result was written
-pub record WritesResult (command : Option Command) (told : Told) (before after : Option (List ℕ)) : Type 0 where
-  pub text : List ℕ
-  pub result : IsResult command told text
-  pub written : Appends before after text
+-- what was read of the inputs, as far as they are told, and that the command may answer it so
+pub record HasResult (request : Request) (told : Told) (status : Status) (written said : List ℕ) : Type 0 where
+  pub values : Values (inputs_of request.command)
+  pub read : AreRead told 0 (inputs_of request.command) request.names values
+  pub result : IsTrue (is_result status)
+  pub answers : Answers request.command request.options values status written said
 
--- the first check that fails was written
-pub record WritesFailure (command : Option Command) (told : Told) (before after : Option (List ℕ)) : Type 0 where
-  pub text : List ℕ
-  pub failure : IsFailure command told text
-  pub written : Appends before after text
+abbrev pub IsResult : Option Request → Told → Status → List ℕ → List ℕ → Type 0
+IsResult None told status written said = ⊥
+IsResult (Some request) told status written said = HasResult request told status written said
 
--- the number of the refused word was told
-pub record TellsWord (words : List Word) (before after : Option (List ℕ)) : Type 0 where
-  pub number : ℕ
-  pub refused : IsRefusedAt words number
-  pub told : Appends before after (line_of (Words number))
+-- the first input, in the order of the words, that is outside its grammar makes this stop
+abbrev pub DeservesStop : Option Request → Told → Stop → Type 0
+DeservesStop None told s = ⊥
+DeservesStop (Some request) told s = IsFirstBad told 0 (inputs_of request.command) request.names s
 
--- The first input, in the order of the words, that is outside its grammar makes this stop: its refusal is the one that its
--- bytes deserve, where they are told.
-abbrev pub DeservesStop : Option Command → Told → Stop → Type 0
-DeservesStop (Some (Reduce class name options)) told (Formula r) = IfSome (told name) (λ bytes. IsRefusal bytes r)
-DeservesStop (Some (Check formula document options)) told (Formula r) = IfSome (told formula) (λ bytes. IsRefusal bytes r)
-DeservesStop (Some (Check formula document options)) told (Document line) =
-    IfSome (told formula) (λ bytes. fault_of bytes ≡ None) × IfSome (told document) (λ bytes. StopsAtLine bytes line)
-DeservesStop _ told _ = ⊥
+-- a call on the shelf failed: its count rose, and it is ailing on an input
+abbrev pub HasReadFault : Option Request → Shelved → Type 0
+HasReadFault None shelf = ⊥
+HasReadFault (Some request) shelf = Rose shelf.before shelf.after × IsTrue shelf.ailing × IsOneOf request.names shelf.current
 
--- that was told
-pub record TellsRefusal (command : Option Command) (told : Told) (before after : Option (List ℕ)) : Type 0 where
-  pub stop : Stop
-  pub deserved : DeservesStop command told stop
-  pub said : Appends before after (line_of stop)
+-- nothing is written, and the line of the stop is said
+abbrev pub Tells : Stop → List ℕ → List ℕ → Type 0
+Tells s written said = (written ≡ []) × (said ≡ line_of s)
 
--- the shelf is ailing on an input of the command
-abbrev pub AilsOnInput : Option Command → Bool → Option (List ℕ) → Type 0
-AilsOnInput (Some (Reduce class name options)) ailing current = IsTrue ailing × (current ≡ Some name)
-AilsOnInput (Some (Check formula document options)) ailing current = IsTrue ailing × ((current ≡ Some formula) ⊎ (current ≡ Some document))
-AilsOnInput None ailing current = ⊥
+-- With this status the one text may be written and the other said: the refused word, the refusal of an input, a failed read,
+-- or want of memory; or else what the command answers.
+abbrev pub Allows : List Word → Shelved → Status → List ℕ → List ℕ → Type 0
+Allows words shelf status.Words written said = (i : ℕ) × IsRefusedAt words i × Tells (stop.Words i) written said
+Allows words shelf status.Input written said = (s : Stop) × DeservesStop (request_of words) shelf.told s × Tells s written said
+Allows words shelf status.ReadFault written said = HasReadFault (request_of words) shelf × Tells stop.Read written said
+Allows words shelf status.WriteFault written said = ⊥
+Allows words shelf status.Memory written said = Tells stop.Memory written said
+Allows words shelf answer written said = IsResult (request_of words) shelf.told answer written said
 
--- what stands behind a stop: the refused word, or what was met as the inputs were read
+-- WHAT STANDS ON THE SINKS
+
+-- a sink over a run: its bytes, where it tells them, and its count of faults, before the run and after it
+pub record Sunk : Type 0 where
+  pub before : Option (List ℕ)
+  pub after : Option (List ℕ)
+  pub faults_before : ℕ
+  pub faults_after : ℕ
+
+abbrev pub sunk : Option (List ℕ) → Option (List ℕ) → ℕ → ℕ → Sunk
+sunk before after faults_before faults_after = record { before = before; after = after; faults_before = faults_before; faults_after = faults_after }
+
+-- the sink took the text; where that is empty it is as it was
+pub record Takes (sink : Sunk) (text : List ℕ) : Type 0 where
+  pub taken : Appends sink.before sink.after text
+  pub same : text ≡ [] → sink.after ≡ sink.before
+
+-- the sink failed in the midst of the text
+pub record IsCut (sink : Sunk) (text : List ℕ) : Type 0 where
+  pub count : ℕ
+  pub part : count < length text
+  pub taken : Appends sink.before sink.after (take count text)
+  pub rose : Rose sink.faults_before sink.faults_after
+
+-- the one took the one text, and the other the other
+abbrev pub TakesBoth : Sunk → Sunk → List ℕ → List ℕ → Type 0
+TakesBoth out say written said = Takes out written × Takes say said
+
+-- one of them failed in its text: the first before anything was said, or the second behind the whole of the first text
+abbrev pub IsCutIn : Sunk → Sunk → List ℕ → List ℕ → Type 0
+IsCutIn out say written said = (IsCut out written × (say.after ≡ say.before)) ⊎ (Takes out written × IsCut say said)
+
+-- an allowed ending whose texts the sinks took
+pub record Ends (words : List Word) (shelf : Shelved) (out say : Sunk) (answer : ℕ) : Type 0 where
+  pub status : Status
+  pub written : List ℕ
+  pub said : List ℕ
+  pub allowed : Allows words shelf status written said
+  pub answer_is : answer ≡ code status
+  pub taken : TakesBoth out say written said
+
+-- an allowed ending in whose texts a sink failed
+pub record IsCutOff (words : List Word) (shelf : Shelved) (out say : Sunk) : Type 0 where
+  pub status : Status
+  pub written : List ℕ
+  pub said : List ℕ
+  pub allowed : Allows words shelf status written said
+  pub cut : IsCutIn out say written said
+
+-- WHAT IS DECIDED BEFOREHAND
+
+-- the inputs are told and read, and decide the status
+pub record HasValues (request : Request) (told : Told) (status : Status) : Type 0 where
+  pub told_all : AreTold told request.names
+  pub values : Values (inputs_of request.command)
+  pub read : AreRead told 0 (inputs_of request.command) request.names values
+  pub decides : Decides request.command request.options values status
+
+abbrev pub IsDecidedFor : Request → Told → Status → Type 0
+IsDecidedFor request told status.Input = HasBad told 0 (inputs_of request.command) request.names
+IsDecidedFor request told answer = HasValues request told answer
+
+-- the words and the told inputs decide the status: unlawful words, an input outside its grammar, or what the command makes of
+-- what is read
+abbrev pub IsDecided : Option Request → Told → Status → Type 0
+IsDecided None told answer = answer ≡ status.Words
+IsDecided (Some request) told answer = IsDecidedFor request told answer
+
+-- the answer is this status, unless a call or memory failed
+abbrev pub IsUnlessFailed : ℕ → Status → Type 0
+IsUnlessFailed answer decided =
+    (answer ≡ code decided) ⊎ (answer ≡ code status.ReadFault) ⊎ (answer ≡ code status.WriteFault) ⊎ (answer ≡ code status.Memory)
+
+-- WHAT STANDS BEHIND A STOP
+
+-- as the inputs are read
+abbrev pub StopsAsRead : Option Request → Told → Bool → Option (List ℕ) → Stop → Type 0
+StopsAsRead None told ailing current s = ⊥
+StopsAsRead (Some request) told ailing current s = StopsOn told 0 (inputs_of request.command) request.names ailing current s
+
+-- the refused word, or what was met as the inputs were read
 abbrev pub StopsAt : List Word → Told → Bool → Option (List ℕ) → Stop → Type 0
-StopsAt words told ailing current (Words i) = IsRefusedAt words i
-StopsAt words told ailing current (Formula r) = DeservesStop (command_of words) told (Formula r)
-StopsAt words told ailing current (Document line) = DeservesStop (command_of words) told (Document line)
-StopsAt words told ailing current Read = AilsOnInput (command_of words) ailing current
-StopsAt words told ailing current Memory = Unit {0}
-
--- the bytes are no document's text
-abbrev pub IsNoDocument : List ℕ → Type 0
-IsNoDocument bytes = (d : AnyDocument) → IsReadAs bytes d → ⊥
-
--- an input of the command is told and outside its grammar, and those before it are told and within theirs
-abbrev pub HasBadInput : Option Command → Told → Type 0
-HasBadInput (Some (Reduce class name options)) told = IsSomeAnd (told name) (λ bytes. fault_of bytes ≢ None)
-HasBadInput (Some (Check formula document options)) told =
-    IsSomeAnd (told formula) (λ bytes. fault_of bytes ≢ None)
-    ⊎ (IsSomeAnd (told formula) (λ bytes. fault_of bytes ≡ None) × IsSomeAnd (told document) IsNoDocument)
-HasBadInput None told = ⊥
-
--- both are told
-abbrev pub AreTold : Option (List ℕ) → Option (List ℕ) → Type 0
-AreTold a b = IsSome a × IsSome b
-
--- The command's inputs are told and within their grammars: the formula's text has no fault, and the document, if there is
--- one, is accepted for it.
-abbrev pub HasGoodInput : Option Command → Told → Type 0
-HasGoodInput (Some (Reduce class name options)) told = IsSomeAnd (told name) (λ bytes. fault_of bytes ≡ None)
-HasGoodInput (Some (Check formula document options)) told = AreTold (told formula) (told document) × IsAccepted (told formula) (told document)
-HasGoodInput None told = ⊥
-
--- the command's inputs are told and within their grammars, and a check of the document fails
-abbrev pub HasFailure : Option Command → Told → Type 0
-HasFailure (Some (Reduce class name options)) told = ⊥
-HasFailure (Some (Check formula document options)) told =
-    AreTold (told formula) (told document) × ((why : Why) × IsRefusedFor (told formula) (told document) why)
-HasFailure None told = ⊥
+StopsAt words told ailing current (stop.Words i) = IsRefusedAt words i
+StopsAt words told ailing current s = StopsAsRead (request_of words) told ailing current s

@@ -1,7 +1,14 @@
-pub mod Lawful
+pub mod Settings
 pub mod OptionPlaces
+pub mod OptionKeys
+pub mod Statuses
+pub mod Inputs
+pub mod Commands
+pub mod Counting
+pub mod Founds
+pub mod Lawful
 pub mod Requests
 pub mod Stops
-pub mod Causes
-pub mod Checking
 pub mod Endings
+pub mod Agreement
+pub mod Outcomes

@@ -7,7 +7,9 @@ use Rattle.lk_model.specs.declared.verdict.ReadStop.TheVariants as read
 use Rattle.dimacs_reader.specs.declared.refusal.Refused.{Refused}
 use Rattle.dimacs_reader.specs.declared.refusal.Refused.TheVariants as refused
 use Rattle.workbench.specs.declared.stop.Stop.{Stop}
-use Rattle.workbench.specs.declared.stop.Stop.TheVariants.{Words, Formula, Document, Read, Memory}
+use Rattle.workbench.specs.declared.stop.Stop.TheVariants.{Words, Formula, Document, Model, Read, Memory}
+use Rattle.workbench.specs.declared.status.Status.{Status}
+use Rattle.workbench.specs.declared.status.Status.TheVariants as status
 
 -- the stop that a refusal of the reader makes
 abbrev pub stop_of : Refused → Stop
@@ -23,6 +25,11 @@ start_stop_of start.OutOfMemory = Memory
 abbrev pub read_stop_of : ReadStop → Stop
 read_stop_of (read.Line line) = Document line
 read_stop_of read.OutOfMemory = Memory
+
+-- the stop that a text makes that is no model's
+abbrev pub model_stop_of : ReadStop → Stop
+model_stop_of (read.Line line) = Model line
+model_stop_of read.OutOfMemory = Memory
 
 -- what the program says of a fault at a line of the formula
 abbrev pub formula_line : ℕ → List ℕ → List ℕ
@@ -46,13 +53,15 @@ abbrev pub line_of : Stop → List ℕ
 line_of (Words i) = codes "leank: word " ++ decimal i ++ codes " refused\n"
 line_of (Formula r) = refusal_line r
 line_of (Document line) = codes "leank: document line " ++ decimal line ++ codes ": not a document\n"
+line_of (Model line) = codes "leank: model line " ++ decimal line ++ codes ": not a model\n"
 line_of Read = codes "leank: read fault\n"
 line_of Memory = codes "leank: out of memory\n"
 
 -- the status of a stop
-abbrev pub status_of : Stop → ℕ
-status_of (Words i) = 1
-status_of (Formula r) = 2
-status_of (Document line) = 2
-status_of Read = 3
-status_of Memory = 9
+abbrev pub status_of : Stop → Status
+status_of (Words i) = status.Words
+status_of (Formula r) = status.Input
+status_of (Document line) = status.Input
+status_of (Model line) = status.Input
+status_of Read = status.ReadFault
+status_of Memory = status.Memory

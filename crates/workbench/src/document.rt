@@ -1,48 +1,43 @@
 //! The document of a reduction.
-ghost use Rattle.std.specs.Prelude.{◌≡◌, IfOk, IsTrue, None};
+ghost use Rattle.std.specs.Prelude.{◌≡◌, IfOk, IsTrue};
+ghost use Rattle.lk_model.specs.Formulas.Formula.{is_formula, IsWithinLimits};
 ghost use Rattle.lk_model.specs.Formulas.Lean.{are_positions};
-ghost use Rattle.lk_model.specs.Reduction.{Reduces};
-ghost use Rattle.lk_model.specs.declared.class.Class.TheVariants.{Pure};
-ghost use Rattle.lk_model.specs.Formulas.Formula.{clauses_at};
-ghost use Rattle.kernel_laws.specs.Pure.PureResults.{IsPureResult, IsSetLine};
+ghost use Rattle.workbench.specs.Founds.{document_of};
 
-use lk_model::{Body, DoneDocument, Formula, List, Lit, OutOfMemory, PureResult};
+use lk_model::{Body, DoneDocument, Formula, List, Lit, OutOfMemory};
 use std::alloc::Global;
 
-/// The literals of the order, ascending by variable.
-pub(crate) fn set_line(alloc: Global, order: &[Lit]) -> Result<List<Lit>, OutOfMemory>
-    ensures { IfOk result (IsSetLine order.now) }
-{
-    let mut set = Vec::from_slice(alloc, order)?;
-    set.sort_by_key(|l| l.var())?;
-    Ok(List::from_vec(set))
+/// What a reducer finds: the kept positions, ascending, the literals that are made true, ascending by
+/// variable, and the certificate of the class.
+#[derive(Drop)]
+pub(crate) struct Found {
+    pub(crate) kept: List<u32>,
+    pub(crate) set: List<Lit>,
+    pub(crate) body: Body,
 }
 
-/// The document of what the pure reducer found, with its set line, without protected variables. It
-/// reduces the formula for the class pure, and the checks accept it.
-pub(crate) fn pure_document(
+/// The document that tells what was found, with this line of protected variables, where there is one, and
+/// the clauses of the formula.
+pub(crate) fn document_of(
     alloc: Global,
     f: &Formula,
-    found: PureResult,
-    set: List<Lit>,
+    protect: Option<List<u32>>,
+    found: Found,
 ) -> Result<DoneDocument, OutOfMemory>
-    requires found { IsPureResult f.now found }
     requires positions { IsTrue (are_positions f.now found.kept) }
-    requires line { IsSetLine found.order set }
-    ensures reduces { IfOk result (Reduces f.now Pure 0) }
-    ensures unprotected { IfOk result (λ d. d.protect ≡ None) }
+    ensures document { IfOk result (λ d. d ≡ document_of f.now protect found) }
+    ensures formula { IsTrue (is_formula f.now) }
+    ensures limits { IsWithinLimits f.now }
 {
+    let vars = f.vars();
     let texts = f.clauses_at(alloc, found.kept.as_slice())?;
     Ok(DoneDocument {
-        vars: f.vars(),
+        vars,
         clauses: f.len(),
-        protect: None,
+        protect,
         kept: found.kept,
-        set,
-        body: Body::Pure {
-            order: found.order,
-            pairs: found.pairs,
-        },
+        set: found.set,
+        body: found.body,
         texts,
     })
 }

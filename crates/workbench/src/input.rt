@@ -1,16 +1,14 @@
 //! Reading whole inputs.
-ghost use Rattle.std.specs.Prelude.{◌≡◌, ◌≢◌, OnOk, Some, ℕ, ◌<◌, ◌≤◌, length, IfOk, IfErr, IfSome, IsTrue, IsErrAnd};
-ghost use Rattle.cert_text.specs.Built.{IsBuilt};
-ghost use Rattle.lean_checker.specs.Checked.{IsChecked as IsCheckable};
+ghost use Rattle.std.specs.Prelude.{◌≡◌, ◌≢◌, OnOk, Some, ℕ, ◌<◌, ◌≤◌, ◌∷◌, [], length, IfOk, IfErr, IfSome, IsTrue, IsErrAnd};
 ghost use Rattle.lk_model.specs.Documents.Form.{is_in_form};
-ghost use Rattle.cert_text.specs.Readings.{IsReadAs};
+ghost use Rattle.lk_model.specs.Documents.Reading.{IsTextOf};
 ghost use Rattle.lk_model.specs.Texts.Dimacs.{Spells};
 ghost use Rattle.lk_outside.specs.Reads.{ReadTakes};
 ghost use Rattle.lk_outside.specs.Causes.{HasCause, TellsTheSame};
-ghost use Rattle.workbench.specs.Causes.{StopsReading, StopsText, StopsDocument};
+ghost use Rattle.workbench.specs.Inputs.{Formula as FormulaText, Document as DocumentText, AreRead, StopsReading, StopsText, StopsOn};
 
 use crate::stop::Stop;
-use cert_text::read_built;
+use cert_text::read;
 use dimacs_reader::Reader;
 use lk_model::{Document, Formula};
 use lk_outside::Shelf;
@@ -27,7 +25,7 @@ pub(crate) fn read_formula<H: Shelf>(
 ) -> Result<Formula, Stop>
     ensures told { TellsTheSame (H.told shelf.old) (H.told shelf.new) }
     ensures formula { IfOk result (λ f. IfSome (H.told shelf.old name.now) (λ bytes. Spells bytes f)) }
-    ensures stop { IfErr result (StopsReading (H.told shelf.old name.now) (H.ailing shelf.new)) }
+    ensures stop { IfErr result (StopsReading FormulaText 0 (H.told shelf.old name.now) (H.ailing shelf.new)) }
     ensures current { IsErrAnd result (λ s. s ≡ Stop.Read) → H.current shelf.new ≡ Some name.now }
     ensures cause { HasCause (H.faults shelf.old) (H.faults shelf.new) (IsErrAnd result (λ s. s ≡ Stop.Read)) }
 {
@@ -69,7 +67,7 @@ fn read_started<H: Shelf>(alloc: Global, shelf: &mut H, piece: &mut [u8]) -> Res
     requires room { 0 < length piece.old }
     ensures told { TellsTheSame (H.told shelf.old) (H.told shelf.new) }
     ensures formula { IfOk result (λ f. IfSome (H.left shelf.old) (λ bytes. Spells bytes f)) }
-    ensures stop { IfErr result (StopsReading (H.left shelf.old) (H.ailing shelf.new)) }
+    ensures stop { IfErr result (StopsReading FormulaText 0 (H.left shelf.old) (H.ailing shelf.new)) }
     ensures current { H.current shelf.new ≡ H.current shelf.old }
     ensures cause { HasCause (H.faults shelf.old) (H.faults shelf.new) (IsErrAnd result (λ s. s ≡ Stop.Read)) }
 {
@@ -84,23 +82,48 @@ fn read_started<H: Shelf>(alloc: Global, shelf: &mut H, piece: &mut [u8]) -> Res
     Ok(reader.finish()?)
 }
 
-/// Reads the document under a name. It is in form, and of a class that is built.
+/// A formula and a document.
+#[derive(Drop)]
+pub(crate) struct Checked {
+    pub(crate) formula: Formula,
+    pub(crate) document: Document,
+}
+
+/// Reads the formula under the first name, and then the document under the second.
+pub(crate) fn read_checked<H: Shelf>(
+    alloc: Global,
+    shelf: &mut H,
+    formula: &str,
+    document: &str,
+) -> Result<Checked, Stop>
+    ensures told { TellsTheSame (H.told shelf.old) (H.told shelf.new) }
+    ensures read { IfOk result (λ r. AreRead (H.told shelf.old) 0 (FormulaText ∷ DocumentText ∷ [])
+        (formula.now ∷ document.now ∷ []) (r.formula, (r.document, tt))) }
+    ensures form { IfOk result (λ r. IsTrue (is_in_form r.document)) }
+    ensures stop { IfErr result (StopsOn (H.told shelf.old) 0 (FormulaText ∷ DocumentText ∷ [])
+        (formula.now ∷ document.now ∷ []) (H.ailing shelf.new) (H.current shelf.new)) }
+    ensures cause { HasCause (H.faults shelf.old) (H.faults shelf.new) (IsErrAnd result (λ s. s ≡ Stop.Read)) }
+{
+    let formula = read_formula(alloc, shelf, formula)?;
+    let document = read_document(alloc, shelf, document)?;
+    Ok(Checked { formula, document })
+}
+
+/// Reads the document under a name. It is in form.
 pub(crate) fn read_document<H: Shelf>(
     alloc: Global,
     shelf: &mut H,
     name: &str,
 ) -> Result<Document, Stop>
     ensures told { TellsTheSame (H.told shelf.old) (H.told shelf.new) }
-    ensures document { IfOk result (λ d. IfSome (H.told shelf.old name.now) (λ bytes. IsReadAs bytes d)) }
+    ensures document { IfOk result (λ d. IfSome (H.told shelf.old name.now) (λ bytes. IsTextOf bytes d)) }
     ensures form { IfOk result (λ d. IsTrue (is_in_form d)) }
-    ensures built { IfOk result IsBuilt }
-    ensures checkable { IfOk result IsCheckable }
-    ensures stop { IfErr result (StopsDocument (H.told shelf.old name.now) (H.ailing shelf.new)) }
+    ensures stop { IfErr result (StopsReading DocumentText 0 (H.told shelf.old name.now) (H.ailing shelf.new)) }
     ensures current { IsErrAnd result (λ s. s ≡ Stop.Read) → H.current shelf.new ≡ Some name.now }
     ensures cause { HasCause (H.faults shelf.old) (H.faults shelf.new) (IsErrAnd result (λ s. s ≡ Stop.Read)) }
 {
     let text = read_text(alloc, shelf, name)?;
-    Ok(read_built(alloc, text.as_slice())?)
+    Ok(read(alloc, text.as_slice())?)
 }
 
 /// Reads the bytes under a name, up to their end.

@@ -1,5 +1,27 @@
-//! What a reduction shows of a check.
-ghost use Rattle.workbench.specs.Checking.{WrittenIsAccepted};
+//! What the clauses of a run come to.
+ghost use Rattle.lk_model.specs.declared.class.Class.TheVariants.{Pure, Matching};
+ghost use Rattle.workbench.specs.Agreement.{WrittenIsAccepted};
+ghost use Rattle.workbench.specs.declared.command.Command.TheVariants.{ReducePure, ReduceMatching};
+ghost use Rattle.workbench.specs.Outcomes.{ReduceOutcomes, CheckOutcomes, ReportOutcomes};
+
+/// Of `reduce`: with status 0 the document of a reduction for the class stands on `out`; each text without a
+/// fault is reduced, and each other one refused, unless a call or memory fails.
+pub fn reduce_law()
+    ensures pure { ReduceOutcomes ReducePure Pure }
+    ensures matching { ReduceOutcomes ReduceMatching Matching }
+{}
+
+/// Of `check`: with status 0 the document is accepted, and so a reduction; with 8 a check of it fails. Told
+/// texts decide between these and 2, unless a call or memory fails.
+pub fn check_law()
+    ensures { CheckOutcomes }
+{}
+
+/// Of `report`: with status 0 the numbers of the formula stand on `out`; each text without a fault is told
+/// of, and each other one refused, unless a call or memory fails.
+pub fn report_law()
+    ensures { ReportOutcomes }
+{}
 
 /// What `reduce pure` writes of a text is accepted for that text. So `check` of the two says `accepted`,
 /// unless a call or memory fails.

@@ -21,6 +21,7 @@ pub(crate) fn line_of(alloc: Global, stop: Stop) -> Result<Vec<u8>, OutOfMemory>
             line,
             b": not a document\n",
         ),
+        Stop::Model(line) => { numbered(alloc, b"leank: model line ", line, b": not a model\n") }
         Stop::Read => Ok(Vec::from_slice(alloc, b"leank: read fault\n")?),
         Stop::Memory => Ok(Vec::from_slice(alloc, b"leank: out of memory\n")?),
     }

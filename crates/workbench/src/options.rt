@@ -1,70 +1,67 @@
 //! The options of the commands: pairs of an option's word and a number.
-ghost use Rattle.std.specs.Prelude.{◌≡◌, ◌<◌, ◌≤◌, [], pos, map, length, None, IfSome, IsSomeAnd};
+ghost use Rattle.std.specs.Prelude.{◌≡◌, ◌<◌, ◌≤◌, [], pos, map, length, drop, Some, IfOk, IfErr, MatchResult};
 ghost use Rattle.lk_model.specs.Texts.NumberWords.{natural};
-ghost use Rattle.workbench.specs.Lawful.{options_of};
-ghost use Rattle.workbench.specs.OptionPlaces.{named, keys_of, taken_by, key_of, has_key, without_key, is_number_of, refused_place};
+ghost use Rattle.workbench.specs.Commands.{keys_of};
+ghost use Rattle.workbench.specs.Settings.{options_of};
+ghost use Rattle.workbench.specs.OptionKeys.{named, key_of, number_for, number_first, given_for, with_number, numbers_of, usual_for, IsWithin};
+ghost use Rattle.workbench.specs.OptionPlaces.{refused_place};
 
-use lk_text::{NumberWord, classify, read_natural};
-
-/// The command that the options belong to.
-#[derive(Clone, Copy)]
-pub(crate) enum Verb {
-    Reduce,
-    Check,
-}
+use crate::command::Command;
+use lk_text::{NumberWord, classify};
 
 /// What an option sets.
-#[derive(Clone, Copy)]
-enum Key {
+#[derive(Clone, Copy, Debug, PartialEq, Eq)]
+pub(crate) enum Key {
     Conflicts,
     Pivots,
     Workers,
 }
 
-/// Which options may still stand, since none may stand twice.
-#[derive(Clone, Copy)]
-struct Keys {
-    conflicts: bool,
-    pivots: bool,
-    workers: bool,
+/// The numbers that options give.
+#[derive(Clone, Copy, Debug, PartialEq, Eq)]
+pub(crate) struct Options {
+    pub(crate) conflicts: u64,
+    pub(crate) pivots: u64,
+    pub(crate) workers: u32,
 }
 
-/// The place among the options, counted from 0, of the first word that cannot stand there, or of a
-/// value that is missing.
-pub(crate) fn refused_option(verb: Verb, words: &[&str]) -> Option<usize>
-    ensures place { result ≡ refused_place (keys_of verb) [] (map (λ w. w.now) words.now) }
-    ensures within { IfSome result (λ i. i ≤ length words.now) }
+/// The numbers of the options so far.
+#[derive(Clone, Copy)]
+struct Given {
+    conflicts: Option<u64>,
+    pivots: Option<u64>,
+    workers: Option<u64>,
+}
+
+/// The options of a command, or the place among these words, counted from 0, of the first one that
+/// cannot stand there, or of a value that is missing.
+pub(crate) fn options_of(command: Command, words: &[&str]) -> Result<Options, usize>
+    ensures options { MatchResult result
+        (λ o. options_of (keys_of command) (map (λ w. w.now) words.now) ≡ Some (numbers_of o))
+        (λ i. refused_place (keys_of command) [] (map (λ w. w.now) words.now) ≡ Some i) }
+    ensures workers { IfOk result (λ o. 0 < o.workers) }
+    ensures within { IfErr result (λ i. i ≤ length words.now) }
 {
-    let mut left = verb.keys();
+    let mut given = Given {
+        conflicts: None,
+        pivots: None,
+        workers: None,
+    };
     let mut place = 0;
     while place < words.len() {
         let Some(key) = key_named(words[place]) else {
-            return Some(place);
+            return Err(place);
         };
-        if !left.has(key) {
-            return Some(place);
+        if !command.takes(key) || given.number(key).is_some() {
+            return Err(place);
         }
-        match words.get(place + 1) {
-            Some(value) if key.admits(*value) => {}
-            _ => return Some(place + 1),
-        }
-        left = left.without(key);
+        let Some(number) = number_at(key, words, place + 1) else {
+            return Err(place + 1);
+        };
+        given = given.with(key, number);
         place += 2;
     }
-    None
-}
-
-/// The number of workers that options of `check` give, or 1. No other option can stand there, so the
-/// second word is the number.
-pub(crate) fn workers_of(options: &[&str]) -> u32
-    requires { refused_place (keys_of Verb.Check) [] (map (λ w. w.now) options.now) ≡ None }
-    ensures given { IsSomeAnd (options_of (keys_of Verb.Check) (map (λ w. w.now) options.now)) (λ o. o.workers ≡ result) }
-    ensures some { 0 < result }
-{
-    match options.get(1) {
-        None => 1,
-        Some(value) => read_natural(value.as_bytes()).unwrap() as u32,
-    }
+    Ok(given.options())
 }
 
 /// The option of this word.
@@ -79,22 +76,46 @@ fn key_named(word: &str) -> Option<Key>
     }
 }
 
-impl Verb {
-    /// The options that the command takes.
-    fn keys(self) -> Keys
-        ensures { result ≡ taken_by self }
+/// The number that the word at a place gives the option, if it stands there and the option takes it.
+fn number_at(key: Key, words: &[&str], place: usize) -> Option<u64>
+    ensures { result ≡ number_first key (drop place (map (λ w. w.now) words.now)) }
+{
+    key.number(words.get(place)?)
+}
+
+impl Given {
+    /// The number of an option.
+    fn number(self, key: Key) -> Option<u64>
+        ensures { result ≡ given_for self key }
     {
-        match self {
-            Verb::Reduce => Keys {
-                conflicts: true,
-                pivots: true,
-                workers: true,
-            },
-            Verb::Check => Keys {
-                conflicts: false,
-                pivots: false,
-                workers: true,
-            },
+        match key {
+            Key::Conflicts => self.conflicts,
+            Key::Pivots => self.pivots,
+            Key::Workers => self.workers,
+        }
+    }
+
+    /// The same with this number for an option.
+    fn with(mut self, key: Key, number: u64) -> Given
+        ensures { result ≡ with_number self key number }
+    {
+        match key {
+            Key::Conflicts => self.conflicts = Some(number),
+            Key::Pivots => self.pivots = Some(number),
+            Key::Workers => self.workers = Some(number),
+        }
+        self
+    }
+
+    /// The options, with the usual number where none was given.
+    fn options(self) -> Options
+        requires { IsWithin self }
+        ensures { numbers_of result ≡ usual_for self }
+    {
+        Options {
+            conflicts: self.conflicts.unwrap_or(100_000),
+            pivots: self.pivots.unwrap_or(100_000),
+            workers: self.workers.unwrap_or(1) as u32,
         }
     }
 }
@@ -120,38 +141,15 @@ impl Key {
         }
     }
 
-    /// Whether the word is a number that the option takes.
-    fn admits(self, value: &str) -> bool
-        ensures { result ≡ is_number_of (named self) (natural value.now) }
+    /// The number that the word gives the option, if it takes it.
+    fn number(self, value: &str) -> Option<u64>
+        ensures { result ≡ number_for self (natural value.now) }
     {
         match classify(value.as_bytes()) {
-            NumberWord::Is(number) => self.least() <= number && number <= self.greatest(),
-            NumberWord::Not | NumberWord::Past => false,
+            NumberWord::Is(number) if self.least() <= number && number <= self.greatest() => {
+                Some(number as u64)
+            }
+            _ => None,
         }
-    }
-}
-
-impl Keys {
-    /// Whether the option is among these.
-    fn has(self, key: Key) -> bool
-        ensures { result ≡ has_key self key }
-    {
-        match key {
-            Key::Conflicts => self.conflicts,
-            Key::Pivots => self.pivots,
-            Key::Workers => self.workers,
-        }
-    }
-
-    /// The same without this option.
-    fn without(mut self, key: Key) -> Keys
-        ensures { result ≡ without_key self key }
-    {
-        match key {
-            Key::Conflicts => self.conflicts = false,
-            Key::Pivots => self.pivots = false,
-            Key::Workers => self.workers = false,
-        }
-        self
     }
 }

@@ -3,6 +3,7 @@ ghost use Rattle.std.specs.Prelude.{◌≡◌};
 ghost use Rattle.workbench.specs.declared.stop.Stop.TheVariants.{Memory as MemoryStop, Read as ReadStop};
 ghost use Rattle.workbench.specs.Stops.{stop_of, start_stop_of, read_stop_of, status_of};
 
+use crate::status::Status;
 use dimacs_reader::Refused;
 use lk_model::{OutOfMemory, ReadStop as DocumentStop};
 use lk_outside::{Failed, StartStop};
@@ -17,6 +18,8 @@ pub(crate) enum Stop {
     Formula(Refused),
     /// The text is of none of the documents that are read; the first line with which none of them goes on.
     Document(u64),
+    /// The text is no model for the formula; its first faulty line.
+    Model(u64),
     /// A call on the shelf failed.
     Read,
     /// There was no memory.
@@ -82,14 +85,14 @@ impl From<AllocError> for Stop {
 
 impl Stop {
     /// The status with which the program ends.
-    pub fn status(self) -> u8
+    pub(crate) fn status(self) -> Status
         ensures { result ≡ status_of self }
     {
         match self {
-            Stop::Words(_) => 1,
-            Stop::Formula(_) | Stop::Document(_) => 2,
-            Stop::Read => 3,
-            Stop::Memory => 9,
+            Stop::Words(_) => Status::Words,
+            Stop::Formula(_) | Stop::Document(_) | Stop::Model(_) => Status::Input,
+            Stop::Read => Status::ReadFault,
+            Stop::Memory => Status::Memory,
         }
     }
 }

@@ -1,88 +1,75 @@
 //! The words of the command line.
-ghost use Rattle.std.specs.Prelude.{◌∷◌, map, IfOk, MatchResult};
-ghost use Rattle.workbench.specs.Lawful.{command_of, reduce, check, pure, IsRefusedAt};
-ghost use Rattle.workbench.specs.Requests.{Asks, HasWorkers};
+ghost use Rattle.std.specs.Prelude.{◌≡◌, ◌<◌, Some, length, map, IfOk, MatchResult};
+ghost use Rattle.workbench.specs.Commands.{inputs_of};
+ghost use Rattle.workbench.specs.Lawful.{request_of, IsRefusedAt};
+ghost use Rattle.workbench.specs.Requests.{common, IsCommandOf, IsUnknownAt, asked};
 
-use crate::options::{Verb, refused_option, workers_of};
+use crate::command::{COMMANDS, Command};
+use crate::options::{Options, options_of};
 
-/// What lawful words ask for.
-#[derive(Clone, Copy, PartialEq, Eq)]
-pub(crate) enum Request<'a> {
-    /// To reduce the input of this name for the class pure.
-    Reduce {
-        name: &'a str,
-    },
-    /// To check the document of the second name against the formula of the first, with so many workers.
-    Check {
-        formula: &'a str,
-        document: &'a str,
-        workers: u32,
-    },
+/// What lawful words ask for: a command over the inputs under these names, with these options.
+#[derive(Clone, Copy)]
+pub(crate) struct Request<'a> {
+    pub(crate) command: Command,
+    pub(crate) names: &'a [&'a str],
+    pub(crate) options: Options,
 }
 
 /// What lawful words ask for, or the number of the refused word, counted from 1: the least number of
 /// first words with which no lawful list begins, or the number after the last where one begins with all.
-pub(crate) fn request_of<'a>(words: &[&'a str]) -> Result<Request<'a>, usize>
+pub(crate) fn request_of<'a>(words: &'a [&'a str]) -> Result<Request<'a>, usize>
     ensures asked { MatchResult result
-        (λ request. Asks request (command_of (map (λ w. w.now) words.now)))
+        (λ request. request_of (map (λ w. w.now) words.now) ≡ Some (asked request))
         (IsRefusedAt (map (λ w. w.now) words.now)) }
-    ensures workers { IfOk result HasWorkers }
+    ensures names { IfOk result (λ request. length request.names.now ≡ length (inputs_of request.command)) }
+    ensures workers { IfOk result (λ request. 0 < request.options.workers) }
 {
-    match words.split_first() {
-        Some((word, others)) if *word == "reduce" => behind_reduce(others),
-        Some((word, others)) if *word == "check" => behind_check(others),
-        _ => Err(1),
+    let command = command_of(words)?;
+    let front = command.words().len();
+    let end = front + command.inputs();
+    if words.len() < end {
+        return Err(words.len() + 1);
     }
-}
-
-/// The same behind the word `reduce`.
-fn behind_reduce<'a>(words: &[&'a str]) -> Result<Request<'a>, usize>
-    ensures asked { MatchResult result
-        (λ request. Asks request (command_of (reduce ∷ map (λ w. w.now) words.now)))
-        (IsRefusedAt (reduce ∷ map (λ w. w.now) words.now)) }
-    ensures workers { IfOk result HasWorkers }
-{
-    match words.split_first() {
-        Some((word, others)) if *word == "pure" => behind_class(others),
-        _ => Err(2),
-    }
-}
-
-/// The same behind the words `reduce` and `pure`.
-fn behind_class<'a>(words: &[&'a str]) -> Result<Request<'a>, usize>
-    ensures asked { MatchResult result
-        (λ request. Asks request (command_of (reduce ∷ pure ∷ map (λ w. w.now) words.now)))
-        (IsRefusedAt (reduce ∷ pure ∷ map (λ w. w.now) words.now)) }
-    ensures workers { IfOk result HasWorkers }
-{
-    let Some((name, options)) = words.split_first() else {
-        return Err(3);
-    };
-    match refused_option(Verb::Reduce, options) {
-        None => Ok(Request::Reduce { name: *name }),
-        Some(place) => Err(place + 4),
-    }
-}
-
-/// The same behind the word `check`.
-fn behind_check<'a>(words: &[&'a str]) -> Result<Request<'a>, usize>
-    ensures asked { MatchResult result
-        (λ request. Asks request (command_of (check ∷ map (λ w. w.now) words.now)))
-        (IsRefusedAt (check ∷ map (λ w. w.now) words.now)) }
-    ensures workers { IfOk result HasWorkers }
-{
-    let Some((formula, others)) = words.split_first() else {
-        return Err(2);
-    };
-    let Some((document, options)) = others.split_first() else {
-        return Err(3);
-    };
-    match refused_option(Verb::Check, options) {
-        None => Ok(Request::Check {
-            formula: *formula,
-            document: *document,
-            workers: workers_of(options),
+    match options_of(command, &words[end..]) {
+        Ok(options) => Ok(Request {
+            command,
+            names: &words[front..end],
+            options,
         }),
-        Some(place) => Err(place + 4),
+        Err(place) => Err(end + place + 1),
     }
+}
+
+/// The command whose words stand at the front, or the number of the first word that none goes on with.
+fn command_of(words: &[&str]) -> Result<Command, usize>
+    ensures { MatchResult result
+        (IsCommandOf (map (λ w. w.now) words.now))
+        (IsUnknownAt (map (λ w. w.now) words.now)) }
+{
+    let mut known = 0;
+    for command in COMMANDS {
+        let front = command.words();
+        let count = common(words, front);
+        if count == front.len() {
+            return Ok(command);
+        }
+        if known < count {
+            known = count;
+        }
+    }
+    Err(known + 1)
+}
+
+/// How many words stand at the front of both.
+fn common(words: &[&str], front: &[&str]) -> usize
+    ensures { result ≡ common (map (λ w. w.now) words.now) (map (λ w. w.now) front.now) }
+{
+    let mut count = 0;
+    while count < words.len() && count < front.len() {
+        if words[count] != front[count] {
+            return count;
+        }
+        count += 1;
+    }
+    count
 }

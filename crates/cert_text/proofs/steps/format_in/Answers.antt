@@ -1,9 +1,8 @@
 use Rattle.std.proofs.Common.{◌∷◌, [], ◌∙◌, List, ℕ, ap, sym, refl}
-use Rattle.std.specs.Prelude.{option_and_then}
 use Rattle.std.specs.Borrow.{Bor}
 use Rattle.lk_model.specs.Texts.Lines.{Word}
 use Rattle.cert_text.specs.Fields.{fields, rest_fields}
-use Rattle.cert_text.specs.Drafts.{format_words, if_allowed}
+use Rattle.cert_text.specs.Drafts.{format_words}
 use Rattle.cert_text.proofs.Words.{many}
 use Rattle.cert_text.proofs.steps.format_in.Goals as goal
 
@@ -14,4 +13,4 @@ returns-then-is_some c =
     let words =
     c.first_field.ensures.words ∙ ap (λ o. x ∷ rest_fields o) c.in_default-Some.is-1
     ∙ ap (λ (ws : List Word). x ∷ ws) (sym (ap (λ (r : Bor (List ℕ)). fields r.now) c.in_default-Some.rest-is) ∙ c.first_field-2.ensures.words) in
-    many (λ ws. option_and_then (if_allowed c.args.scope) (format_words ws)) (x ∷ y ∷ []) _ c.first_field-2.result.1 words (sym c.is_some.ensures ∙ c.if-is_some.true) (λ word more. refl)
+    many format_words (x ∷ y ∷ []) _ c.first_field-2.result.1 words (sym c.is_some.ensures ∙ c.if-is_some.true) (λ word more. refl)

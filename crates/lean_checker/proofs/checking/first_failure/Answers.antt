@@ -1,24 +1,39 @@
-use Rattle.std.proofs.Common.{◌≡◌, ◌∙◌, Option, None, Ok, Err, sym}
-use Rattle.std.specs.Prelude.{IfOk}
-use Rattle.std.specs.declared.result.Result.{Result}
-use Rattle.lk_model.specs.Checks.Check.{first_of}
-use Rattle.lk_model.specs.Checks.Checks.{first_failure, first_five, class_checks}
+use Rattle.std.proofs.Common.{◌≡◌, ◌∙◌, ℕ, Option, sym, ap, subst, true}
+use Rattle.std.specs.Prelude.{unwrap_or}
+use Rattle.std.proofs.lemmas.Result.{IfOk-weaker}
 use Rattle.lk_model.specs.Formulas.Formula.{Cnf}
-use Rattle.lk_model.specs.Formulas.Crossed.{no_variable, protected_by}
-use Rattle.lk_model.specs.declared.list.OutOfMemory.{OutOfMemory}
-use Rattle.lk_model.specs.declared.document.Document.TheVariants.{Done}
-use Rattle.lk_model.specs.declared.document.DoneDocument.{DoneDocument}
-use Rattle.lk_model.specs.declared.verdict.Why.{Why}
-use Rattle.lean_checker.proofs.FirstFailures.{common_found, class_found}
+use Rattle.lk_model.specs.Formulas.Crossed.{formula_without, no_variable, protected_by}
+use Rattle.lk_model.specs.Documents.Form.{is_protect_line}
+use Rattle.lk_model.specs.Checks.Check.{first_of}
+use Rattle.lk_model.specs.Checks.Checks.{class_checks}
+use Rattle.kernel_laws.proofs.Passed.{in_form}
+use Rattle.lean_checker.proofs.FirstFailures.{common_found}
+use Rattle.lean_checker.proofs.ProtectedChecks.{found_without}
 use Rattle.lean_checker.proofs.checking.first_failure.Goals as goal
 
--- what is found of the class is the first failure where none of the four fails
-of_class : (F : Cnf) (d : DoneDocument) (r : Result (Option Why) OutOfMemory) → d.protect ≡ None → None ≡ first_of (first_five (protected_by d.protect) F d) → IfOk r (λ why. why ≡ first_of (class_checks no_variable F d d.body)) → IfOk r (λ why. why ≡ first_failure F (Done d))
-of_class F d (Ok why) unprotected none e = class_found F d why unprotected none e
-of_class F d (Err e) unprotected none h = tt
-
 pub returns-in-Some-clause-first : goal.returns-in-Some-clause-first
-returns-in-Some-clause-first c = common_found c.args.f.now c.args.d.now c.in-Some.why c.requires.checked.0 (sym c.in-Some.is ∙ c.in_ok-why.ensures.first)
+returns-in-Some-clause-first g c = common_found c.args.f.now c.args.d.now c.in-Some.why (sym c.in-Some.is ∙ c.in_ok-why.ensures.first)
+
+pub without_protected-requires : goal.without_protected-requires
+without_protected-requires g c =
+    subst (λ (n : ℕ). is_protect_line n c.args.d.now.protect ≡ true) (c.in_ok-why.ensures.sizes c.in_default.is).vars (in_form c.args.d.now c.requires.form).protect
+
+pub returns-in-Some-2-clause-first : goal.returns-in-Some-2-clause-first
+returns-in-Some-2-clause-first g c =
+    let F = c.args.f.now in
+    let d = c.args.d.now in
+    let none = sym c.in_default.is ∙ c.in_ok-why.ensures.first in
+    let is : c.in-Some-2.rest ≡ formula_without F (protected_by d.protect) = ap (λ (o : Option Cnf). unwrap_or o F) (sym c.in-Some-2.is) ∙ c.in_ok-rest.ensures in
+    IfOk-weaker c.class_failure.result (λ why. why ≡ first_of (class_checks no_variable c.in-Some-2.rest d d.body)) _
+    (λ why found. found_without F d why c.requires.form (c.in_ok-why.ensures.sizes c.in_default.is) none (found ∙ ap (λ (G : Cnf). first_of (class_checks no_variable G d d.body)) is))
+    c.class_failure.ensures
 
 pub returns-in-None-clause-first : goal.returns-in-None-clause-first
-returns-in-None-clause-first c = of_class c.args.f.now c.args.d.now c.class_failure.result c.requires.checked.0 (sym c.in-None.is ∙ c.in_ok-why.ensures.first) c.class_failure.ensures
+returns-in-None-clause-first g c =
+    let F = c.args.f.now in
+    let d = c.args.d.now in
+    let none = sym c.in_default.is ∙ c.in_ok-why.ensures.first in
+    let is : F ≡ formula_without F (protected_by d.protect) = ap (λ (o : Option Cnf). unwrap_or o F) (sym c.in-None.is) ∙ c.in_ok-rest.ensures in
+    IfOk-weaker c.class_failure-in-None.result (λ why. why ≡ first_of (class_checks no_variable F d d.body)) _
+    (λ why found. found_without F d why c.requires.form (c.in_ok-why.ensures.sizes c.in_default.is) none (found ∙ ap (λ (G : Cnf). first_of (class_checks no_variable G d d.body)) is))
+    c.class_failure-in-None.ensures

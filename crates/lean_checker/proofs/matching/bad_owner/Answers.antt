@@ -1,19 +1,17 @@
-use Rattle.std.proofs.Common.{◌+◌, ◌∙◌, refl, sym, ap, rules, arith, length, subst, List, ℕ, ℤ}
+use Rattle.std.proofs.Common.{◌∙◌, ap, rules, length, subst, List, ℕ, ℤ}
 use borrow.Author.Tests.{tests}
-use Rattle.std.proofs.lemmas.Iterator.{YieldsList-from_range}
-use Rattle.std.proofs.lemmas.Iterator.Adapters.{option_map_id}
-use Rattle.std.proofs.lemmas.Iterator.Search.{find_from_yields_List}
 use Rattle.lk_model.specs.Formulas.Formula.{clause_at}
 use Rattle.lk_model.specs.Formulas.Assignment.{assignment_of}
 use Rattle.lk_model.specs.Held.PartialValues.{assignment_by}
 use Rattle.lean_checker.specs.Flags.{AreKeptFlags}
 use Rattle.lean_checker.specs.Matching.{AreOwners, AreFirstOwners, is_bad_owner}
 use Rattle.lean_checker.proofs.MatchingChecks.{AreOwnerTables, owner_found}
+use Rattle.lean_checker.proofs.Spans.{place_told}
 use Rattle.lean_checker.proofs.matching.bad_owner.Goals as goal
 
 -- what is found is the first position that is bad by the tables
 pub returns : goal.returns
-returns c =
+returns g c =
     let F = c.args.f.now in
     let d = c.args.d.now in
     let own = c.args.own.now in
@@ -27,6 +25,6 @@ returns c =
       owners_so = subst (λ (m : ℕ). AreOwners m own owners) c.len-m.ensures.value c.in_ok-owners.ensures.of_position;
       first_so = subst (λ (m : ℕ). AreFirstOwners F.vars m own first) c.len-m.ensures.value (subst (λ (n : ℕ). AreFirstOwners n c.len-m.result own first) c.vars-n.ensures.value c.in_ok-owners.ensures.first);
     } in
-    let places = YieldsList-from_range {s = record { start = 1; end = c.len-m.result + 1 }} 1 _ (length F.clauses) refl (omega (arith, c.len-m.ensures.value)) in
-    let first_bad = find_from_yields_List (λ p. is_bad_owner φ kept owners first p (clause_at F p)) _ _ c.find.result c.find.ensures.ran places (λ x b q k. search (rules, tests)) in
-    sym (option_map_id c.find.result) ∙ first_bad ∙ owner_found F d own φ kept owners first tables c.requires.own
+    place_told (λ p. is_bad_owner φ kept owners first p (clause_at F p)) c.len-m.result (length F.clauses) c.least_place.result _ c.len-m.ensures.value
+    (owner_found F d own φ kept owners first tables c.requires.own)
+    (c.least_place.ensures (λ p. is_bad_owner φ kept owners first p (clause_at F p)) (λ p b low high told. search (rules, tests)))

@@ -1,17 +1,15 @@
-use Rattle.std.proofs.Common.{◌+◌, ◌∙◌, refl, sym, rules, arith, subst, List, ℕ, Option}
+use Rattle.std.proofs.Common.{rules, subst, List, ℕ, Option}
 use borrow.Author.Tests.{tests}
-use Rattle.std.proofs.lemmas.Iterator.{YieldsList-from_range}
-use Rattle.std.proofs.lemmas.Iterator.Adapters.{option_map_id}
-use Rattle.std.proofs.lemmas.Iterator.Search.{find_from_yields_List}
 use Rattle.lk_model.specs.declared.document.MatchRow.{MatchRow}
 use Rattle.lean_checker.specs.Pairs.{AreOccurring}
 use Rattle.lean_checker.specs.Matching.{AreRows, AreFirstRows, AreRankBounds, AreNamedThere, has_own, has_escape, is_bad_row}
 use Rattle.lean_checker.proofs.MatchingChecks.{AreRowTables, row_found}
+use Rattle.lean_checker.proofs.Spans.{place_told}
 use Rattle.lean_checker.proofs.matching.bad_row.Goals as goal
 
 -- what is found is the first variable that is bad by the tables
 pub returns : goal.returns
-returns c =
+returns g c =
     let F = c.args.f.now in
     let d = c.args.d.now in
     let rows = c.args.rows.now in
@@ -31,6 +29,6 @@ returns c =
       escape_so = subst (λ (ps : List ℕ). AreNamedThere F ps table has_escape escape) c.as_slice.ensures
           (subst (λ (t : List (Option MatchRow)). AreNamedThere F c.as_slice.result.now t has_escape escape) c.as_slice-2.ensures.value c.in_ok-seen.ensures.escape);
     } in
-    let places = YieldsList-from_range {s = record { start = 1; end = c.vars-n.result + 1 }} 1 _ F.vars refl (omega (arith, c.vars-n.ensures.value)) in
-    let first_bad = find_from_yields_List (is_bad_row table first bounds occurring own escape) _ _ c.find.result c.find.ensures.ran places (λ x b q k. search (rules, tests)) in
-    sym (option_map_id c.find.result) ∙ first_bad ∙ row_found F d rows table first bounds occurring own escape tables c.requires.rows
+    place_told (is_bad_row table first bounds occurring own escape) c.vars-n.result F.vars c.least_place.result _ c.vars-n.ensures.value
+    (row_found F d rows table first bounds occurring own escape tables c.requires.rows)
+    (c.least_place.ensures (is_bad_row table first bounds occurring own escape) (λ p b low high told. search (rules, tests)))

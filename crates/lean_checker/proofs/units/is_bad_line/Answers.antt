@@ -1,13 +1,11 @@
-use Rattle.std.proofs.Common.{◌≡◌, ◌∙◌, ◌<◌, ◌-◌, ◌∷◌, ◌++◌, ◌||◌, ℕ, List, ℤ, [], neg_ℤ, get_or, length, ap, sym, subst, true, arith, rules}
-use Rattle.std.specs.Prelude.{slice_set, nat_le, ◌^◌}
+use Rattle.std.proofs.Common.{◌≡◌, ◌∙◌, ◌<◌, ◌-◌, ◌∷◌, ◌++◌, ◌||◌, List, ℤ, [], neg_ℤ, length, sym, subst, arith, rules}
+use Rattle.std.specs.Prelude.{slice_set}
 use Rattle.std.proofs.lemmas.Int.{to_z-of_z}
 use Rattle.std.proofs.lemmas.List.{get_or_read}
 use mir.Syntax.{w128}
 use mir.Val.{SFits}
 use Rattle.exact_rows.proofs.Wides.{fits_in_range}
-use Rattle.lk_model.specs.Limits.{is_in_range}
 use Rattle.lk_model.specs.declared.document.Share.{Share}
-use Rattle.lk_model.proofs.Literals.{variable_complement}
 use Rattle.lean_checker.specs.Linear.{AreNone, AreNumbers, AreUnitNumbers, ClearsShares, numbers_of, numbers_by, is_unbalanced, is_unbalanced_share}
 use Rattle.lean_checker.proofs.UnitChecks.{unit_form, unit_told, balanced_is, line_told, none_again}
 use Rattle.lean_checker.proofs.units.is_bad_line.Goals as goal

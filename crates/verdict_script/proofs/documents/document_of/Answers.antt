@@ -7,8 +7,8 @@ use Rattle.lk_model.specs.declared.document.DoneDocument.{DoneDocument}
 use Rattle.verdict_script.proofs.Forms.{matching_form}
 use Rattle.verdict_script.proofs.documents.document_of.Goals as goal
 
-pub returns-clause-form : goal.returns-clause-form
-returns-clause-form c =
+pub returns : goal.returns
+returns c =
     let F = c.args.f.now in
     let d : DoneDocument = record {
       vars = c.vars-vars.result;

@@ -1,18 +1,29 @@
-use Rattle.std.proofs.Common.{◌∙◌, arith, ap}
+use Rattle.std.proofs.Common.{◌∙◌, ◌+◌, map, arith, ap, sym, length}
 use Rattle.std.proofs.lemmas.List.{length-map}
-use Rattle.std.proofs.lemmas.Slice.Eq.{bytes_eq-Decides}
-use Rattle.workbench.specs.Lawful.{reduce, check}
-use Rattle.workbench.proofs.LawfulLists.{no_words, other_first}
+use Rattle.std.proofs.lemmas.Result.{err_from_is_err_and}
+use Rattle.workbench.specs.OptionKeys.{numbers_of}
+use Rattle.workbench.proofs.LawfulLists.{unknown}
+use Rattle.workbench.proofs.RequestWords.{lawful_request, refused_request, missing_in}
 use Rattle.workbench.proofs.words.request_of.Goals as goal
-use Rattle.workbench.proofs.words.request_of.Goals.{in_default-via-in-Some-2+else-eq-2, in_default-via-in_default}
 
-pub returns-in_default-clause-asked : goal.returns-in_default-clause-asked
-returns-in_default-clause-asked c = elim c.in_default.branch [
-  | in_default-via-in-Some-2+else-eq-2 w ↦
-      let parts = w.in-Some-2.ensures.cases.0 in
-      let same = ap (λ r. r.now.now) w.in-Some-2.word-is in
-      rw parts (other_first _ _
-      (λ e. absurd (cc (w.if-eq.ensures, (bytes_eq-Decides w.in-Some.word.now.now reduce).1 (same ∙ e))))
-      (λ e. absurd (cc (w.if-eq-2.ensures, (bytes_eq-Decides w.in-Some-2.word.now.now check).1 e))))
-  | in_default-via-in_default w ↦ no_words _ (omega (arith, w.in_default.ensures.cases, length-map c.args.words.now (λ v. v.now)))
-]
+pub returns-in_err-command-clause-asked : goal.returns-in_err-command-clause-asked
+returns-in_err-command-clause-asked c =
+    let p = err_from_is_err_and c.from_residual.result c.from_residual.ensures.1 in
+    rw (p.1, p.2) (unknown (map (λ w. w.now) c.args.words.now) c.in_err-command.field-0.0 c.in_err-command.ensures)
+
+pub returns-then-words-end-clause-asked : goal.returns-then-words-end-clause-asked
+returns-then-words-end-clause-asked c =
+    let size = sym (length-map c.words-front.result.now (λ w. w.now)) ∙ ap length c.words-front.ensures in
+    missing_in c.args.words.now c.in_ok-command.command c.in_ok-command.ensures (omega (arith, c.if-words-end.true, size, c.inputs.ensures))
+
+pub returns-in-Ok-clause-asked : goal.returns-in-Ok-clause-asked
+returns-in-Ok-clause-asked c =
+    let size = sym (length-map c.words-front.result.now (λ w. w.now)) ∙ ap length c.words-front.ensures in
+    let front = length c.words-front.result.now in
+    lawful_request c.args.words.now c.in_ok-command.command front (front + c.inputs.result) (numbers_of c.in-Ok.options) c.in_ok-command.ensures size (omega (arith, c.inputs.ensures)) (omega (arith, c.if-words-end.false)) c.in-Ok.ensures.options
+
+pub returns-in-Err-clause-asked : goal.returns-in-Err-clause-asked
+returns-in-Err-clause-asked c =
+    let size = sym (length-map c.words-front.result.now (λ w. w.now)) ∙ ap length c.words-front.ensures in
+    let front = length c.words-front.result.now in
+    refused_request c.args.words.now c.in_ok-command.command front (front + c.inputs.result) c.in-Err.place c.in_ok-command.ensures size (omega (arith, c.inputs.ensures)) (omega (arith, c.if-words-end.false)) c.in-Err.ensures.options

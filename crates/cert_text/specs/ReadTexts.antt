@@ -1,0 +1,23 @@
+-- What is read of a text, and laws over the texts of documents.
+use Rattle.std.specs.Prelude.{◌≡◌, ℕ, List}
+use Rattle.lk_model.specs.Documents.Reading.{IsTextOf, StopsAt}
+use Rattle.lk_model.specs.declared.document.Document.{Document}
+use Rattle.lk_model.specs.declared.verdict.ReadStop.{ReadStop}
+use Rattle.lk_model.specs.declared.verdict.ReadStop.TheVariants.{Line, OutOfMemory}
+
+-- the stop is at that line; want of memory is free
+abbrev pub IsStopAt : List ℕ → ReadStop → Type 0
+IsStopAt bytes (Line line) = StopsAt bytes line
+IsStopAt bytes OutOfMemory = Unit {0}
+
+-- a text is that of one document at most
+abbrev pub IsOfOneDocument : Type 0
+IsOfOneDocument = (bytes : List ℕ) (d e : Document) → IsTextOf bytes d → IsTextOf bytes e → d ≡ e
+
+-- a document has one text
+abbrev pub HasOneText : Type 0
+HasOneText = (a b : List ℕ) (d : Document) → IsTextOf a d → IsTextOf b d → a ≡ b
+
+-- the text of a document stops nowhere
+abbrev pub StopsNowhere : Type 0
+StopsNowhere = (bytes : List ℕ) (d : Document) (line : ℕ) → IsTextOf bytes d → StopsAt bytes line → ⊥

@@ -1,0 +1,147 @@
+-- Which endings are allowed, and which is decided.
+use Rattle.std.proofs.Common.{◌≡◌, ◌≢◌, ℕ, List, [], Bool, Option, Some, None, Result, Ok, Err, IfOk, refl, ap, sym, subst, ◌⊎◌, inl, inr}
+use Rattle.std.specs.Prelude.{IsTrue}
+use Rattle.lk_model.specs.Texts.Lines.{Word}
+use Rattle.lk_model.specs.declared.list.OutOfMemory.{OutOfMemory}
+use Rattle.lk_outside.specs.Causes.{Rose}
+use Rattle.cert_text.specs.ReadTexts.{IsOfOneDocument, StopsNowhere}
+use Rattle.workbench.specs.Commands.{inputs_of, Answers}
+use Rattle.workbench.specs.Endings.{Shelved, Sunk, TakesBoth, IsCutIn, Ends, IsCutOff, IsResult, DeservesStop, HasReadFault, Tells, Allows, HasValues, IsDecidedFor, IsDecided, IsUnlessFailed, StopsAsRead, StopsAt}
+use Rattle.workbench.specs.Inputs.{Told, Values, IsFirstBad}
+use Rattle.workbench.specs.Lawful.{Request, request_of}
+use Rattle.workbench.specs.Statuses.{code, is_result}
+use Rattle.workbench.specs.Stops.{status_of, line_of}
+use Rattle.workbench.specs.declared.ending.Ending.{Ending}
+use Rattle.workbench.specs.declared.status.Status.{Status}
+use Rattle.workbench.specs.declared.status.Status.TheVariants as status
+use Rattle.workbench.specs.declared.stop.Stop.{Stop}
+use Rattle.workbench.specs.declared.stop.Stop.TheVariants as stop
+use Rattle.workbench.proofs.CommandTable.{one_status}
+use Rattle.workbench.proofs.InputLaws.{one_reading, none_bad, none_stops}
+
+-- WHAT IS ALLOWED
+
+result_is : (o : Option Request) (told : Told) (s : Status) (written said : List ℕ) → IsResult o told s written said → IsTrue (is_result s)
+result_is None told s written said h = absurd h
+result_is (Some request) told s written said h = h.result
+
+-- a result is allowed
+pub result_allowed : (words : List Word) (shelf : Shelved) (s : Status) (written said : List ℕ) → IsResult (request_of words) shelf.told s written said → Allows words shelf s written said
+result_allowed words shelf s written said h = by s h (result_is (request_of words) shelf.told s written said h)
+  where
+    by : (s : Status) → IsResult (request_of words) shelf.told s written said → IsTrue (is_result s) → Allows words shelf s written said
+    by status.Done h is = h
+    by status.Budget h is = h
+    by status.TooWide h is = h
+    by status.TooLarge h is = h
+    by status.Refused h is = h
+    by status.Words h is = absurd (let f : ⊥ = cc is in f)
+    by status.Input h is = absurd (let f : ⊥ = cc is in f)
+    by status.ReadFault h is = absurd (let f : ⊥ = cc is in f)
+    by status.WriteFault h is = absurd (let f : ⊥ = cc is in f)
+    by status.Memory h is = absurd (let f : ⊥ = cc is in f)
+
+-- so it is never a failed write
+pub not_write_fault : (words : List Word) (shelf : Shelved) (s : Status) (written said : List ℕ) → Allows words shelf s written said → s ≢ status.WriteFault
+not_write_fault words shelf s written said h e = subst (λ (t : Status). Allows words shelf t written said) e h
+
+read_fault : (o : Option Request) (shelf : Shelved) → Rose shelf.before shelf.after → StopsAsRead o shelf.told shelf.ailing shelf.current stop.Read → HasReadFault o shelf
+read_fault None shelf rose h = h
+read_fault (Some request) shelf rose h = (rose, h.0, h.1)
+
+-- what a stop tells is allowed
+pub stop_allowed : (words : List Word) (shelf : Shelved) (s : Stop) (written said : List ℕ) → StopsAt words shelf.told shelf.ailing shelf.current s → (s ≡ stop.Read → Rose shelf.before shelf.after) → Tells s written said → Allows words shelf (status_of s) written said
+stop_allowed words shelf (stop.Words i) written said h rose tells = (i, h, tells)
+stop_allowed words shelf (stop.Formula r) written said h rose tells = (stop.Formula r, by (request_of words) h, tells)
+  where
+    by : (o : Option Request) → StopsAsRead o shelf.told shelf.ailing shelf.current (stop.Formula r) → DeservesStop o shelf.told (stop.Formula r)
+    by None h = h
+    by (Some request) h = h
+stop_allowed words shelf (stop.Document line) written said h rose tells = (stop.Document line, by (request_of words) h, tells)
+  where
+    by : (o : Option Request) → StopsAsRead o shelf.told shelf.ailing shelf.current (stop.Document line) → DeservesStop o shelf.told (stop.Document line)
+    by None h = h
+    by (Some request) h = h
+stop_allowed words shelf (stop.Model line) written said h rose tells = (stop.Model line, by (request_of words) h, tells)
+  where
+    by : (o : Option Request) → StopsAsRead o shelf.told shelf.ailing shelf.current (stop.Model line) → DeservesStop o shelf.told (stop.Model line)
+    by None h = h
+    by (Some request) h = h
+stop_allowed words shelf stop.Read written said h rose tells = (read_fault (request_of words) shelf (rose refl) h, tells)
+stop_allowed words shelf stop.Memory written said h rose tells = tells
+
+-- WHAT IS DECIDED
+
+-- it is status 2, or the inputs are read
+decided_by : (request : Request) (told : Told) (decided : Status) → IsDecidedFor request told decided → (decided ≡ status.Input) ⊎ HasValues request told decided
+decided_by request told status.Input h = inl refl
+decided_by request told status.Done h = inr h
+decided_by request told status.Words h = inr h
+decided_by request told status.ReadFault h = inr h
+decided_by request told status.WriteFault h = inr h
+decided_by request told status.Budget h = inr h
+decided_by request told status.TooWide h = inr h
+decided_by request told status.TooLarge h = inr h
+decided_by request told status.Refused h = inr h
+decided_by request told status.Memory h = inr h
+
+-- a result has the decided status
+pub result_decided : IsOfOneDocument → (o : Option Request) (told : Told) (s decided : Status) (written said : List ℕ) → IsResult o told s written said → IsDecided o told decided → IsUnlessFailed (code s) decided
+result_decided once None told s decided written said h d = absurd h
+result_decided once (Some request) told s decided written said h d = inl (ap code (by (decided_by request told decided d) d))
+  where
+    by : (decided ≡ status.Input) ⊎ HasValues request told decided → IsDecidedFor request told decided → s ≡ decided
+    by (inl e) d = absurd (none_bad once told 0 (inputs_of request.command) request.names h.values h.read (subst (IsDecidedFor request told) e d))
+    by (inr v) d =
+        let same = one_reading once told 0 (inputs_of request.command) request.names h.values v.values v.told_all h.read v.read in
+        one_status request.command request.options v.values decided s written said v.decides (subst (λ (values : Values (inputs_of request.command)). Answers request.command request.options values s written said) same h.answers)
+
+-- a bad input has status 2
+bad_decided : IsOfOneDocument → StopsNowhere → (request : Request) (told : Told) (s : Stop) (decided : Status) → IsFirstBad told 0 (inputs_of request.command) request.names s → IsDecidedFor request told decided → decided ≡ status.Input
+bad_decided once never request told s decided h d = by (decided_by request told decided d)
+  where
+    by : (decided ≡ status.Input) ⊎ HasValues request told decided → decided ≡ status.Input
+    by (inl e) = e
+    by (inr v) = absurd (none_stops once never told 0 (inputs_of request.command) request.names v.values s v.told_all v.read h)
+
+-- so is that of a stop, unless a call or memory failed
+pub stop_decided : IsOfOneDocument → StopsNowhere → (words : List Word) (told : Told) (ailing : Bool) (current : Option (List ℕ)) (s : Stop) (decided : Status) → StopsAt words told ailing current s → IsDecided (request_of words) told decided → IsUnlessFailed (code (status_of s)) decided
+stop_decided once never words told ailing current (stop.Words i) decided h d =
+    let is : decided ≡ status.Words = subst (λ (o : Option Request). IsDecided o told decided) h.unlawful d in
+    inl (ap code (sym is))
+stop_decided once never words told ailing current (stop.Formula r) decided h d = inl (ap code (sym (by (request_of words) h d)))
+  where
+    by : (o : Option Request) → StopsAsRead o told ailing current (stop.Formula r) → IsDecided o told decided → decided ≡ status.Input
+    by None h d = absurd h
+    by (Some request) h d = bad_decided once never request told (stop.Formula r) decided h d
+stop_decided once never words told ailing current (stop.Document line) decided h d = inl (ap code (sym (by (request_of words) h d)))
+  where
+    by : (o : Option Request) → StopsAsRead o told ailing current (stop.Document line) → IsDecided o told decided → decided ≡ status.Input
+    by None h d = absurd h
+    by (Some request) h d = bad_decided once never request told (stop.Document line) decided h d
+stop_decided once never words told ailing current (stop.Model line) decided h d = inl (ap code (sym (by (request_of words) h d)))
+  where
+    by : (o : Option Request) → StopsAsRead o told ailing current (stop.Model line) → IsDecided o told decided → decided ≡ status.Input
+    by None h d = absurd h
+    by (Some request) h d = bad_decided once never request told (stop.Model line) decided h d
+stop_decided once never words told ailing current stop.Read decided h d = inr (inl refl)
+stop_decided once never words told ailing current stop.Memory decided h d = inr (inr (inr refl))
+
+-- THE ENDING OF A STOP
+
+pub told_allowed : (words : List Word) (shelf : Shelved) (s : Stop) (r : Result Ending OutOfMemory) → IfOk r (λ e. e.status ≡ status_of s) → IfOk r (λ e. Tells s e.written.items e.said.items) → StopsAt words shelf.told shelf.ailing shelf.current s
+    → (s ≡ stop.Read → Rose shelf.before shelf.after) → IfOk r (λ e. Allows words shelf e.status e.written.items e.said.items)
+told_allowed words shelf s (Ok e) is tells h rose = subst (λ (t : Status). Allows words shelf t e.written.items e.said.items) (sym is) (stop_allowed words shelf s e.written.items e.said.items h rose tells)
+told_allowed words shelf s (Err e) is tells h rose = tt
+
+pub told_decided : IsOfOneDocument → StopsNowhere → (words : List Word) (told : Told) (ailing : Bool) (current : Option (List ℕ)) (s : Stop) (r : Result Ending OutOfMemory) → IfOk r (λ e. e.status ≡ status_of s) → StopsAt words told ailing current s
+    → IfOk r (λ e. (decided : Status) → IsDecided (request_of words) told decided → IsUnlessFailed (code e.status) decided)
+told_decided once never words told ailing current s (Ok e) is h = λ decided d. subst (λ (t : Status). IsUnlessFailed (code t) decided) (sym is) (stop_decided once never words told ailing current s decided h d)
+told_decided once never words told ailing current s (Err e) is h = tt
+
+-- want of memory for that line is allowed too
+pub memory_ends : (words : List Word) (shelf : Shelved) (out say : Sunk) (answer : ℕ) → answer ≡ code status.Memory → TakesBoth out say [] (line_of stop.Memory) → Ends words shelf out say answer
+memory_ends words shelf out say answer is taken = record { status = status.Memory; written = []; said = line_of stop.Memory; allowed = (refl, refl); answer_is = is; taken = taken }
+
+pub memory_cut : (words : List Word) (shelf : Shelved) (out say : Sunk) → IsCutIn out say [] (line_of stop.Memory) → IsCutOff words shelf out say
+memory_cut words shelf out say cut = record { status = status.Memory; written = []; said = line_of stop.Memory; allowed = (refl, refl); cut = cut }

@@ -1,0 +1,83 @@
+-- What reducers find is told by documents that reduce the formula.
+use Rattle.std.proofs.Common.{◌≡◌, ℕ, ◌∙◌, true, List, length, refl, sym, ap, subst, arith, Option, None, ℤ}
+use Rattle.std.specs.Prelude.{IsTrue}
+use Rattle.lk_model.specs.Formulas.Formula.{Cnf, is_formula, IsWithinLimits, positions_of, clauses_at}
+use Rattle.lk_model.specs.Formulas.Crossed.{Variables, formula_without, protected_by}
+use Rattle.lk_model.specs.Formulas.Lean.{are_positions}
+use Rattle.lk_model.specs.Documents.Form.{is_protect_line}
+use Rattle.lk_model.specs.Documents.Text.{text_of}
+use Rattle.lk_model.specs.Reduction.{Reduces, protect_line_of, WritesReduction}
+use Rattle.lk_model.specs.declared.class.Class.{Class}
+use Rattle.lk_model.specs.declared.class.Class.TheVariants as class
+use Rattle.lk_model.specs.declared.document.Body.{Body}
+use Rattle.lk_model.specs.declared.document.Body.TheVariants.{Pure, Matching}
+use Rattle.lk_model.specs.declared.document.Document.TheVariants.{Done as Finished}
+use Rattle.lk_model.specs.declared.document.DoneDocument.{DoneDocument}
+use Rattle.lk_model.specs.declared.result.PureResult.{PureResult}
+use Rattle.lk_model.specs.declared.result.MatchingResult.{MatchingResult}
+use Rattle.lk_model.proofs.Crossings.{formula_form, fewer_literals}
+use Rattle.kernel_laws.specs.Pure.PureResults.{IsPureResult, IsSetLine, pure_document}
+use Rattle.kernel_laws.specs.Matching.MatchingResults.{IsMatchingResult, set_line, matching_document}
+use Rattle.kernel_laws.specs.Protected.FoundLaw.{rest_of, written_for}
+use Rattle.kernel_laws.proofs.Pure.PureResults.{pure_result_law}
+use Rattle.kernel_laws.proofs.Protected.Crossing.{same_count}
+use Rattle.kernel_laws.proofs.Protected.EmptyLaws.{formula_same}
+use Rattle.kernel_laws.proofs.Protected.FoundLaws.{found_law}
+use Rattle.workbench.specs.Founds.{document_of, IsFoundFor}
+use Rattle.workbench.specs.declared.document.Found.{Found}
+
+-- what is left of a formula is within the limits
+limits_left : (P : Variables) (F : Cnf) → IsWithinLimits F → IsWithinLimits (formula_without F P)
+limits_left P F limits = record {
+  vars = limits.vars;
+  clauses = (let same = same_count F P in let fit = limits.clauses in omega (arith, same, fit));
+  literals = (let few = fewer_literals P F in let fit = limits.literals in omega (arith, few, fit));
+}
+
+-- a document of what is left, written for the formula, tells the same
+same_document : (F : Cnf) (protect : Option (List ℕ)) (class : Class) (pivots : ℕ) (found : Found)
+    → Reduces F class pivots (written_for F protect (document_of (rest_of F protect) protect found)) → Reduces F class pivots (document_of F protect found)
+same_document F protect class pivots found r = subst (λ (d : DoneDocument). Reduces F class pivots d)
+    (λ i. record { vars = F.vars; clauses = same_count F (protected_by protect) i; protect = protect; kept = found.kept; set = found.set; body = found.body; texts = clauses_at F found.kept }) r
+
+pub pure_found : (rest : Cnf) (r : PureResult) (set : List ℤ) → IsTrue (are_positions rest r.kept) → IsPureResult rest r → IsSetLine r.order set
+    → IsFoundFor class.Pure rest (record { kept = r.kept; set = set; body = Pure r.order r.pairs })
+pure_found rest r set positions h line = record {
+  positions = positions;
+  reduces = λ F protect pivots form limits protects is.
+      let P = protected_by protect in
+      let there : IsPureResult (rest_of F protect) r = subst (λ (G : Cnf). IsPureResult G r) (sym is) h in
+      same_document F protect class.Pure pivots (record { kept = r.kept; set = set; body = Pure r.order r.pairs })
+      (found_law.pure F protect pivots (pure_document (rest_of F protect) r set) form limits protects refl
+      (pure_result_law.reduces (rest_of F protect) pivots r set (formula_form P F form) (limits_left P F limits) there line));
+}
+
+pub matching_found : (rest : Cnf) (r : MatchingResult) (set : List ℤ) → IsMatchingResult rest (positions_of rest) r → set ≡ set_line rest r.own
+    → IsFoundFor class.Matching rest (record { kept = r.kept; set = set; body = Matching r.own r.rows })
+matching_found rest r set h line = subst (λ (ls : List ℤ). IsFoundFor class.Matching rest (record { kept = r.kept; set = ls; body = Matching r.own r.rows })) (sym line) (record {
+  positions = h.positions;
+  reduces = λ F protect pivots form limits protects is.
+      let there : IsMatchingResult (rest_of F protect) (positions_of (rest_of F protect)) r = subst (λ (G : Cnf). IsMatchingResult G (positions_of G) r) (sym is) h in
+      let told = same_document F protect class.Matching pivots (record { kept = r.kept; set = set_line (rest_of F protect) r.own; body = Matching r.own r.rows })
+      (found_law.matching F protect pivots r form limits protects there) in
+      subst (λ (G : Cnf). Reduces F class.Matching pivots (document_of F protect (record { kept = r.kept; set = set_line G r.own; body = Matching r.own r.rows }))) is told;
+})
+
+-- WHAT IS WRITTEN
+
+-- the text of the document of what was found, with the line of the listed variables
+pub writes_found : (F : Cnf) (class : Class) (listed protect : Option (List ℕ)) (rest : Cnf) (found : Found) (pivots : ℕ) (d : DoneDocument) (written : List ℕ) → IsTrue (is_formula F) → IsWithinLimits F
+    → protect ≡ protect_line_of F listed → IsTrue (is_protect_line F.vars protect) → rest_of F protect ≡ rest → IsFoundFor class rest found
+    → d ≡ document_of F protect found → written ≡ text_of (Finished d) → WritesReduction F class listed pivots written
+writes_found F class listed protect rest found pivots d written form limits lists line is h told text = record {
+  document = d;
+  reduces = subst (λ (e : DoneDocument). Reduces F class pivots e) (sym told) (h.reduces F protect pivots form limits line is);
+  protects = ap (λ (e : DoneDocument). e.protect) told ∙ lists;
+  written_is = text;
+}
+
+-- without a list
+pub writes_plain : (F : Cnf) (class : Class) (found : Found) (pivots : ℕ) (d : DoneDocument) (written : List ℕ) → IsTrue (is_formula F) → IsWithinLimits F → IsFoundFor class F found
+    → d ≡ document_of F None found → written ≡ text_of (Finished d) → WritesReduction F class None pivots written
+writes_plain F class found pivots d written form limits h told text =
+    writes_found F class None None F found pivots d written form limits refl refl (formula_same F) h told text

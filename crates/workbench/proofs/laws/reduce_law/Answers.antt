@@ -1,0 +1,8 @@
+use Rattle.workbench.proofs.Outcomes.{pure_outcomes, matching_outcomes}
+use Rattle.workbench.proofs.laws.reduce_law.Goals as goal
+
+pub returns-clause-pure : goal.returns-clause-pure
+returns-clause-pure c = pure_outcomes
+
+pub returns-clause-matching : goal.returns-clause-matching
+returns-clause-matching c = matching_outcomes

@@ -1,0 +1,22 @@
+-- That a reduction and a check agree.
+use Rattle.std.specs.Prelude.{◌≡◌, ℕ, List, None}
+use Rattle.lk_model.specs.Formulas.Formula.{Cnf}
+use Rattle.lk_model.specs.Texts.Dimacs.{Spells}
+use Rattle.lk_model.specs.Reduction.{ReducesTo}
+use Rattle.lk_model.specs.declared.class.Class.TheVariants.{Pure}
+use Rattle.lk_model.specs.declared.document.Document.{Document}
+use Rattle.lk_model.specs.Documents.Reading.{IsTextOf}
+use Rattle.lean_checker.specs.Verdicts.{verdict_of}
+use Rattle.lean_checker.specs.declared.verdict.Verdict.TheVariants.{Accepted}
+
+-- the first text spells a formula, and the second is that of a document that is accepted for it
+pub record IsAcceptedFor (text written : List ℕ) : Type 0 where
+  pub F : Cnf
+  pub d : Document
+  pub spells : Spells text F
+  pub read : IsTextOf written d
+  pub accepted : verdict_of F d ≡ Accepted
+
+-- what a reduction writes of a text is accepted for that text
+abbrev pub WrittenIsAccepted : Type 0
+WrittenIsAccepted = (text written : List ℕ) (pivots : ℕ) → ReducesTo text Pure None pivots written → IsAcceptedFor text written

@@ -1,0 +1,29 @@
+-- What a reducer finds, and the document that tells it.
+use Rattle.std.specs.Prelude.{◌≡◌, ℕ, List, length, Option, IsTrue}
+use Rattle.lk_model.specs.Formulas.Formula.{Cnf, is_formula, IsWithinLimits, clauses_at}
+use Rattle.lk_model.specs.Formulas.Lean.{are_positions}
+use Rattle.lk_model.specs.Documents.Form.{is_protect_line}
+use Rattle.lk_model.specs.Reduction.{Reduces}
+use Rattle.lk_model.specs.declared.class.Class.{Class}
+use Rattle.lk_model.specs.declared.document.DoneDocument.{DoneDocument}
+use Rattle.kernel_laws.specs.Protected.FoundLaw.{rest_of}
+use Rattle.workbench.specs.declared.document.Found.{Found}
+
+-- the document with this protect line, and with the clauses of the formula at the kept positions
+abbrev pub document_of : Cnf → Option (List ℕ) → Found → DoneDocument
+document_of F protect found = record {
+  vars = F.vars;
+  clauses = length F.clauses;
+  protect = protect;
+  kept = found.kept;
+  set = found.set;
+  body = found.body;
+  texts = clauses_at F found.kept;
+}
+
+-- Found in a formula: told as a document it reduces each formula of which this is what is left without the protected
+-- variables, and so the formula itself where none is protected.
+pub record IsFoundFor (class : Class) (rest : Cnf) (found : Found) : Type 0 where
+  pub positions : IsTrue (are_positions rest found.kept)
+  pub reduces : (F : Cnf) (protect : Option (List ℕ)) (pivots : ℕ) → IsTrue (is_formula F) → IsWithinLimits F → IsTrue (is_protect_line F.vars protect)
+      → rest_of F protect ≡ rest → Reduces F class pivots (document_of F protect found)

@@ -1,0 +1,117 @@
+-- What the clauses of a run come to for each command.
+use Rattle.std.specs.Prelude.{◌≡◌, ◌≢◌, ◌⊎◌, ℕ, List, [], ◌∷◌, codes, decimal, Option, Some, None, IfSome, IsSome, IsSomeAnd, IsTrue, nat_eq}
+use Rattle.std.specs.List.{list_any}
+use Rattle.lk_model.specs.Formulas.Formula.{Cnf}
+use Rattle.lk_model.specs.Texts.Dimacs.{Spells}
+use Rattle.lk_model.specs.Texts.Fault.{fault_of}
+use Rattle.lk_model.specs.Texts.Lines.{Word}
+use Rattle.lk_model.specs.Texts.PlainText.{line}
+use Rattle.lk_model.specs.Checks.Checks.{first_failure, Accepts, IsSound}
+use Rattle.lk_model.specs.Documents.KindWords.{refused_words}
+use Rattle.lk_model.specs.Reduction.{IsReduction, ReducesTo}
+use Rattle.lk_model.specs.declared.class.Class.{Class}
+use Rattle.lk_model.specs.declared.document.Document.{Document}
+use Rattle.lk_model.specs.declared.document.Document.TheVariants.{Done as Finished, Unfinished}
+use Rattle.lk_model.specs.declared.document.DoneDocument.{DoneDocument}
+use Rattle.lk_model.specs.declared.document.OpenDocument.{OpenDocument}
+use Rattle.lk_model.specs.declared.verdict.Why.{Why}
+use Rattle.lk_model.specs.Documents.Reading.{IsTextOf}
+use Rattle.workbench.specs.Commands.Reporting.{WritesReport}
+use Rattle.workbench.specs.Endings.{Shelved, Sunk, Takes, Ends, IsDecided}
+use Rattle.workbench.specs.Lawful.{request_of}
+use Rattle.workbench.specs.Settings.{Options}
+use Rattle.workbench.specs.declared.command.Command.{Command}
+use Rattle.workbench.specs.declared.command.Command.TheVariants.{Check, Report}
+use Rattle.workbench.specs.declared.status.Status.TheVariants.{Done, Input, Budget, Refused}
+
+-- the words ask for the command over these inputs, with these options
+abbrev pub AskFor : List Word → Command → List Word → Options → Type 0
+AskFor words command names options = request_of words ≡ Some (record { command = command; names = names; options = options })
+
+-- the told bytes are a formula's, or are outside the grammar
+abbrev pub IsFormulaText : Option (List ℕ) → Type 0
+IsFormulaText told = IsSomeAnd told (λ bytes. fault_of bytes ≡ None)
+
+abbrev pub IsNoFormulaText : Option (List ℕ) → Type 0
+IsNoFormulaText told = IsSomeAnd told (λ bytes. fault_of bytes ≢ None)
+
+-- the told bytes are no document's
+abbrev pub IsNoDocumentText : Option (List ℕ) → Type 0
+IsNoDocumentText told = IsSomeAnd told (λ bytes. (d : Document) → IsTextOf bytes d → ⊥)
+
+-- With status 0 the document of a reduction of the formula for the class stands on `out`, and nothing was said. No status but
+-- these comes, and a told text decides between 0 and 2.
+pub record ReduceMeans (class : Class) (words : List Word) (shelf : Shelved) (out say : Sunk) (name : Word) (options : Options) : Type 0 where
+  pub done : Ends words shelf out say 0 → (text : List ℕ) × IfSome (shelf.told name) (λ bytes. ReducesTo bytes class None options.pivots text) × Takes out text × (say.after ≡ say.before)
+  pub statuses : (answer : ℕ) → Ends words shelf out say answer → IsTrue (list_any (nat_eq answer) (0 ∷ 2 ∷ 3 ∷ 9 ∷ []))
+  pub complete : IsFormulaText (shelf.told name) → IsDecided (request_of words) shelf.told Done
+  pub refuses : IsNoFormulaText (shelf.told name) → IsDecided (request_of words) shelf.told Input
+
+-- where they are told, the first text spells the formula, and the second is the document's
+pub record AreRead (formula document : Option (List ℕ)) (F : Cnf) (d : Document) : Type 0 where
+  pub spells : IfSome formula (λ bytes. Spells bytes F)
+  pub read : IfSome document (λ bytes. IsTextOf bytes d)
+
+-- No check of the document fails for the formula. So it is a reduction, whoever made it.
+pub record IsAccepted (formula document : Option (List ℕ)) : Type 0 where
+  pub F : Cnf
+  pub d : DoneDocument
+  pub read : AreRead formula document F (Finished d)
+  pub accepts : Accepts F d
+
+pub record IsProved (formula document : Option (List ℕ)) : Type 0 where
+  pub accepted : IsAccepted formula document
+  pub reduction : IsReduction accepted.F accepted.d
+
+-- an unfinished document of so many learned clauses, of which no check fails
+pub record IsOpenFor (formula document : Option (List ℕ)) (learned : ℕ) : Type 0 where
+  pub F : Cnf
+  pub d : OpenDocument
+  pub read : AreRead formula document F (Unfinished d)
+  pub sound : IsSound F d
+  pub count : learned ≡ d.learned
+
+-- this is the first check that fails
+pub record IsRefusedFor (formula document : Option (List ℕ)) (why : Why) : Type 0 where
+  pub F : Cnf
+  pub d : Document
+  pub read : AreRead formula document F d
+  pub fails : first_failure F d ≡ Some why
+
+-- With status 0 `out` has `accepted`, and the document is proved; with 5 the document is unfinished and sound, and `out` has
+-- how many clauses it learned; with 8 it has the first check that fails. Nothing is said with these. No status but these
+-- comes, and told texts decide between 0, 5, 8 and 2.
+pub record CheckMeans (words : List Word) (shelf : Shelved) (out say : Sunk) (formula document : Option (List ℕ)) : Type 0 where
+  pub done : Ends words shelf out say 0 → IsProved formula document × Takes out (line (codes "accepted" ∷ [])) × (say.after ≡ say.before)
+  pub refused : Ends words shelf out say 8 → (why : Why) × IsRefusedFor formula document why × Takes out (line (refused_words why)) × (say.after ≡ say.before)
+  pub unfinished : Ends words shelf out say 5 → (learned : ℕ) × IsOpenFor formula document learned × Takes out (line (codes "unfinished" ∷ decimal learned ∷ [])) × (say.after ≡ say.before)
+  pub statuses : (answer : ℕ) → Ends words shelf out say answer → IsTrue (list_any (nat_eq answer) (0 ∷ 2 ∷ 3 ∷ 5 ∷ 8 ∷ 9 ∷ []))
+  pub complete : IsSome formula → IsSome document → IsAccepted formula document → IsDecided (request_of words) shelf.told Done
+  pub sound : IsSome formula → IsSome document → (learned : ℕ) → IsOpenFor formula document learned → IsDecided (request_of words) shelf.told Budget
+  pub fails : IsSome formula → IsSome document → (why : Why) → IsRefusedFor formula document why → IsDecided (request_of words) shelf.told Refused
+  pub refuses : IsNoFormulaText formula ⊎ (IsFormulaText formula × IsNoDocumentText document) → IsDecided (request_of words) shelf.told Input
+
+-- the text spells a formula, and what is written tells its numbers
+pub record Reports (text written : List ℕ) : Type 0 where
+  pub formula : Cnf
+  pub spells : Spells text formula
+  pub writes : WritesReport formula written
+
+-- With status 0 the numbers of the formula stand on `out`, and nothing was said. No status but these comes, and a told text
+-- decides between 0 and 2.
+pub record ReportMeans (words : List Word) (shelf : Shelved) (out say : Sunk) (name : Word) : Type 0 where
+  pub done : Ends words shelf out say 0 → (text : List ℕ) × IfSome (shelf.told name) (λ bytes. Reports bytes text) × Takes out text × (say.after ≡ say.before)
+  pub statuses : (answer : ℕ) → Ends words shelf out say answer → IsTrue (list_any (nat_eq answer) (0 ∷ 2 ∷ 3 ∷ 9 ∷ []))
+  pub complete : IsFormulaText (shelf.told name) → IsDecided (request_of words) shelf.told Done
+  pub refuses : IsNoFormulaText (shelf.told name) → IsDecided (request_of words) shelf.told Input
+
+-- so it is for all words that ask for the command
+abbrev pub ReduceOutcomes : Command → Class → Type 0
+ReduceOutcomes command class = (words : List Word) (shelf : Shelved) (out say : Sunk) (name : Word) (options : Options) → AskFor words command (name ∷ []) options → ReduceMeans class words shelf out say name options
+
+abbrev pub CheckOutcomes : Type 0
+CheckOutcomes = (words : List Word) (shelf : Shelved) (out say : Sunk) (formula document : Word) (options : Options) → AskFor words Check (formula ∷ document ∷ []) options
+    → CheckMeans words shelf out say (shelf.told formula) (shelf.told document)
+
+abbrev pub ReportOutcomes : Type 0
+ReportOutcomes = (words : List Word) (shelf : Shelved) (out say : Sunk) (name : Word) (options : Options) → AskFor words Report (name ∷ []) options → ReportMeans words shelf out say name

@@ -1,0 +1,81 @@
+//! The commands `reduce` of the classes that end with status 0 alone.
+ghost use Rattle.std.specs.Prelude.{◌≡◌, ◌<◌, ◌∷◌, [], length, map, None, IfOk, IfErr, IsErrAnd};
+ghost use Rattle.lk_model.specs.Documents.Text.{text_of};
+ghost use Rattle.lk_model.specs.declared.document.Document.TheVariants.{Done as Finished};
+ghost use Rattle.lk_outside.specs.Causes.{HasCause};
+ghost use Rattle.workbench.specs.Commands.{inputs_of};
+ghost use Rattle.workbench.specs.Endings.{HasResult};
+ghost use Rattle.workbench.specs.Inputs.{StopsOn};
+ghost use Rattle.workbench.specs.Requests.{request_for};
+
+use crate::command::Command;
+use crate::document::document_of;
+use crate::ending::Ending;
+use crate::find::{find_matching, find_pure};
+use crate::input::read_formula;
+use crate::options::Options;
+use crate::status::Status;
+use crate::stop::Stop;
+use cert_text::print;
+use lk_model::{Document, DoneDocument, OutOfMemory};
+use lk_outside::{Gate, Shelf};
+use std::alloc::Global;
+use std::thread::Threads;
+
+/// Writes the document of the pure kernel of the formula under a name.
+pub(crate) fn perform_pure<H: Shelf>(
+    alloc: Global,
+    shelf: &mut H,
+    names: &[&str],
+    options: Options,
+) -> Result<Ending, Stop>
+    requires names { length names.now ≡ length (inputs_of Command.ReducePure) }
+    ensures ok { IfOk result (λ e. HasResult
+        (request_for Command.ReducePure (map (λ w. w.now) names.now) options) (H.told shelf.old)
+        e.status e.written.items e.said.items) }
+    ensures stop { IfErr result (StopsOn (H.told shelf.old) 0 (inputs_of Command.ReducePure) (map (λ w. w.now) names.now)
+        (H.ailing shelf.new) (H.current shelf.new)) }
+    ensures cause { HasCause (H.faults shelf.old) (H.faults shelf.new) (IsErrAnd result (λ s. s ≡ Stop.Read)) }
+{
+    let formula = read_formula(alloc, shelf, names[0])?;
+    let found = find_pure(alloc, &formula)?;
+    let document = document_of(alloc, &formula, None, found)?;
+    Ok(written(alloc, document)?)
+}
+
+/// Writes the document of the matching kernel of the formula under a name.
+pub(crate) fn perform_matching<R: Threads + Sync, H: Shelf, G: Gate>(
+    rt: &R,
+    alloc: Global,
+    gate: &G,
+    shelf: &mut H,
+    names: &[&str],
+    options: Options,
+) -> Result<Ending, Stop>
+    requires names { length names.now ≡ length (inputs_of Command.ReduceMatching) }
+    requires workers { 0 < options.workers }
+    ensures ok { IfOk result (λ e. HasResult
+        (request_for Command.ReduceMatching (map (λ w. w.now) names.now) options) (H.told shelf.old)
+        e.status e.written.items e.said.items) }
+    ensures stop { IfErr result (StopsOn (H.told shelf.old) 0 (inputs_of Command.ReduceMatching) (map (λ w. w.now) names.now)
+        (H.ailing shelf.new) (H.current shelf.new)) }
+    ensures cause { HasCause (H.faults shelf.old) (H.faults shelf.new) (IsErrAnd result (λ s. s ≡ Stop.Read)) }
+{
+    let formula = read_formula(alloc, shelf, names[0])?;
+    let found = find_matching(rt, alloc, gate, &formula, options.workers)?;
+    let document = document_of(alloc, &formula, None, found)?;
+    Ok(written(alloc, document)?)
+}
+
+/// The ending that writes a document.
+fn written(alloc: Global, document: DoneDocument) -> Result<Ending, OutOfMemory>
+    ensures status { IfOk result (λ e. e.status ≡ Status.Done) }
+    ensures written { IfOk result (λ e. e.written.items ≡ text_of (Finished document)) }
+    ensures said { IfOk result (λ e. e.said.items ≡ []) }
+{
+    Ok(Ending {
+        status: Status::Done,
+        written: print(alloc, &Document::Done(document))?,
+        said: Vec::new(alloc),
+    })
+}

@@ -1,0 +1,153 @@
+//! The command `report`.
+ghost use Rattle.std.specs.Prelude.{◌≡◌, ◌++◌, ◌∷◌, [], length, map, flat_map, OnOk, IfOk, IfErr, IsErrAnd};
+ghost use Rattle.lk_model.specs.Formulas.Formula.{occurring_count};
+ghost use Rattle.lk_model.specs.declared.class.Class.TheVariants.{Pure, Matching};
+ghost use Rattle.lk_outside.specs.Causes.{HasCause};
+ghost use Rattle.workbench.specs.Commands.{inputs_of};
+ghost use Rattle.workbench.specs.Commands.Reporting.{IsKernelSize, WritesReport, row_line};
+ghost use Rattle.workbench.specs.Counting.{seen};
+ghost use Rattle.workbench.specs.Endings.{HasResult};
+ghost use Rattle.workbench.specs.Inputs.{StopsOn};
+ghost use Rattle.workbench.specs.Requests.{request_for};
+
+use crate::command::Command;
+use crate::counts::counts_of;
+use crate::ending::Ending;
+use crate::input::read_formula;
+use crate::options::Options;
+use crate::status::Status;
+use crate::stop::Stop;
+use lk_model::{Formula, OutOfMemory};
+use lk_outside::Shelf;
+use lk_text::put_i128;
+use matching_kernel::matching_kernel;
+use pure_strip::pure_kernel;
+use std::alloc::Global;
+
+/// Writes the numbers of the formula under a name.
+pub(crate) fn perform<H: Shelf>(
+    alloc: Global,
+    shelf: &mut H,
+    names: &[&str],
+    options: Options,
+) -> Result<Ending, Stop>
+    requires names { length names.now ≡ length (inputs_of Command.Report) }
+    ensures ok { IfOk result (λ e. HasResult
+        (request_for Command.Report (map (λ w. w.now) names.now) options) (H.told shelf.old)
+        e.status e.written.items e.said.items) }
+    ensures stop { IfErr result (StopsOn (H.told shelf.old) 0 (inputs_of Command.Report) (map (λ w. w.now) names.now)
+        (H.ailing shelf.new) (H.current shelf.new)) }
+    ensures cause { HasCause (H.faults shelf.old) (H.faults shelf.new) (IsErrAnd result (λ s. s ≡ Stop.Read)) }
+{
+    let formula = read_formula(alloc, shelf, names[0])?;
+    Ok(Ending {
+        status: Status::Done,
+        written: report_of(alloc, &formula)?,
+        said: Vec::new(alloc),
+    })
+}
+
+/// The text of the numbers of a formula.
+fn report_of(alloc: Global, f: &Formula) -> Result<Vec<u8>, OutOfMemory>
+    ensures { IfOk result (λ text. WritesReport f.now text.items) }
+{
+    let occurring = occurring_count(alloc, f)?;
+    let counts = counts_of(alloc, f)?;
+    let pure = pure_size(alloc, f)?;
+    let matching = matching_size(alloc, f)?;
+    text_of(
+        alloc,
+        &[
+            Row {
+                word: "variables",
+                number: u64::from(f.vars()),
+            },
+            Row {
+                word: "occurring",
+                number: occurring,
+            },
+            Row {
+                word: "clauses",
+                number: u64::from(f.len()),
+            },
+            Row {
+                word: "literals",
+                number: counts.literals,
+            },
+            Row {
+                word: "empty",
+                number: counts.empty,
+            },
+            Row {
+                word: "units",
+                number: counts.units,
+            },
+            Row {
+                word: "tautologies",
+                number: counts.tautologies,
+            },
+            Row {
+                word: "pure",
+                number: pure,
+            },
+            Row {
+                word: "matching",
+                number: matching,
+            },
+        ],
+    )
+}
+
+/// How many variables occur in a formula.
+fn occurring_count(alloc: Global, f: &Formula) -> Result<u64, OutOfMemory>
+    ensures { IfOk result (λ count. count ≡ occurring_count f.now) }
+{
+    let all = f.positions(alloc)?;
+    let occurring = f.occurring(alloc, all.as_slice())?;
+    Ok(occurring.len() as u64)
+}
+
+/// The size of the pure kernel of a formula.
+fn pure_size(alloc: Global, f: &Formula) -> Result<u64, OutOfMemory>
+    ensures { IfOk result (IsKernelSize Pure f.now) }
+{
+    let found = pure_kernel(alloc, f)?;
+    Ok(found.kept.len() as u64)
+}
+
+/// The size of the matching kernel of a formula.
+fn matching_size(alloc: Global, f: &Formula) -> Result<u64, OutOfMemory>
+    ensures { IfOk result (IsKernelSize Matching f.now) }
+{
+    let all = f.positions(alloc)?;
+    let found = matching_kernel(alloc, f, all.as_slice())?;
+    Ok(found.kept.len() as u64)
+}
+
+/// A word and a number, which make a line.
+#[derive(Clone, Copy)]
+struct Row {
+    word: &'static str,
+    number: u64,
+}
+
+/// The text of rows, a line for each.
+fn text_of(alloc: Global, rows: &[Row]) -> Result<Vec<u8>, OutOfMemory>
+    ensures { IfOk result (λ text. text.items ≡ flat_map row_line (map seen rows.now)) }
+{
+    let mut text = Vec::new(alloc);
+    for row in rows {
+        put_row(&mut text, *row)?;
+    }
+    Ok(text)
+}
+
+/// Appends the line of a row.
+fn put_row(text: &mut Vec<u8>, row: Row) -> Result<(), OutOfMemory>
+    ensures { OnOk result (text.new.items ≡ text.old.items ++ row_line (seen row)) }
+{
+    text.extend_from_slice(row.word.as_bytes())?;
+    text.push(b' ')?;
+    put_i128(text, i128::from(row.number))?;
+    Ok(text.push(b'\n')?)
+}

@@ -1,0 +1,48 @@
+//! The statuses with which the program ends.
+ghost use Rattle.std.specs.Prelude.{◌≡◌};
+ghost use Rattle.workbench.specs.Statuses.{code};
+
+/// The status with which the program ends.
+#[derive(Clone, Copy, Debug, PartialEq, Eq)]
+pub(crate) enum Status {
+    /// The result was written.
+    Done,
+    /// The words are not lawful.
+    Words,
+    /// An input is outside its grammar.
+    Input,
+    /// A call on the shelf failed.
+    ReadFault,
+    /// A call on a sink failed.
+    WriteFault,
+    /// A budget was used up.
+    Budget,
+    /// A number has no room.
+    TooWide,
+    /// The formula is too large for the class.
+    TooLarge,
+    /// A check fails.
+    Refused,
+    /// There was no memory.
+    Memory,
+}
+
+impl Status {
+    /// Its number.
+    pub(crate) fn code(self) -> u8
+        ensures { result ≡ code self }
+    {
+        match self {
+            Status::Done => 0,
+            Status::Words => 1,
+            Status::Input => 2,
+            Status::ReadFault => 3,
+            Status::WriteFault => 4,
+            Status::Budget => 5,
+            Status::TooWide => 6,
+            Status::TooLarge => 7,
+            Status::Refused => 8,
+            Status::Memory => 9,
+        }
+    }
+}
