@@ -1,5 +1,5 @@
 //! Greatest common divisors.
-ghost use Rattle.std.specs.Prelude.{◌≡◌, ◌≤◌, IsTrue, max};
+ghost use Rattle.std.specs.Prelude.{◌≡◌, ◌≤◌, IsTrue, IfSome, max};
 ghost use Rattle.lk_model.specs.Limits.{is_in_range};
 ghost use Rattle.lk_model.specs.Linear.Arithmetic.{gcd, gcd_of};
 
@@ -17,6 +17,29 @@ pub fn gcd(a: i128, b: i128) -> i128
 fn gcd_unsigned(a: u128, b: u128) -> u128
     ensures value { result ≡ gcd a b }
     ensures most { result ≤ max a b }
+{
+    let (mut x, mut y) = (a, b);
+    while y != 0 {
+        if let Some(divisor) = gcd_short(x, y) {
+            return divisor;
+        }
+        (x, y) = (y, x % y);
+    }
+    x
+}
+
+// That of numbers of 64 bits, whose remainders a processor finds several times as fast.
+fn gcd_short(a: u128, b: u128) -> Option<u128>
+    ensures { IfSome result (λ g. g ≡ gcd a b) }
+{
+    match (u64::try_from(a), u64::try_from(b)) {
+        (Ok(x), Ok(y)) => Some(u128::from(gcd_words(x, y))),
+        _ => None,
+    }
+}
+
+fn gcd_words(a: u64, b: u64) -> u64
+    ensures { result ≡ gcd a b }
 {
     let (mut x, mut y) = (a, b);
     while y != 0 {

@@ -1,5 +1,6 @@
 //! Results of arithmetic, or their operands where they are too wide.
-ghost use Rattle.std.specs.Prelude.{SomeIff, FitsSigned};
+ghost use Rattle.std.specs.Prelude.{◌≡◌, ◌*ℤ◌, SomeIff, FitsSigned, IfSome, IsTrue};
+ghost use Rattle.lk_model.specs.Limits.{is_in_range};
 ghost use mir.Syntax.{w128};
 ghost use Rattle.lk_model.specs.Linear.Arithmetic.{result_by};
 ghost use Rattle.exact_rows.specs.Made.{IsMade};
@@ -10,7 +11,21 @@ use lk_model::{Op, Wide};
 pub fn product(left: i128, right: i128) -> Result<i128, Wide>
     ensures { IsMade Op.Product left right result }
 {
-    kept(left.checked_mul(right), Op::Product, left, right)
+    match short_product(left, right) {
+        Some(x) => Ok(x),
+        None => kept(left.checked_mul(right), Op::Product, left, right),
+    }
+}
+
+// The product of numbers of 64 bits, which always fits.
+fn short_product(left: i128, right: i128) -> Option<i128>
+    ensures value { IfSome result (λ x. x ≡ left *ℤ right) }
+    ensures range { IfSome result (λ x. IsTrue (is_in_range x)) }
+{
+    match (i64::try_from(left), i64::try_from(right)) {
+        (Ok(x), Ok(y)) => Some(i128::from(x) * i128::from(y)),
+        _ => None,
+    }
 }
 
 /// The sum, or its operands where it lies outside ±(2^127 - 1).

@@ -5,7 +5,7 @@
 //!
 //! Here all results are tried before the first entry changes. So a row is as it was where one of them does not fit,
 //! the first one is told with its operands, and no copy of the row is made.
-ghost use Rattle.std.specs.Prelude.{◌≡◌, ◌≢◌, pos, ◌<ℤ◌, ◌*ℤ◌, ◌-ℤ◌, int_div, length, IsTrue, OnOk, OnErr, None};
+ghost use Rattle.std.specs.Prelude.{◌≡◌, ◌≢◌, pos, ◌<ℤ◌, ◌*ℤ◌, ◌-ℤ◌, int_div, length, IsTrue, IfOk, OnOk, OnErr, None};
 ghost use Rattle.std.specs.Result.{result_err};
 ghost use Rattle.lk_model.specs.Limits.{is_in_range};
 ghost use Rattle.lk_model.specs.Linear.Arithmetic.{content, primitive, first_wide};
@@ -31,20 +31,23 @@ pub fn primitive(row: &mut [i128])
     }
 }
 
-/// The greatest common divisor of all entries.
+/// The greatest common divisor of all entries. It is known as soon as it is 1.
 fn content(row: &[i128]) -> i128
     requires { AreInRange row.now }
     ensures { result ≡ content row.now }
 {
     let mut divisor = 0;
     for x in row.iter().rev() {
+        if divisor == 1 {
+            return 1;
+        }
         divisor = gcd(*x, divisor);
     }
     divisor
 }
 
 /// A quotient that leaves no remainder where the divisor divides.
-fn quotient(x: i128, divisor: i128) -> i128
+pub fn quotient(x: i128, divisor: i128) -> i128
     requires x { IsTrue (is_in_range x) }
     requires divisor { pos 0 <ℤ divisor }
     ensures value { result ≡ int_div x divisor }
@@ -91,9 +94,11 @@ fn try_mix(row: &[i128], other: &[i128], scale: i128, share: i128) -> Result<(),
     Ok(())
 }
 
-/// The same at one column.
-fn try_entry(scale: i128, x: i128, share: i128, y: i128) -> Result<i128, Wide>
-    ensures { result_err result ≡ first_wide (made_at scale share x y) }
+/// The entry of the mixed row in one column, or the first result there that is not in range.
+pub fn try_entry(scale: i128, x: i128, share: i128, y: i128) -> Result<i128, Wide>
+    ensures wide { result_err result ≡ first_wide (made_at scale share x y) }
+    ensures value { IfOk result (λ z. z ≡ scale *ℤ x -ℤ share *ℤ y) }
+    ensures range { IfOk result (λ z. IsTrue (is_in_range z)) }
 {
     difference(product(scale, x)?, product(share, y)?)
 }

@@ -1,4 +1,4 @@
--- The first bad step, step by step and round by round.
+-- What a chain may name and makes, and the first bad step round by round.
 use Rattle.std.proofs.Common.{◌≡◌, ◌∙◌, ℕ, zero, suc, ◌+◌, ◌-◌, ◌*◌, ◌<◌, ◌≤◌, Bool, true, false, ◌==◌, List, [], ◌∷◌, ◌++◌, length, get_or, map, take, drop, refl, sym, ap, subst, arith, ℤ, pos, negsuc, Option, Some, None, find, option_map, slice_index_or}
 use Rattle.std.specs.Prelude.{option_and_then}
 use Rattle.std.specs.List.{list_all}
@@ -6,7 +6,7 @@ use Rattle.std.specs.Option.{option_or}
 use Rattle.std.proofs.lemmas.Bool.{eqb-true, eq-eqb, ne_eqb, le-leb, lt-leb, le-ltb}
 use Rattle.std.proofs.lemmas.List.{drop_more, drop_all, take_more, length-take, get_or-take, take-append-drop, get_or_default}
 use Rattle.std.proofs.lemmas.List.Folds.{find-append}
-use Rattle.lk_model.specs.Lists.{among, is_between, rises_within, with_earlier}
+use Rattle.lk_model.specs.Lists.{among, is_between, rises_within}
 use Rattle.lk_model.specs.Formulas.Literal.{variable, contains, complement, is_literal, is_same_set, rank_of}
 use Rattle.lk_model.specs.Formulas.Formula.{Cnf, clause_at}
 use Rattle.lk_model.specs.Formulas.Crossed.{Variables, crossed_out}
@@ -24,12 +24,8 @@ use Rattle.kernel_laws.proofs.General.JoinLaws.{blocked_joined}
 use Rattle.lean_checker.specs.declared.chains.RoundAt.{RoundAt}
 use Rattle.lean_checker.specs.declared.work.Work.{Work}
 use Rattle.lean_checker.specs.Blocking.{is_before}
-use Rattle.lean_checker.specs.Chains.{IsRoundAt, IsWork, IsMade, premises_at, round_of, step_numbered, step_behind, misstates, is_unlearned, first_in_round, first_in_rounds}
+use Rattle.lean_checker.specs.Chains.{IsRoundAt, IsWork, IsMade, premises_at, round_of, step_numbered, misstates, is_unlearned, first_in_round, first_in_rounds}
 use Rattle.lean_checker.proofs.Reaching.{number_at, counts_split}
-
--- the first of some steps that passes a test, behind these
-abbrev pub first_from : (StepAt → Bool) → RoundAt → List Step → List Step → Option ℕ
-first_from t over earlier steps = option_map (λ (s : StepAt). s.step.number) (find t (map (λ (entry : List Step × Step). step_behind over entry.0 entry.1) (with_earlier earlier steps)))
 
 -- WHAT A NUMBER STANDS FOR
 
@@ -192,27 +188,10 @@ pub turn_made : (n : ℕ) (c d : List ℤ) (t : ℤ) (o : Option (List ℤ)) (w 
     → IsWork n (without c t ++ without d (complement t)) w → IsMade n (option_and_then (resolvent t c) o) true w
 turn_made n c d t o w is held against h = rw (is, held, against) (refl, h)
 
--- STEP BY STEP
-
--- the step at a place passes
-pub here_first : (t : StepAt → Bool) (over : RoundAt) (i : ℕ) (s : Step) → i < length over.steps.now → s ≡ get_or over.steps.now i s → t (step_behind over (take i over.steps.now) s) ≡ true
-    → first_from t over (take i over.steps.now) (drop i over.steps.now) ≡ Some s.number
-here_first t over i s lt is passes =
-    let here : drop i over.steps.now ≡ s ∷ drop (i + 1) over.steps.now = drop_more over.steps.now i s lt ∙ ap (λ (u : Step). u ∷ drop (i + 1) over.steps.now) (sym is) in
-    ap (first_from t over (take i over.steps.now)) here ∙ rw passes refl
-
--- or one of those behind it is the first
-pub later_first : (t : StepAt → Bool) (over : RoundAt) (i : ℕ) (s : Step) → i < length over.steps.now → s ≡ get_or over.steps.now i s → t (step_behind over (take i over.steps.now) s) ≡ false
-    → first_from t over (take i over.steps.now) (drop i over.steps.now) ≡ first_from t over (take (i + 1) over.steps.now) (drop (i + 1) over.steps.now)
-later_first t over i s lt is fails =
-    let steps : List Step = over.steps.now in
-    let here : drop i steps ≡ s ∷ drop (i + 1) steps = drop_more steps i s lt ∙ ap (λ (u : Step). u ∷ drop (i + 1) steps) (sym is) in
-    let more : take i steps ++ s ∷ [] ≡ take (i + 1) steps = ap (λ (u : Step). take i steps ++ u ∷ []) is ∙ sym (take_more steps i s lt) in
-    ap (first_from t over (take i steps)) here ∙ rw fails (ap (λ (earlier : List Step). first_from t over earlier (drop (i + 1) steps)) more)
-
 -- ROUND BY ROUND
 
-map_or : {X Y : Type 0} (f : X → Y) (a b : Option X) → option_map f (option_or a b) ≡ option_or (option_map f a) (option_map f b)
+-- what is told of the first of two
+pub map_or : {X Y : Type 0} (f : X → Y) (a b : Option X) → option_map f (option_or a b) ≡ option_or (option_map f a) (option_map f b)
 map_or f None b = refl
 map_or f (Some x) b = refl
 
@@ -233,11 +212,6 @@ round_first t F P part rounds k r blocked lt is before =
     ∙ map_or number (find t (steps_in_round F part b r)) (find t rest)
     ∙ ap (λ (q : Variables). option_or (first_in_round t F part q r) (option_map number (find t rest))) (sym before)
     ∙ ap (λ (q : Variables). option_or (first_in_round t F part blocked r) (first_in_rounds t F part q (drop (k + 1) rounds))) next
-
--- what is told of the steps of a round is told of the round
-pub round_told : (t : StepAt → Bool) (F : Cnf) (part : List ℕ) (blocked : Variables) (steps : List Step) (r : Round) (o : Option ℕ) → steps ≡ r.steps
-    → o ≡ first_in_round t F part blocked (record { steps = steps }) → first_in_round t F part blocked r ≡ o
-round_told t F part blocked steps r o same told = sym (told ∙ ap (λ (ss : List Step). first_in_round t F part blocked (record { steps = ss })) same)
 
 -- where no round is left, none is found
 pub rounds_end : (t : StepAt → Bool) (F : Cnf) (part : List ℕ) (blocked : Variables) (rounds : List Round) (k : ℕ) → length rounds ≤ k → first_in_rounds t F part blocked (drop k rounds) ≡ None

@@ -1,10 +1,10 @@
 -- What a learned clause contains, by lists and flags.
-use Rattle.std.proofs.Common.{◌≡◌, ◌∙◌, ℕ, zero, suc, ◌+◌, ◌<◌, ◌≤◌, Bool, true, false, not, ◌&&◌, ◌||◌, ◌==◌, nat_le, List, [], ◌∷◌, length, get_or, take, drop, refl, sym, ap, subst, arith, ℤ, Option, Some, None, find, inl, inr}
+use Rattle.std.proofs.Common.{◌≡◌, ◌∙◌, ℕ, zero, suc, ◌+◌, ◌<◌, ◌≤◌, Bool, true, false, not, ◌&&◌, ◌||◌, ◌==◌, nat_le, List, [], ◌∷◌, length, get_or, ◌*◌, take, drop, refl, sym, ap, subst, arith, ℤ, Option, Some, None, find, inl, inr}
 use Rattle.std.specs.List.{list_any, list_all, range_with_len}
 use Rattle.std.proofs.lemmas.List.Folds.{list_all-append}
 use Rattle.std.specs.Option.{option_map_or}
 use Rattle.std.proofs.lemmas.Bool.{cases_Bool, not-true, leb-true, leb-false, le-leb, lt-ltb}
-use Rattle.std.proofs.lemmas.List.{get_or-take, length-take, take-append-drop}
+use Rattle.std.proofs.lemmas.List.{get_or-take, get_or_default, length-take, take-append-drop}
 use Rattle.lk_model.specs.Lists.{is_empty, rises_within, up_to}
 use Rattle.lk_model.specs.Formulas.Literal.{variable, contains, complement, is_literal, is_tautology, is_within}
 use Rattle.lk_model.specs.Formulas.Formula.{Cnf, clause_at, positions_of, is_formula}
@@ -22,15 +22,18 @@ use Rattle.lk_model.proofs.ListTests.{passes_one, passes_each, passes_among, pas
 use Rattle.lk_model.proofs.Variables.{literal_passing}
 use Rattle.lean_checker.specs.declared.chains.RoundAt.{RoundAt}
 use Rattle.lean_checker.specs.declared.learned.Known.{Known}
+use Rattle.lean_checker.specs.declared.steps.Rounds.{Rounds}
 use Rattle.lean_checker.specs.Blocking.{is_before}
 use Rattle.lean_checker.specs.Chains.{step_numbered, step_behind, is_unlearned}
-use Rattle.lean_checker.specs.Index.{list_of, IsFound, AreStepsFound, AreRoundsFound}
-use Rattle.lean_checker.specs.Learned.{IsKnown, are_open_but_last, is_clause_within, is_step_within}
+use Rattle.lean_checker.specs.Index.{list_of, IsFound, AreClausesFound, AreStepsFound, AreRoundsFound}
+use Rattle.lean_checker.specs.Learned.{AreKnown, IsKnown, are_open_but_last, is_clause_within, is_step_within}
 use Rattle.lean_checker.specs.LiteralSets.{IsSetOf, has_literal}
 use Rattle.lean_checker.proofs.ChainChecks.{crossed_none, number_found, step_form, step_literals}
 use Rattle.lean_checker.proofs.FirstTables.{found_passes}
 use Rattle.lean_checker.proofs.LiteralSetLemmas.{all_told}
 use Rattle.lean_checker.proofs.Reaching.{clause_past}
+use Rattle.lean_checker.specs.Steps.{AreRounds, IsRoundOf}
+use Rattle.lean_checker.proofs.StepPlaces.{no_round, round_is}
 
 -- LITERALS THAT ARE LEFT
 
@@ -209,11 +212,28 @@ unlearned_is over known i s flags form h inside is set =
 -- IN A WHOLE DOCUMENT
 
 -- what is known of all rounds is known of the one at a place
-pub known_round : (rounds : List Round) (blocks : List ℕ) (lists : List (List ℕ)) (k : ℕ) (r : Round) → AreRoundsFound blocks lists rounds → k < length rounds → r ≡ get_or rounds k r → AreStepsFound blocks lists r.steps
+known_round : (rounds : List Round) (blocks : List ℕ) (lists : List (List ℕ)) (k : ℕ) (r : Round) → AreRoundsFound blocks lists rounds → k < length rounds → r ≡ get_or rounds k r → AreStepsFound blocks lists r.steps
 known_round rounds blocks lists k r h lt is = subst (λ (q : Round). AreStepsFound blocks lists q.steps) (sym is) (h k r lt)
 
-pub open_round : (rounds : List Round) (k : ℕ) (r : Round) → list_all (λ (q : Round). are_open_but_last q.steps) rounds ≡ true → k < length rounds → r ≡ get_or rounds k r → are_open_but_last r.steps ≡ true
+open_round : (rounds : List Round) (k : ℕ) (r : Round) → list_all (λ (q : Round). are_open_but_last q.steps) rounds ≡ true → k < length rounds → r ≡ get_or rounds k r → are_open_but_last r.steps ≡ true
 open_round rounds k r all lt is = ap (λ (q : Round). are_open_but_last q.steps) is ∙ all_at (λ (q : Round). are_open_but_last q.steps) rounds k r all lt
+
+pub known_at : (over : Rounds) (k : ℕ) (r : RoundAt) (known : Known) → AreRounds over → AreKnown over known → IsRoundOf over k r → k < length over.rounds.now → IsKnown r known
+known_at over k r known h all of lt =
+    let q : Round = get_or over.rounds.now k no_round in
+    let is : q ≡ get_or over.rounds.now k q = get_or_default over.rounds.now k no_round q lt in
+    let size : 2 * over.formula.now.vars + 2 ≡ 2 * r.formula.now.vars + 2 = ap (λ (F : Cnf). 2 * F.vars + 2) (sym of.formula) in
+    record {
+      round = round_is over k r h of lt;
+      part = of.part ∙ all.part ∙ ap positions_of (sym of.formula);
+      steps_open = ap are_open_but_last of.steps ∙ open_round over.rounds.now k q all.rounds_open lt is;
+      clauses_size = all.clauses_size ∙ size;
+      steps_size = all.steps_size ∙ size;
+      clauses = subst (λ (F : Cnf). AreClausesFound r.blocked_at.now known.clauses F (length F.clauses)) (sym of.formula)
+          (subst (λ (blocks : List ℕ). AreClausesFound blocks known.clauses over.formula.now (length over.formula.now.clauses)) (sym of.blocked_at) all.clauses);
+      steps = subst (λ (steps : List Step). AreStepsFound r.blocked_at.now known.steps steps) (sym of.steps)
+          (subst (λ (blocks : List ℕ). AreStepsFound blocks known.steps q.steps) (sym of.blocked_at) (known_round over.rounds.now over.blocked_at.now known.steps k q all.steps lt is));
+    }
 
 -- all positions rise
 pub positions_rise : (m : ℕ) → rises_within 0 m (up_to m) ≡ true

@@ -26,6 +26,8 @@ pub mod LinearFailures
 pub mod BlockTables
 pub mod Reaching
 pub mod ChainChecks
+pub mod StepPlaces
+pub mod Parts
 pub mod WorkSets
 pub mod GeneralFailures
 pub mod IndexLemmas

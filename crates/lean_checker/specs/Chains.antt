@@ -72,7 +72,3 @@ first_in_round t F part blocked r = option_map (λ (s : StepAt). s.step.number) 
 
 abbrev pub first_in_rounds : (StepAt → Bool) → Cnf → List ℕ → Variables → List Round → Option ℕ
 first_in_rounds t F part blocked rounds = option_map (λ (s : StepAt). s.step.number) (find t (steps_in_rounds F part blocked rounds))
-
--- of the steps at hand
-abbrev pub first_at : (StepAt → Bool) → RoundAt → Option ℕ
-first_at t over = first_in_round t over.formula.now over.part.now (is_before over.round over.blocked_at.now) (record { steps = over.steps.now })

@@ -1,16 +1,18 @@
 -- What a learned clause might contain, by the flags of its literals and the lists of these.
-use Rattle.std.specs.Prelude.{◌≡◌, ◌+◌, ◌*◌, ℕ, Bool, true, false, not, ◌&&◌, List, [], ◌∷◌, length}
+use Rattle.std.specs.Prelude.{◌≡◌, ◌+◌, ◌*◌, ℕ, Bool, true, false, not, ◌&&◌, List, [], ◌∷◌, length, IsTrue}
 use Rattle.std.specs.List.{list_all}
 use Rattle.std.specs.Option.{option_map_or}
 use Rattle.lk_model.specs.Lists.{is_empty}
 use Rattle.lk_model.specs.Formulas.Formula.{clause_at, positions_of}
 use Rattle.lk_model.specs.Formulas.Crossed.{crossed_out}
 use Rattle.lk_model.specs.declared.document.Step.{Step}
+use Rattle.lk_model.specs.declared.document.Round.{Round}
 use Rattle.lean_checker.specs.declared.chains.RoundAt.{RoundAt}
 use Rattle.lean_checker.specs.declared.learned.Known.{Known}
+use Rattle.lean_checker.specs.declared.steps.Rounds.{Rounds}
 use Rattle.lean_checker.specs.Blocking.{is_before}
 use Rattle.lean_checker.specs.Chains.{IsRoundAt, step_numbered}
-use Rattle.lean_checker.specs.Index.{AreClausesFound, AreStepsFound}
+use Rattle.lean_checker.specs.Index.{AreClausesFound, AreRoundsFound, AreStepsFound}
 use Rattle.lean_checker.specs.LiteralSets.{has_literal}
 
 -- no clause but the last one is empty
@@ -28,6 +30,15 @@ pub record IsKnown (over : RoundAt) (known : Known) : Type 0 where
   pub steps_size : length known.steps ≡ 2 * over.formula.now.vars + 2
   pub clauses : AreClausesFound over.blocked_at.now known.clauses over.formula.now (length over.formula.now.clauses)
   pub steps : AreStepsFound over.blocked_at.now known.steps over.steps.now
+
+-- so of all rounds
+pub record AreKnown (over : Rounds) (known : Known) : Type 0 where
+  pub part : over.part.now ≡ positions_of over.formula.now
+  pub rounds_open : IsTrue (list_all (λ (r : Round). are_open_but_last r.steps) over.rounds.now)
+  pub clauses_size : length known.clauses ≡ 2 * over.formula.now.vars + 2
+  pub steps_size : length known.steps ≡ 2 * over.formula.now.vars + 2
+  pub clauses : AreClausesFound over.blocked_at.now known.clauses over.formula.now (length over.formula.now.clauses)
+  pub steps : AreRoundsFound over.blocked_at.now known.steps over.rounds.now
 
 -- some literal of the clause at a position is left, and all that are left have flags
 abbrev pub is_clause_within : RoundAt → List Bool → ℕ → Bool

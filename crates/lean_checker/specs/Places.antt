@@ -1,9 +1,10 @@
 -- Places that are searched in ranges.
-use Rattle.std.specs.Prelude.{◌≡◌, ℕ, ◌+◌, ◌<◌, ◌≤◌, Bool, List, [], ◌∷◌, find, Option, Some, None, Ok, Err, IfOk}
+use Rattle.std.specs.Prelude.{◌≡◌, ℕ, ◌+◌, ◌<◌, ◌≤◌, Bool, List, [], ◌∷◌, ◌++◌, find, option_map, Option, Some, None, Ok, Err, IfOk}
 use Rattle.std.specs.List.{range_with_len}
 use Rattle.std.specs.declared.result.Result.{Result}
 use Rattle.std.specs.Fn.{FnReturns}
 use denote.Param.Members.{Shared}
+use denote.Ref.{Bor}
 use Rattle.lk_model.specs.declared.list.OutOfMemory.{OutOfMemory}
 use Rattle.lean_checker.specs.declared.places.Span.{Span}
 
@@ -21,7 +22,7 @@ AreCut first n [] = first ≡ n + 1
 AreCut first n (span ∷ spans) = (span.first ≡ first) × AreCut (first + span.count) n spans
 
 -- the first answer that is not none
-abbrev pub first_answer : List Answer → Answer
+abbrev pub first_answer : {X : Type 0} → List (Result (Option X) OutOfMemory) → Result (Option X) OutOfMemory
 first_answer [] = Ok None
 first_answer (Ok None ∷ rest) = first_answer rest
 first_answer (Ok (Some place) ∷ rest) = Ok (Some place)
@@ -48,3 +49,23 @@ module _ {F : Type 0} (g : Shared F (Span × Unit {0}) Answer) (f : F) (n : ℕ)
   -- and answers the first place there at which the test says yes
   abbrev pub Finds : (ℕ → Bool) → Type 0
   Finds by = (span : Span) (r : Answer) → 0 < span.first → span.first + span.count ≤ n + 1 → FnReturns g f (span, tt) r → IfOk r (λ place. place ≡ find by (places_in span))
+
+-- A SEARCH IN PARTS OF A LIST
+
+-- what the parts have, one after another
+abbrev pub joined : {T : Type 0} → List (Bor (List T)) → List T
+joined [] = []
+joined (part ∷ parts) = part.now ++ joined parts
+
+-- the items stand in the list one after another
+abbrev pub IsPart : {T : Type 0} → List T → List T → Type 0
+IsPart {T} part items = (before : List T) × (after : List T) × (items ≡ before ++ (part ++ after))
+
+module _ {F T : Type 0} (g : Shared F (Bor (List T) × Unit {0}) Answer) (f : F) (items : List T) where
+  -- f may be called on each part of the list
+  abbrev pub AcceptsParts : Type 0
+  AcceptsParts = (part : Bor (List T)) → IsPart part.now items → g.pre f (part, tt)
+
+  -- and answers what is told of the first item there at which the test says yes
+  abbrev pub FindsItems : (T → Bool) → (T → ℕ) → Type 0
+  FindsItems by tell = (part : Bor (List T)) (r : Answer) → IsPart part.now items → FnReturns g f (part, tt) r → IfOk r (λ place. place ≡ option_map tell (find by part.now))

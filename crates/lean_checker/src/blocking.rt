@@ -18,11 +18,15 @@ ghost use Rattle.lean_checker.specs.Pairs.{AreOccurring};
 ghost use Rattle.lean_checker.specs.Blocking.{AreBlocks, AreRoundSteps, AreMarked, BlocksClause, BlocksRound, is_before, is_unblocked, first_number};
 
 use crate::linear::occurring_at;
+use crate::places::Workers;
 use lk_model::{DoneDocument, Formula, Lit, OutOfMemory, Round, Step, VarSet};
+use par_parts::Gate;
 use std::alloc::Global;
+use std::thread::Threads;
 
 /// The first variable of the kept clauses that is not blocked after all rounds.
-pub(crate) fn not_blocked(
+pub(crate) fn not_blocked<R: Threads + Sync, G: Gate>(
+    workers: &Workers<R, G>,
     alloc: Global,
     f: &Formula,
     d: &DoneDocument,
@@ -35,7 +39,7 @@ pub(crate) fn not_blocked(
 {
     let occurring = occurring_at(alloc, f, d.kept.as_slice())?;
     let end = rounds.len();
-    Ok((1..f.vars() + 1).find(|v| is_unblocked(end, &occurring, blocks, *v)))
+    workers.least_place(f.vars(), &|v| is_unblocked(end, &occurring, blocks, v))
 }
 
 /// Whether a variable occurs and is not blocked before a round.

@@ -17,13 +17,18 @@ ghost use Rattle.lk_model.specs.Documents.Documents.{steps_of};
 ghost use Rattle.lk_model.specs.Documents.Form.{are_steps};
 ghost use Rattle.lk_model.specs.Checks.RoundChecks.{bad_step};
 ghost use Rattle.lean_checker.specs.Blocking.{AreBlocks, is_before};
-ghost use Rattle.lean_checker.specs.Chains.{IsRoundAt, IsWork, IsMade, premises_at, round_of, step_numbered, first_at, misstates};
+ghost use Rattle.lean_checker.specs.Chains.{IsRoundAt, IsWork, IsMade, premises_at, round_of, step_numbered, misstates};
+ghost use Rattle.lean_checker.specs.Steps.{AreRounds, first_step, is_step_place};
 
 use crate::blocking::is_before;
 use crate::common::kept_flags;
+use crate::places::Workers;
+use crate::steps::{Rounds, StepPlace, number_of, round_at, step_places};
 use crate::work::Work;
 use lk_model::{Formula, Lit, OutOfMemory, Round, Step, Turn};
+use par_parts::Gate;
 use std::alloc::Global;
+use std::thread::Threads;
 
 /// What the chains of a round may name: the clauses of a formula at the positions of a part, whose flags
 /// are up, without the literals on variables that are blocked before the round; and the round's steps.
@@ -39,12 +44,13 @@ pub(crate) struct RoundAt<'a> {
 
 /// The number of the first step whose chain has not the stated clause: a number stands for nothing, a
 /// turn can't be made, or the clause is another one.
-pub(crate) fn bad_step(
+pub(crate) fn bad_step<'a, R: Threads + Sync, G: Gate>(
+    workers: &Workers<R, G>,
     alloc: Global,
-    f: &Formula,
-    part: &[u32],
-    rounds: &[Round],
-    blocks: &[usize],
+    f: &'a Formula,
+    part: &'a [u32],
+    rounds: &'a [Round],
+    blocks: &'a [usize],
 ) -> Result<Option<u64>, OutOfMemory>
     requires part { IsTrue (are_positions f.now part.now) }
     requires steps { IsTrue (are_steps f.now.vars (length f.now.clauses) (steps_of rounds.now)) }
@@ -52,33 +58,32 @@ pub(crate) fn bad_step(
     ensures { IfOk result (λ place. place ≡ (bad_step no_variable f.now part.now rounds.now).place) }
 {
     let flags = kept_flags(alloc, f.len(), part)?;
-    let mut work = Work::new(alloc, f.vars())?;
-    for k in 0..rounds.len() {
-        let over = RoundAt {
-            formula: f,
-            part,
-            flags: flags.as_slice(),
-            blocked_at: blocks,
-            round: k,
-            steps: rounds[k].steps.as_slice(),
-        };
-        if let Some(number) = bad_step_in(&over, &mut work)? {
-            return Ok(Some(number));
-        }
-    }
-    Ok(None)
+    let places = step_places(alloc, rounds)?;
+    let over = Rounds {
+        formula: f,
+        part,
+        flags: flags.as_slice(),
+        blocked_at: blocks,
+        rounds,
+    };
+    workers.first_found(places.as_slice(), &|part| bad_step_in(alloc, &over, part))
 }
 
-/// The number of the first such step of a round.
-fn bad_step_in(over: &RoundAt, work: &mut Work) -> Result<Option<u64>, OutOfMemory>
-    requires round { IsRoundAt over.now }
-    requires work { IsWork over.now.formula.now.vars [] work.old }
-    ensures place { IfOk result (λ place. place ≡ first_at misstates over.now) }
-    ensures work { OnOk result (IsWork over.now.formula.now.vars [] work.new) }
+/// The number of the first such step of those at some places.
+fn bad_step_in(
+    alloc: Global,
+    over: &Rounds,
+    places: &[StepPlace],
+) -> Result<Option<u64>, OutOfMemory>
+    requires rounds { AreRounds over.now }
+    requires places { IsTrue (list_all (is_step_place over.now.rounds.now) places.now) }
+    ensures { IfOk result (λ place. place ≡ first_step misstates over.now places.now) }
 {
-    for i in 0..over.steps.len() {
-        if !states_its_clause(over, i, work)? {
-            return Ok(Some(over.steps[i].number));
+    let mut work = Work::new(alloc, over.formula.vars())?;
+    for j in 0..places.len() {
+        let at = places[j];
+        if !states_its_clause(&round_at(over, at.round), at.index, &mut work)? {
+            return Ok(Some(number_of(over, at)));
         }
     }
     Ok(None)

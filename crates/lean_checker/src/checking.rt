@@ -66,7 +66,7 @@ pub fn check<R: Threads + Sync, G: Gate>(
             Some(why) => Ok(Verdict::No(why)),
             None => Ok(Verdict::Accepted),
         },
-        Document::Unfinished(open) => match open_failure(alloc, f, open)? {
+        Document::Unfinished(open) => match open_failure(&workers, alloc, f, open)? {
             Some(why) => Ok(Verdict::No(why)),
             None => Ok(Verdict::Unfinished(open.learned)),
         },
@@ -148,7 +148,7 @@ fn class_failure<R: Threads + Sync, G: Gate>(
             dual.as_slice(),
             units.as_slice(),
         ),
-        Body::General { rounds } => general_failure(alloc, f, d, rounds.as_slice()),
+        Body::General { rounds } => general_failure(workers, alloc, f, d, rounds.as_slice()),
     }
 }
 

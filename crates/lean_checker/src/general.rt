@@ -10,11 +10,15 @@ ghost use Rattle.lean_checker.specs.Accepted.{HasSizes};
 use crate::blocking::{blocks_of, not_blocked};
 use crate::chains::bad_step;
 use crate::common::failure;
+use crate::places::Workers;
 use lk_model::{DoneDocument, Formula, Kind, OutOfMemory, Round, Why};
+use par_parts::Gate;
 use std::alloc::Global;
+use std::thread::Threads;
 
 /// The first failing check of those of the class general.
-pub(crate) fn general_failure(
+pub(crate) fn general_failure<R: Threads + Sync, G: Gate>(
+    workers: &Workers<R, G>,
     alloc: Global,
     f: &Formula,
     d: &DoneDocument,
@@ -26,13 +30,13 @@ pub(crate) fn general_failure(
     ensures { IfOk result (λ why. why ≡ first_of (class_checks no_variable f.now d.now (General rounds.now))) }
 {
     let blocks = blocks_of(alloc, f, rounds)?;
-    if let Some(number) = bad_step(alloc, f, d.kept.as_slice(), rounds, &blocks)? {
+    if let Some(number) = bad_step(workers, alloc, f, d.kept.as_slice(), rounds, &blocks)? {
         return Ok(Some(Why {
             kind: Kind::BadStep,
             place: number,
         }));
     }
-    match not_blocked(alloc, f, d, rounds, &blocks)? {
+    match not_blocked(workers, alloc, f, d, rounds, &blocks)? {
         Some(variable) => Ok(failure(Kind::NotBlocked, variable)),
         None => Ok(None),
     }

@@ -15,18 +15,23 @@ ghost use Rattle.lk_model.specs.Checks.RoundChecks.{not_learned};
 ghost use Rattle.lk_model.specs.declared.document.Step.{Step as AStep};
 ghost use Rattle.lk_model.specs.declared.document.Round.{Round as ARound};
 ghost use Rattle.lean_checker.specs.Blocking.{AreBlocks, is_before};
-ghost use Rattle.lean_checker.specs.Chains.{IsRoundAt, first_at, is_unlearned, step_behind};
+ghost use Rattle.lean_checker.specs.Chains.{IsRoundAt, is_unlearned, step_behind};
 ghost use Rattle.lean_checker.specs.Index.{list_of};
-ghost use Rattle.lean_checker.specs.Learned.{IsKnown, are_open_but_last, is_clause_within, is_step_within};
+ghost use Rattle.lean_checker.specs.Learned.{AreKnown, IsKnown, are_open_but_last, is_clause_within, is_step_within};
 ghost use Rattle.lean_checker.specs.LiteralSets.{IsSetOf, has_literal};
+ghost use Rattle.lean_checker.specs.Steps.{AreRounds, first_step, is_step_place};
 
 use crate::blocking::is_before;
 use crate::chains::{RoundAt, earlier};
 use crate::common::kept_flags;
 use crate::index::Index;
 use crate::literal_set::LiteralSet;
+use crate::places::Workers;
+use crate::steps::{Rounds, StepPlace, number_of, round_at, step_places};
 use lk_model::{Formula, Lit, OutOfMemory, Round};
+use par_parts::Gate;
 use std::alloc::Global;
+use std::thread::Threads;
 
 /// The clauses of a formula, and those of the steps of rounds.
 #[derive(Drop)]
@@ -38,12 +43,13 @@ struct Known {
 /// The number of the first step whose clause is not empty and not learned: it holds two complementary
 /// literals, or contains a clause of the formula of which a literal is left, or one of an earlier step of
 /// its round.
-pub(crate) fn not_learned(
+pub(crate) fn not_learned<'a, R: Threads + Sync, G: Gate>(
+    workers: &Workers<R, G>,
     alloc: Global,
-    f: &Formula,
-    part: &[u32],
-    rounds: &[Round],
-    blocks: &[usize],
+    f: &'a Formula,
+    part: &'a [u32],
+    rounds: &'a [Round],
+    blocks: &'a [usize],
 ) -> Result<Option<u64>, OutOfMemory>
     requires part { part.now ≡ positions_of f.now }
     requires steps { IsTrue (are_steps f.now.vars (length f.now.clauses) (steps_of rounds.now)) }
@@ -56,36 +62,40 @@ pub(crate) fn not_learned(
         clauses: Index::of_formula(alloc, f, blocks)?,
         steps: Index::of_rounds(alloc, f, rounds, blocks)?,
     };
-    let mut held = LiteralSet::new(alloc, f.vars())?;
-    for k in 0..rounds.len() {
-        let over = RoundAt {
-            formula: f,
-            part,
-            flags: flags.as_slice(),
-            blocked_at: blocks,
-            round: k,
-            steps: rounds[k].steps.as_slice(),
-        };
-        if let Some(number) = not_learned_in(&over, &known, &mut held) {
-            return Ok(Some(number));
+    let places = step_places(alloc, rounds)?;
+    let over = Rounds {
+        formula: f,
+        part,
+        flags: flags.as_slice(),
+        blocked_at: blocks,
+        rounds,
+    };
+    workers.first_found(
+        places.as_slice(),
+        &|part| not_learned_in(alloc, &over, &known, part),
+    )
+}
+
+/// The number of the first such step of those at some places.
+fn not_learned_in(
+    alloc: Global,
+    over: &Rounds,
+    known: &Known,
+    places: &[StepPlace],
+) -> Result<Option<u64>, OutOfMemory>
+    requires rounds { AreRounds over.now }
+    requires known { AreKnown over.now known.now }
+    requires places { IsTrue (list_all (is_step_place over.now.rounds.now) places.now) }
+    ensures { IfOk result (λ place. place ≡ first_step is_unlearned over.now places.now) }
+{
+    let mut held = LiteralSet::new(alloc, over.formula.vars())?;
+    for j in 0..places.len() {
+        let at = places[j];
+        if is_unlearned(&round_at(over, at.round), known, at.index, &mut held) {
+            return Ok(Some(number_of(over, at)));
         }
     }
     Ok(None)
-}
-
-/// The number of the first such step of a round.
-fn not_learned_in(over: &RoundAt, known: &Known, held: &mut LiteralSet) -> Option<u64>
-    requires known { IsKnown over.now known.now }
-    requires held { IsSetOf over.now.formula.now.vars [] held.old }
-    ensures place { result ≡ first_at is_unlearned over.now }
-    ensures held { IsSetOf over.now.formula.now.vars [] held.new }
-{
-    for i in 0..over.steps.len() {
-        if is_unlearned(over, known, i, held) {
-            return Some(over.steps[i].number);
-        }
-    }
-    None
 }
 
 /// Whether the step at a place has a clause that is not empty and not learned. The flags are clean before

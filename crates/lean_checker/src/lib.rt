@@ -17,6 +17,7 @@ mod pairs;
 mod places;
 mod protected;
 mod shared;
+mod steps;
 mod unfinished;
 mod units;
 mod verdict;

@@ -2,10 +2,10 @@
 //!
 //! The places from 1 on are cut into a range for each worker. Each range is searched from its front, and of what the ranges
 //! find the first counts, so the answer is the same for every number of workers.
-ghost use Rattle.std.specs.Prelude.{◌≡◌, ◌+◌, ◌^◌, ◌<◌, ℕ, Bool, find, IfOk};
+ghost use Rattle.std.specs.Prelude.{◌≡◌, ◌+◌, ◌^◌, ◌<◌, ℕ, Bool, find, option_map, IfOk};
 ghost use Rattle.std.specs.Fn.{FnReturns};
 ghost use Rattle.lk_model.specs.Lists.{up_to};
-ghost use Rattle.lean_checker.specs.Places.{AcceptsPlaces, AcceptsSpans, AreCut, Decides, Finds, first_answer, places_in};
+ghost use Rattle.lean_checker.specs.Places.{AcceptsParts, AcceptsPlaces, AcceptsSpans, AreCut, Decides, Finds, FindsItems, first_answer, places_in};
 
 use lk_model::OutOfMemory;
 use par_parts::{Gate, map_halves};
@@ -92,6 +92,35 @@ impl<R: Threads + Sync, G: Gate> Workers<'_, R, G> {
         )?;
         first_answer(answers.as_slice())
     }
+
+    /// What is told of the first item of a list by a search in parts of it, of which each worker has one.
+    pub fn first_found<T: Sync, F: Fn(&[T]) -> Result<Option<u64>, OutOfMemory> + Sync>(
+        &self,
+        items: &[T],
+        search_in: &F,
+    ) -> Result<Option<u64>, OutOfMemory>
+        requires { AcceptsParts F.Fn search_in.now items.now }
+        ensures { (by : T → Bool) (tell : T → ℕ) → FindsItems F.Fn search_in.now items.now by tell
+            → IfOk result (λ place. place ≡ option_map tell (find by items.now)) }
+    {
+        let size = items.len().saturating_sub(1) / self.count as usize + 1;
+        let mut parts = Vec::new(self.alloc);
+        for part in items.chunks(size) {
+            parts.push(part)?;
+        }
+        let answers = map_halves(
+            self.rt,
+            self.alloc,
+            self.gate,
+            parts.as_slice(),
+            self.count,
+            &|_, part: &&[T]| -> Result<Option<u64>, OutOfMemory>
+                requires { F.Fn.pre search_in.now (part.now, tt) }
+                ensures { FnReturns F.Fn search_in.entry.now (part.now, tt) result }
+            { search_in(*part) },
+        )?;
+        first_answer(answers.as_slice())
+    }
 }
 
 /// The first place of a range at which a test says yes.
@@ -127,7 +156,9 @@ fn cut(alloc: Global, n: u32, size: u32) -> Result<Vec<Span>, OutOfMemory>
 }
 
 /// The first answer that tells a place or an error.
-fn first_answer(answers: &[Result<Option<u32>, OutOfMemory>]) -> Result<Option<u32>, OutOfMemory>
+fn first_answer<P: Copy>(
+    answers: &[Result<Option<P>, OutOfMemory>],
+) -> Result<Option<P>, OutOfMemory>
     ensures { result ≡ first_answer answers.now }
 {
     for answer in answers {

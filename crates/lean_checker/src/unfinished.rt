@@ -20,12 +20,16 @@ use crate::blocking::blocks_of;
 use crate::chains::bad_step;
 use crate::common::{failure, is_same_list, other_formula};
 use crate::learned::not_learned;
+use crate::places::Workers;
 use crate::protected::without_protected;
 use lk_model::{Formula, Kind, OpenDocument, OutOfMemory, Round, Step, Why};
+use par_parts::Gate;
 use std::alloc::Global;
+use std::thread::Threads;
 
 /// The first failing check of an unfinished document.
-pub(crate) fn open_failure(
+pub(crate) fn open_failure<R: Threads + Sync, G: Gate>(
+    workers: &Workers<R, G>,
     alloc: Global,
     f: &Formula,
     d: &OpenDocument,
@@ -33,48 +37,57 @@ pub(crate) fn open_failure(
     requires form { IsTrue (is_open_in_form d.now) }
     ensures { IfOk result (λ why. why ≡ first_failure f.now (Unfinished d.now)) }
 {
-    if let Some(why) = text_failure(f, d) {
+    if let Some(why) = text_failure(workers, f, d)? {
         return Ok(Some(why));
     }
     match without_protected(alloc, f, &d.protect)? {
-        Some(rest) => step_failure(alloc, &rest, d.rounds.as_slice()),
-        None => step_failure(alloc, f, d.rounds.as_slice()),
+        Some(rest) => step_failure(workers, alloc, &rest, d.rounds.as_slice()),
+        None => step_failure(workers, alloc, f, d.rounds.as_slice()),
     }
 }
 
 /// The first failing check of those of the numbers and the clause lines.
-fn text_failure(f: &Formula, d: &OpenDocument) -> Option<Why>
+fn text_failure<R: Threads + Sync, G: Gate>(
+    workers: &Workers<R, G>,
+    f: &Formula,
+    d: &OpenDocument,
+) -> Result<Option<Why>, OutOfMemory>
     requires { IsTrue (is_open_in_form d.now) }
-    ensures first { result ≡ first_of (text_checks f.now d.now) }
-    ensures sizes { result ≡ None → HasOpenSizes f.now d.now }
+    ensures first { IfOk result (λ why. why ≡ first_of (text_checks f.now d.now)) }
+    ensures sizes { IfOk result (λ why. why ≡ None → HasOpenSizes f.now d.now) }
 {
     if let Some(place) = other_formula(f, d.vars, d.clauses) {
-        return failure(Kind::OtherFormula, place);
+        return Ok(failure(Kind::OtherFormula, place));
     }
-    if let Some(place) = every_clause(f, &d.texts) {
-        return failure(Kind::KeptClause, place);
+    if let Some(place) = every_clause(workers, f, &d.texts)? {
+        return Ok(failure(Kind::KeptClause, place));
     }
     if !has_learned(d.rounds.as_slice(), d.learned) {
-        return failure(Kind::BadCount, 0);
+        return Ok(failure(Kind::BadCount, 0));
     }
-    None
+    Ok(None)
 }
 
 /// The first failing check of those of the steps, where no variable is protected.
-fn step_failure(alloc: Global, f: &Formula, rounds: &[Round]) -> Result<Option<Why>, OutOfMemory>
+fn step_failure<R: Threads + Sync, G: Gate>(
+    workers: &Workers<R, G>,
+    alloc: Global,
+    f: &Formula,
+    rounds: &[Round],
+) -> Result<Option<Why>, OutOfMemory>
     requires steps { IsTrue (are_steps f.now.vars (length f.now.clauses) (steps_of rounds.now)) }
     requires rounds { IsTrue (list_all (λ (r : ARound). are_open_but_last r.steps) rounds.now) }
     ensures { IfOk result (λ why. why ≡ first_of (step_checks no_variable f.now rounds.now)) }
 {
     let part = f.positions(alloc)?;
     let blocks = blocks_of(alloc, f, rounds)?;
-    if let Some(number) = bad_step(alloc, f, part.as_slice(), rounds, &blocks)? {
+    if let Some(number) = bad_step(workers, alloc, f, part.as_slice(), rounds, &blocks)? {
         return Ok(Some(Why {
             kind: Kind::BadStep,
             place: number,
         }));
     }
-    match not_learned(alloc, f, part.as_slice(), rounds, &blocks)? {
+    match not_learned(workers, alloc, f, part.as_slice(), rounds, &blocks)? {
         Some(number) => Ok(Some(Why {
             kind: Kind::NotLearned,
             place: number,
@@ -84,11 +97,15 @@ fn step_failure(alloc: Global, f: &Formula, rounds: &[Round]) -> Result<Option<W
 }
 
 /// The first position whose clause line is not the formula's clause.
-fn every_clause(f: &Formula, texts: &Formula) -> Option<u32>
+fn every_clause<R: Threads + Sync, G: Gate>(
+    workers: &Workers<R, G>,
+    f: &Formula,
+    texts: &Formula,
+) -> Result<Option<u32>, OutOfMemory>
     requires { length texts.now.clauses ≡ length f.now.clauses }
-    ensures { result ≡ find (λ p. not (is_same_list (clause_at texts.now p) (clause_at f.now p))) (positions_of f.now) }
+    ensures { IfOk result (λ place. place ≡ find (λ p. not (is_same_list (clause_at texts.now p) (clause_at f.now p))) (positions_of f.now)) }
 {
-    (1..f.len() + 1).find(|p| is_other_clause(f, texts, *p))
+    workers.least_place(f.len(), &|p| is_other_clause(f, texts, p))
 }
 
 /// Whether two formulas have other clauses at a position.

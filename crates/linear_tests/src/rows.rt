@@ -1,8 +1,5 @@
 //! Calls of exact arithmetic, each with its result.
-ghost use Rattle.std.specs.Prelude.{IsTrue};
-ghost use Rattle.lk_model.specs.Limits.{is_in_range};
-ghost use Rattle.exact_rows.specs.Made.{AreInRange};
-
+use crate::ranges::{are_in_range, is_in_range};
 use exact_rows::{Op, Wide, combine, compare_ratio, gcd, primitive, sign_of_sum};
 use std::alloc::Global;
 use std::cmp::Ordering::{self, Equal, Greater, Less};
@@ -74,23 +71,6 @@ const CALLS: &[Call] = &[
     Call::Primitive(&[4, -6, 0], &[2, -3, 0]),
     Call::Primitive(&[0, 0], &[0, 0]),
 ];
-
-/// Whether a number is in range.
-fn is_in_range(x: i128) -> bool
-    ensures { IsTrue result → IsTrue (is_in_range x) }
-{
-    x != i128::MIN
-}
-
-/// Whether all numbers are.
-fn are_in_range(row: &[i128]) -> bool
-    ensures { IsTrue result → AreInRange row.now }
-{
-    match row.split_first() {
-        Some((x, others)) => is_in_range(*x) && are_in_range(others),
-        None => true,
-    }
-}
 
 /// Whether two numbers in range have the divisor.
 fn have_gcd(x: i128, y: i128, divisor: i128) -> bool {

@@ -5,7 +5,7 @@ use Rattle.lean_checker.specs.Verdicts.{verdict_by}
 use Rattle.workbench.specs.Agreement.{WrittenIsAccepted}
 
 pub written_accepted : WrittenIsAccepted
-written_accepted text written pivots r =
+written_accepted text written class protect pivots r =
     let w = r.writes in
     let s = w.reduces in
     record {

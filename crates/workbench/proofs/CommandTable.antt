@@ -10,7 +10,7 @@ use Rattle.workbench.specs.declared.command.Command.{Command}
 use Rattle.workbench.specs.declared.command.Command.TheVariants.{ReducePure, ReduceMatching, Check, Report}
 use Rattle.workbench.specs.OptionKeys.{named}
 use Rattle.workbench.specs.declared.options.Key.{Key}
-use Rattle.workbench.specs.declared.options.Key.TheVariants.{Conflicts, Pivots, Workers}
+use Rattle.workbench.specs.declared.options.Key.TheVariants.{Conflicts, Pivots, Workers, Protect}
 use Rattle.workbench.proofs.LawfulOptions.{take_one}
 
 -- words that begin with those of a command are of no other
@@ -36,8 +36,8 @@ listed Report = (3, omega arith, refl)
 
 -- its options, as the code names them
 pub options_named : (command : Command) → (keys : List Key) × (keys_of command ≡ map named keys)
-options_named ReducePure = (Conflicts ∷ Pivots ∷ Workers ∷ [], refl)
-options_named ReduceMatching = (Conflicts ∷ Pivots ∷ Workers ∷ [], refl)
+options_named ReducePure = (Conflicts ∷ Pivots ∷ Workers ∷ Protect ∷ [], refl)
+options_named ReduceMatching = (Conflicts ∷ Pivots ∷ Workers ∷ Protect ∷ [], refl)
 options_named Check = (Workers ∷ [], refl)
 options_named Report = ([], refl)
 

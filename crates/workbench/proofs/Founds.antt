@@ -1,5 +1,5 @@
 -- What reducers find is told by documents that reduce the formula.
-use Rattle.std.proofs.Common.{◌≡◌, ℕ, ◌∙◌, true, List, length, refl, sym, ap, subst, arith, Option, None, ℤ}
+use Rattle.std.proofs.Common.{◌≡◌, ℕ, ◌∙◌, List, refl, sym, ap, subst, arith, Option, ℤ}
 use Rattle.std.specs.Prelude.{IsTrue}
 use Rattle.lk_model.specs.Formulas.Formula.{Cnf, is_formula, IsWithinLimits, positions_of, clauses_at}
 use Rattle.lk_model.specs.Formulas.Crossed.{Variables, formula_without, protected_by}
@@ -9,7 +9,6 @@ use Rattle.lk_model.specs.Documents.Text.{text_of}
 use Rattle.lk_model.specs.Reduction.{Reduces, protect_line_of, WritesReduction}
 use Rattle.lk_model.specs.declared.class.Class.{Class}
 use Rattle.lk_model.specs.declared.class.Class.TheVariants as class
-use Rattle.lk_model.specs.declared.document.Body.{Body}
 use Rattle.lk_model.specs.declared.document.Body.TheVariants.{Pure, Matching}
 use Rattle.lk_model.specs.declared.document.Document.TheVariants.{Done as Finished}
 use Rattle.lk_model.specs.declared.document.DoneDocument.{DoneDocument}
@@ -17,11 +16,10 @@ use Rattle.lk_model.specs.declared.result.PureResult.{PureResult}
 use Rattle.lk_model.specs.declared.result.MatchingResult.{MatchingResult}
 use Rattle.lk_model.proofs.Crossings.{formula_form, fewer_literals}
 use Rattle.kernel_laws.specs.Pure.PureResults.{IsPureResult, IsSetLine, pure_document}
-use Rattle.kernel_laws.specs.Matching.MatchingResults.{IsMatchingResult, set_line, matching_document}
+use Rattle.kernel_laws.specs.Matching.MatchingResults.{IsMatchingResult, set_line}
 use Rattle.kernel_laws.specs.Protected.FoundLaw.{rest_of, written_for}
 use Rattle.kernel_laws.proofs.Pure.PureResults.{pure_result_law}
 use Rattle.kernel_laws.proofs.Protected.Crossing.{same_count}
-use Rattle.kernel_laws.proofs.Protected.EmptyLaws.{formula_same}
 use Rattle.kernel_laws.proofs.Protected.FoundLaws.{found_law}
 use Rattle.workbench.specs.Founds.{document_of, IsFoundFor}
 use Rattle.workbench.specs.declared.document.Found.{Found}
@@ -75,9 +73,3 @@ writes_found F class listed protect rest found pivots d written form limits list
   protects = ap (λ (e : DoneDocument). e.protect) told ∙ lists;
   written_is = text;
 }
-
--- without a list
-pub writes_plain : (F : Cnf) (class : Class) (found : Found) (pivots : ℕ) (d : DoneDocument) (written : List ℕ) → IsTrue (is_formula F) → IsWithinLimits F → IsFoundFor class F found
-    → d ≡ document_of F None found → written ≡ text_of (Finished d) → WritesReduction F class None pivots written
-writes_plain F class found pivots d written form limits h told text =
-    writes_found F class None None F found pivots d written form limits refl refl (formula_same F) h told text

@@ -12,6 +12,7 @@ pub mod KernelSizes
 pub mod Counted
 pub mod OwnLiterals
 pub mod Founds
+pub mod Protecting
 pub mod InputLaws
 pub mod EndingLaws
 pub mod Agreement

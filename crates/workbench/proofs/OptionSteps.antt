@@ -1,23 +1,22 @@
 -- From one option to the next.
-use Rattle.std.proofs.Common.{◌≡◌, ℕ, ◌+◌, ◌<◌, ◌≤◌, ◌∙◌, Bool, true, false, not, ◌&&◌, List, [], ◌∷◌, length, drop, drop-drop, Option, Some, None, refl, ap, sym, arith, inl, inr, option_map, option_and_then, is_some, unwrap_or, nat_le, Bor}
+use Rattle.std.proofs.Common.{◌≡◌, ℕ, ◌+◌, ◌<◌, ◌≤◌, ◌∙◌, Bool, true, false, not, ◌&&◌, List, [], ◌∷◌, length, drop, drop-drop, Option, Some, None, refl, ap, sym, arith, inl, inr, option_map, option_and_then, is_some, unwrap_or, Bor}
 use Rattle.std.specs.Option.{option_or}
 use Rattle.std.specs.Str.{bytes_eq}
-use Rattle.std.proofs.lemmas.Bool.{cases_Bool, leb-true}
+use Rattle.std.proofs.lemmas.Bool.{cases_Bool}
 use Rattle.std.proofs.lemmas.Slice.Eq.{bytes_eq-Decides}
 use Rattle.lk_model.specs.Texts.Lines.{Word}
 use Rattle.lk_model.specs.Texts.NumberWords.{natural}
-use Rattle.lk_model.proofs.Booleans.{and_true}
 use Rattle.workbench.specs.Commands.{keys_of}
 use Rattle.workbench.specs.Settings as settings
-use Rattle.workbench.specs.Settings.{options_of, options_by, value_in, number_in, is_in_range}
-use Rattle.workbench.specs.OptionKeys.{named, key_of, number_for, number_first, given_for, with_number, none_given, usual_for, IsWithin}
+use Rattle.workbench.specs.Settings.{options_of, options_by, value_in, is_value_of, listed}
+use Rattle.workbench.specs.OptionKeys.{named, key_of, value_first, given_for, with_value, none_given, usual_for, IsWithin}
 use Rattle.workbench.specs.OptionPlaces.{has, is_word_of, is_new, is_value, refused_place}
 use Rattle.workbench.specs.declared.command.Command.{Command}
 use Rattle.workbench.specs.declared.options.Key.{Key}
-use Rattle.workbench.specs.declared.options.Key.TheVariants.{Conflicts, Pivots, Workers}
+use Rattle.workbench.specs.declared.options.Key.TheVariants.{Conflicts, Pivots, Workers, Protect}
 use Rattle.workbench.specs.declared.options.Given.{Given}
 use Rattle.workbench.proofs.LawfulOptions.{all_pass, fit_options}
-use Rattle.workbench.proofs.OptionWords.{word_for, one_option, word_of, not_of, value_of, gives_number, number_is}
+use Rattle.workbench.proofs.OptionWords.{word_for, one_option, word_of, not_of, value_of, same_number, no_value_first, value_is_first}
 use Rattle.workbench.proofs.Texts.{texts, text_at, one_more, no_more}
 
 -- the place among all words, of the one among those from a place on
@@ -59,17 +58,17 @@ goes_on keys words before place word value on here new good =
 
 -- WHAT WAS GIVEN SO FAR
 
--- the number that words give an option
-abbrev number_of : Key → List Word → Option ℕ
-number_of key words = option_and_then natural (value_in (named key) words)
+-- the value that words give an option
+abbrev given_in : Key → List Word → Option Word
+given_in key words = value_in (named key) words
 
--- The options before a place may stand there: their words are those of what was given, whose numbers lie in their ranges, and
+-- The options before a place may stand there: their words are those of what was given, whose values are values of theirs, and
 -- what the words give is given or stands from there on.
 pub record Holds (command : Command) (words : List Word) (given : Given) (place : ℕ) : Type 0 where
   pub before : List Word
   pub on : GoesOn (keys_of command) words before place
   pub taken : (key : Key) → has before (word_for key) ≡ is_some (given_for given key)
-  pub numbers : (key : Key) → number_of key words ≡ option_or (given_for given key) (number_of key (drop place words))
+  pub values : (key : Key) → given_in key words ≡ option_or (given_for given key) (given_in key (drop place words))
   pub within : IsWithin given
 
 pub nothing : (command : Command) (words : List Word) → Holds command words none_given 0
@@ -77,24 +76,27 @@ nothing command words = record {
   before = [];
   on = begin (keys_of command) words;
   taken = λ key. untaken key;
-  numbers = λ key. all_left key;
-  within = λ key n e. none_within key n e;
+  values = λ key. all_left key;
+  within = λ key w e. none_within key w e;
 }
   where
     untaken : (key : Key) → false ≡ is_some (given_for none_given key)
     untaken Conflicts = refl
     untaken Pivots = refl
     untaken Workers = refl
+    untaken Protect = refl
 
-    all_left : (key : Key) → number_of key words ≡ option_or (given_for none_given key) (number_of key words)
+    all_left : (key : Key) → given_in key words ≡ option_or (given_for none_given key) (given_in key words)
     all_left Conflicts = refl
     all_left Pivots = refl
     all_left Workers = refl
+    all_left Protect = refl
 
-    none_within : (key : Key) (n : ℕ) → given_for none_given key ≡ Some n → is_in_range (named key) n ≡ true
-    none_within Conflicts n e = absurd (let f : ⊥ = cc e in f)
-    none_within Pivots n e = absurd (let f : ⊥ = cc e in f)
-    none_within Workers n e = absurd (let f : ⊥ = cc e in f)
+    none_within : (key : Key) (w : Word) → given_for none_given key ≡ Some w → is_value_of (named key) w ≡ true
+    none_within Conflicts w e = absurd (let f : ⊥ = cc e in f)
+    none_within Pivots w e = absurd (let f : ⊥ = cc e in f)
+    none_within Workers w e = absurd (let f : ⊥ = cc e in f)
+    none_within Protect w e = absurd (let f : ⊥ = cc e in f)
 
 -- whether the option may stand at a place
 new_at : (command : Command) (xs : List (Bor Word)) (given : Given) (place : ℕ) (h : Holds command (texts xs) given place) (key : Key) (b : Bool) → Some key ≡ key_of (text_at xs place) → (is_word_of (keys_of command) (word_for key) && not (is_some (given_for given key))) ≡ b → is_new (keys_of command) h.before (text_at xs place) ≡ b
@@ -116,20 +118,20 @@ pub may_not : (command : Command) (xs : List (Bor Word)) (given : Given) (place 
 may_not command xs given place key h l e old =
     stops_here (keys_of command) (texts xs) h.before place (text_at xs place) (drop (place + 1) (texts xs)) h.on (one_more xs place l) (new_at command xs given place h key false e old)
 
--- there is no number for it
-pub no_number : (command : Command) (xs : List (Bor Word)) (given : Given) (place : ℕ) (key : Key) → Holds command (texts xs) given place → place < length xs → Some key ≡ key_of (text_at xs place)
-    → is_word_of (keys_of command) (word_for key) ≡ true → is_some (given_for given key) ≡ false → None ≡ number_first key (drop (place + 1) (texts xs)) → refused_place (keys_of command) [] (texts xs) ≡ Some (place + 1)
-no_number command xs given place key h l e takes free none = by (drop (place + 1) (texts xs)) (one_more xs place l) none
+-- there is no value for it
+pub no_value : (command : Command) (xs : List (Bor Word)) (given : Given) (place : ℕ) (key : Key) → Holds command (texts xs) given place → place < length xs → Some key ≡ key_of (text_at xs place)
+    → is_word_of (keys_of command) (word_for key) ≡ true → is_some (given_for given key) ≡ false → None ≡ value_first key (drop (place + 1) (texts xs)) → refused_place (keys_of command) [] (texts xs) ≡ Some (place + 1)
+no_value command xs given place key h l e takes free none = by (drop (place + 1) (texts xs)) (one_more xs place l) none
   where
     new : is_new (keys_of command) h.before (text_at xs place) ≡ true
     new = new_at command xs given place h key true e (rw (takes, free) refl)
 
-    by : (rest : List Word) → drop place (texts xs) ≡ text_at xs place ∷ rest → None ≡ number_first key rest → refused_place (keys_of command) [] (texts xs) ≡ Some (place + 1)
+    by : (rest : List Word) → drop place (texts xs) ≡ text_at xs place ∷ rest → None ≡ value_first key rest → refused_place (keys_of command) [] (texts xs) ≡ Some (place + 1)
     by [] here n = stops_at_end (keys_of command) (texts xs) h.before place (text_at xs place) h.on here new
     by (value ∷ rest) here n =
         let bad : is_value (keys_of command) (text_at xs place) value ≡ false =
         ap (λ (w : Word). is_value (keys_of command) w value) (word_of (text_at xs place) key (sym e))
-        ∙ value_of command key value takes ∙ gives_number key (natural value) ∙ ap is_some (sym n) in
+        ∙ value_of command key value takes ∙ no_value_first key value rest n in
         stops_behind (keys_of command) (texts xs) h.before place (text_at xs place) value rest h.on here new bad
 
 -- AND GOES ON
@@ -137,75 +139,80 @@ no_number command xs given place key h l e takes free none = by (drop (place + 1
 same_key : (key : Key) → bytes_eq (word_for key) (word_for key) ≡ true
 same_key key = (bytes_eq-Decides (word_for key) (word_for key)).1 refl
 
--- the number of the option, and those of the others
-own_number : (given : Given) (key : Key) (n : ℕ) → given_for (with_number given key n) key ≡ Some n
-own_number given Conflicts n = refl
-own_number given Pivots n = refl
-own_number given Workers n = refl
+-- the value of the option, and those of the others
+own_value : (given : Given) (key : Key) (w : Bor Word) → given_for (with_value given key w) key ≡ Some w.now
+own_value given Conflicts w = refl
+own_value given Pivots w = refl
+own_value given Workers w = refl
+own_value given Protect w = refl
 
-other_number : (given : Given) (key k : Key) (n : ℕ) → bytes_eq (word_for key) (word_for k) ≡ false → given_for (with_number given key n) k ≡ given_for given k
-other_number given Conflicts Conflicts n e = absurd (let f : ⊥ = cc e in f)
-other_number given Conflicts Pivots n e = refl
-other_number given Conflicts Workers n e = refl
-other_number given Pivots Conflicts n e = refl
-other_number given Pivots Pivots n e = absurd (let f : ⊥ = cc e in f)
-other_number given Pivots Workers n e = refl
-other_number given Workers Conflicts n e = refl
-other_number given Workers Pivots n e = refl
-other_number given Workers Workers n e = absurd (let f : ⊥ = cc e in f)
+other_value : (given : Given) (key k : Key) (w : Bor Word) → bytes_eq (word_for key) (word_for k) ≡ false → given_for (with_value given key w) k ≡ given_for given k
+other_value given Conflicts Conflicts w e = absurd (let f : ⊥ = cc e in f)
+other_value given Conflicts Pivots w e = refl
+other_value given Conflicts Workers w e = refl
+other_value given Conflicts Protect w e = refl
+other_value given Pivots Conflicts w e = refl
+other_value given Pivots Pivots w e = absurd (let f : ⊥ = cc e in f)
+other_value given Pivots Workers w e = refl
+other_value given Pivots Protect w e = refl
+other_value given Workers Conflicts w e = refl
+other_value given Workers Pivots w e = refl
+other_value given Workers Workers w e = absurd (let f : ⊥ = cc e in f)
+other_value given Workers Protect w e = refl
+other_value given Protect Conflicts w e = refl
+other_value given Protect Pivots w e = refl
+other_value given Protect Workers w e = refl
+other_value given Protect Protect w e = absurd (let f : ⊥ = cc e in f)
 
--- the number stands behind the option's word
-record IsAt (xs : List (Bor Word)) (place : ℕ) (key : Key) (n : ℕ) : Type 0 where
-  value : Word
-  here : drop place (texts xs) ≡ word_for key ∷ value ∷ drop (place + 2) (texts xs)
-  number : natural value ≡ Some n
-  good : is_in_range (named key) n ≡ true
+-- the value stands behind the option's word
+record IsAt (xs : List (Bor Word)) (place : ℕ) (key : Key) (w : Word) : Type 0 where
+  here : drop place (texts xs) ≡ word_for key ∷ w ∷ drop (place + 2) (texts xs)
+  good : is_value_of (named key) w ≡ true
 
-is_at : (xs : List (Bor Word)) (place : ℕ) (key : Key) (n : ℕ) → place < length xs → Some key ≡ key_of (text_at xs place) → Some n ≡ number_first key (drop (place + 1) (texts xs)) → IsAt xs place key n
-is_at xs place key n l e some = by (drop (place + 1) (texts xs)) refl some
+is_at : (xs : List (Bor Word)) (place : ℕ) (key : Key) (w : Word) → place < length xs → Some key ≡ key_of (text_at xs place) → Some w ≡ value_first key (drop (place + 1) (texts xs)) → IsAt xs place key w
+is_at xs place key w l e some = by (drop (place + 1) (texts xs)) refl some
   where
-    by : (rest : List Word) → drop (place + 1) (texts xs) ≡ rest → Some n ≡ number_first key rest → IsAt xs place key n
+    by : (rest : List Word) → drop (place + 1) (texts xs) ≡ rest → Some w ≡ value_first key rest → IsAt xs place key w
     by [] at s = absurd (let f : ⊥ = cc s in f)
     by (value ∷ rest) at s =
-        let is = number_is key (natural value) n s in
+        let is = value_is_first key w value rest s in
         let next : place + 2 ≡ place + 1 + 1 = omega arith in
         let two : drop (place + 2) (texts xs) ≡ rest = ap (λ (m : ℕ). drop m (texts xs)) next ∙ sym (drop-drop 1 (place + 1) (texts xs)) ∙ ap (drop 1) at in
         record {
-          value = value;
           here = one_more xs place l
               ∙ ap (λ (ws : List Word). text_at xs place ∷ ws) (at ∙ ap (λ (ws : List Word). value ∷ ws) (sym two))
-              ∙ ap (λ (w : Word). w ∷ value ∷ drop (place + 2) (texts xs)) (word_of (text_at xs place) key (sym e));
-          number = is.0;
+              ∙ ap (λ (v : Word). text_at xs place ∷ v ∷ drop (place + 2) (texts xs)) is.0
+              ∙ ap (λ (v : Word). v ∷ w ∷ drop (place + 2) (texts xs)) (word_of (text_at xs place) key (sym e));
           good = is.1;
         }
 
-pub another : (command : Command) (xs : List (Bor Word)) (given : Given) (place : ℕ) (key : Key) (n : ℕ) → Holds command (texts xs) given place → place < length xs → Some key ≡ key_of (text_at xs place)
-    → is_word_of (keys_of command) (word_for key) ≡ true → is_some (given_for given key) ≡ false → Some n ≡ number_first key (drop (place + 1) (texts xs)) → Holds command (texts xs) (with_number given key n) (place + 2)
-another command xs given place key n h l e takes free some =
-    let at = is_at xs place key n l e some in
+pub another : (command : Command) (xs : List (Bor Word)) (given : Given) (place : ℕ) (key : Key) (w : Bor Word) → Holds command (texts xs) given place → place < length xs → Some key ≡ key_of (text_at xs place)
+    → is_word_of (keys_of command) (word_for key) ≡ true → is_some (given_for given key) ≡ false → Some w.now ≡ value_first key (drop (place + 1) (texts xs)) → Holds command (texts xs) (with_value given key w) (place + 2)
+another command xs given place key w h l e takes free some =
+    let at = is_at xs place key w.now l e some in
     record {
       before = word_for key ∷ h.before;
-      on = goes_on (keys_of command) (texts xs) h.before place (word_for key) at.value h.on at.here
+      on = goes_on (keys_of command) (texts xs) h.before place (word_for key) w.now h.on at.here
           (ap (is_new (keys_of command) h.before) (sym (word_of (text_at xs place) key (sym e))) ∙ new_at command xs given place h key true e (rw (takes, free) refl))
-          (value_of command key at.value takes ∙ gives_number key (natural at.value) ∙ ap (λ (o : Option ℕ). is_some (number_for key o)) at.number ∙ rw at.good refl);
+          (value_of command key w.now takes ∙ at.good);
       taken = λ k. taken k;
-      numbers = λ k. left at k;
-      within = λ k m is. elim (cases_Bool (bytes_eq (word_for key) (word_for k))) [
+      values = λ k. left at k;
+      within = λ k v is. elim (cases_Bool (bytes_eq (word_for key) (word_for k))) [
         | inl t ↦
             let same = one_option key k t in
-            let number : n ≡ m = cc (sym (own_number given key n) ∙ ap (given_for (with_number given key n)) same ∙ is) in
-            ap (is_in_range (named k)) (sym number) ∙ ap (λ (j : Key). is_in_range (named j) n) (sym same) ∙ at.good
-        | inr f ↦ h.within k m (sym (other_number given key k n f) ∙ is)
+            let value : w.now ≡ v = cc (sym (own_value given key w) ∙ ap (given_for (with_value given key w)) same ∙ is) in
+            ap (is_value_of (named k)) (sym value) ∙ ap (λ (j : Key). is_value_of (named j) w.now) (sym same) ∙ at.good
+        | inr f ↦ h.within k v (sym (other_value given key k w f) ∙ is)
       ];
     }
   where
-    taken : (k : Key) → has (word_for key ∷ h.before) (word_for k) ≡ is_some (given_for (with_number given key n) k)
+    taken : (k : Key) → has (word_for key ∷ h.before) (word_for k) ≡ is_some (given_for (with_value given key w) k)
     taken k = elim (cases_Bool (bytes_eq (word_for key) (word_for k))) [
-      | inl t ↦ rw t (sym (ap is_some (ap (given_for (with_number given key n)) (sym (one_option key k t)) ∙ own_number given key n)))
-      | inr f ↦ rw f (h.taken k ∙ ap is_some (sym (other_number given key k n f)))
+      | inl t ↦ rw t (sym (ap is_some (ap (given_for (with_value given key w)) (sym (one_option key k t)) ∙ own_value given key w)))
+      | inr f ↦ rw f (h.taken k ∙ ap is_some (sym (other_value given key k w f)))
     ]
 
-    not_some : (o : Option ℕ) → is_some o ≡ false → o ≡ None
+    not_some : (o : Option Word) → is_some o ≡ false → o ≡ None
     not_some None e = refl
     not_some (Some m) e = absurd (let f : ⊥ = cc e in f)
 
@@ -215,19 +222,19 @@ another command xs given place key n h l e takes free some =
       | inr g ↦ g
     ]
 
-    left : IsAt xs place key n → (k : Key) → number_of k (texts xs) ≡ option_or (given_for (with_number given key n) k) (number_of k (drop (place + 2) (texts xs)))
+    left : IsAt xs place key w.now → (k : Key) → given_in k (texts xs) ≡ option_or (given_for (with_value given key w) k) (given_in k (drop (place + 2) (texts xs)))
     left at k = elim (cases_Bool (bytes_eq (word_for key) (word_for k))) [
       | inl t ↦
           let same = one_option key k t in
           let none : given_for given k ≡ None = not_some (given_for given k) (ap (λ (j : Key). is_some (given_for given j)) (sym same) ∙ free) in
-          let first : number_of k (drop place (texts xs)) ≡ Some n =
-          ap (number_of k) at.here ∙ rw ((bytes_eq-Decides (word_for k) (word_for key)).1 (ap word_for (sym same))) at.number in
-          let now : given_for (with_number given key n) k ≡ Some n = ap (given_for (with_number given key n)) (sym same) ∙ own_number given key n in
-          h.numbers k ∙ rw (none, now) first
+          let first : given_in k (drop place (texts xs)) ≡ Some w.now =
+          ap (given_in k) at.here ∙ rw ((bytes_eq-Decides (word_for k) (word_for key)).1 (ap word_for (sym same))) refl in
+          let now : given_for (with_value given key w) k ≡ Some w.now = ap (given_for (with_value given key w)) (sym same) ∙ own_value given key w in
+          h.values k ∙ rw (none, now) first
       | inr f ↦
           let apart : bytes_eq (word_for k) (word_for key) ≡ false = turned k f in
-          let first : number_of k (drop place (texts xs)) ≡ number_of k (drop (place + 2) (texts xs)) = ap (number_of k) at.here ∙ rw apart refl in
-          h.numbers k ∙ ap (option_or (given_for given k)) first ∙ ap (λ (o : Option ℕ). option_or o (number_of k (drop (place + 2) (texts xs)))) (sym (other_number given key k n f))
+          let first : given_in k (drop place (texts xs)) ≡ given_in k (drop (place + 2) (texts xs)) = ap (given_in k) at.here ∙ rw apart refl in
+          h.values k ∙ ap (option_or (given_for given k)) first ∙ ap (λ (o : Option Word). option_or o (given_in k (drop (place + 2) (texts xs)))) (sym (other_value given key k w f))
     ]
 
 -- nothing is left
@@ -236,25 +243,19 @@ all_given command xs given place h end =
     let rest = no_more xs place end in
     let none : refused_place (keys_of command) [] (texts xs) ≡ None = h.on ∙ ap (λ (ws : List Word). option_map (λ i. i + place) (refused_place (keys_of command) h.before ws)) rest in
     fit_options (keys_of command) (texts xs) (all_pass (keys_of command) [] (texts xs) none)
-    ∙ ap Some (λ i. record { conflicts = number Conflicts i; pivots = number Pivots i; workers = number Workers i })
+    ∙ ap Some (λ i. record {
+      conflicts = (number Conflicts 100000 ∙ same_number Conflicts 100000 (given_for given Conflicts) (h.within Conflicts)) i;
+      pivots = (number Pivots 100000 ∙ same_number Pivots 100000 (given_for given Pivots) (h.within Pivots)) i;
+      workers = (number Workers 1 ∙ same_number Workers 1 (given_for given Workers) (h.within Workers)) i;
+      protect = ap (option_map listed) (value Protect) i;
+    })
   where
-    or_none : (o : Option ℕ) → option_or o None ≡ o
+    or_none : (o : Option Word) → option_or o None ≡ o
     or_none None = refl
     or_none (Some m) = refl
 
-    number : (key : Key) → number_in (named key) (texts xs) ≡ unwrap_or (given_for given key) (named key).usual
-    number key =
-        ap (λ (o : Option ℕ). unwrap_or o (named key).usual)
-        (h.numbers key ∙ ap (λ (ws : List Word). option_or (given_for given key) (number_of key ws)) (no_more xs place end) ∙ or_none (given_for given key))
+    value : (key : Key) → given_in key (texts xs) ≡ given_for given key
+    value key = h.values key ∙ ap (λ (ws : List Word). option_or (given_for given key) (given_in key ws)) (no_more xs place end) ∙ or_none (given_for given key)
 
--- THE NUMBER OF WORKERS
-
-workers_within : (o : Option ℕ) → ((n : ℕ) → o ≡ Some n → is_in_range settings.workers n ≡ true) → (0 < unwrap_or o 1) × (unwrap_or o 1 ≤ 64)
-workers_within None h = (omega arith, omega arith)
-workers_within (Some n) h =
-    let p = and_true (nat_le 1 n) (nat_le n 64) (h n refl) in
-    let least = leb-true 1 n p.0 in
-    (omega (arith, least), leb-true n 64 p.1)
-
-pub workers_of : (given : Given) → IsWithin given → (0 < unwrap_or given.workers 1) × (unwrap_or given.workers 1 ≤ 64)
-workers_of given h = workers_within given.workers (λ n e. h Workers n e)
+    number : (key : Key) (usual : ℕ) → unwrap_or (option_and_then natural (given_in key (texts xs))) usual ≡ unwrap_or (option_and_then natural (given_for given key)) usual
+    number key usual = ap (λ (o : Option Word). unwrap_or (option_and_then natural o) usual) (value key)

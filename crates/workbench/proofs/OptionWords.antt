@@ -1,19 +1,21 @@
 -- The words of options and their values.
-use Rattle.std.proofs.Common.{◌≡◌, ◌∙◌, true, false, ◌||◌, List, [], ◌∷◌, map, Option, Some, None, refl, ap, sym, subst, inl, inr, is_some, ℕ}
+use Rattle.std.proofs.Common.{◌≡◌, ◌<◌, ◌≤◌, ◌∙◌, true, false, ◌||◌, List, [], ◌∷◌, map, Option, Some, None, refl, ap, sym, subst, arith, inl, inr, is_some, unwrap_or, option_and_then, nat_le, ℕ}
 use Rattle.std.specs.Str.{bytes_eq}
 use Rattle.std.specs.Option.{option_map_or}
-use Rattle.std.proofs.lemmas.Bool.{cases_Bool}
+use Rattle.std.proofs.lemmas.Bool.{cases_Bool, leb-true}
 use Rattle.std.proofs.lemmas.Slice.Eq.{bytes_eq-Decides}
 use Rattle.lk_model.specs.Texts.Lines.{Word}
+use Rattle.lk_model.specs.Texts.NumberWords.{natural}
+use Rattle.lk_model.proofs.Booleans.{and_true}
 use Rattle.std.proofs.Math.Bool.{or-false}
 use Rattle.workbench.specs.Commands.{keys_of}
 use Rattle.workbench.specs.Settings as settings
-use Rattle.workbench.specs.Settings.{conflicts, pivots, workers, is_in_range, is_value_of, is_allowed, sets}
-use Rattle.workbench.specs.OptionKeys.{named, key_of, number_for}
+use Rattle.workbench.specs.Settings.{conflicts, pivots, workers, protect, is_in_range, is_number_of, is_value_of, is_allowed, sets}
+use Rattle.workbench.specs.OptionKeys.{named, key_of, number_for, number_or, value_first}
 use Rattle.workbench.specs.OptionPlaces.{is_word_of, is_value}
 use Rattle.workbench.specs.declared.command.Command.{Command}
 use Rattle.workbench.specs.declared.options.Key.{Key}
-use Rattle.workbench.specs.declared.options.Key.TheVariants.{Conflicts, Pivots, Workers}
+use Rattle.workbench.specs.declared.options.Key.TheVariants.{Conflicts, Pivots, Workers, Protect}
 use Rattle.workbench.proofs.CommandTable.{options_named}
 
 abbrev pub word_for : Key → Word
@@ -24,18 +26,26 @@ pub one_option : (k key : Key) → bytes_eq (word_for k) (word_for key) ≡ true
 one_option Conflicts Conflicts e = refl
 one_option Conflicts Pivots e = absurd (let f : ⊥ = cc e in f)
 one_option Conflicts Workers e = absurd (let f : ⊥ = cc e in f)
+one_option Conflicts Protect e = absurd (let f : ⊥ = cc e in f)
 one_option Pivots Conflicts e = absurd (let f : ⊥ = cc e in f)
 one_option Pivots Pivots e = refl
 one_option Pivots Workers e = absurd (let f : ⊥ = cc e in f)
+one_option Pivots Protect e = absurd (let f : ⊥ = cc e in f)
 one_option Workers Conflicts e = absurd (let f : ⊥ = cc e in f)
 one_option Workers Pivots e = absurd (let f : ⊥ = cc e in f)
 one_option Workers Workers e = refl
+one_option Workers Protect e = absurd (let f : ⊥ = cc e in f)
+one_option Protect Conflicts e = absurd (let f : ⊥ = cc e in f)
+one_option Protect Pivots e = absurd (let f : ⊥ = cc e in f)
+one_option Protect Workers e = absurd (let f : ⊥ = cc e in f)
+one_option Protect Protect e = refl
 
 -- each option is found by its word
 key_of_word : (key : Key) → key_of (word_for key) ≡ Some key
 key_of_word Conflicts = refl
 key_of_word Pivots = refl
 key_of_word Workers = refl
+key_of_word Protect = refl
 
 -- the word of the option
 pub word_of : (word : Word) (key : Key) → key_of word ≡ Some key → word ≡ word_for key
@@ -45,7 +55,10 @@ word_of word key e = elim (cases_Bool (bytes_eq word conflicts.word)) [
     | inl p ↦ subst (λ (k : Key). word ≡ word_for k) (let same : Pivots ≡ key = cc (e, c, p) in same) ((bytes_eq-Decides _ _).0 p)
     | inr p ↦ elim (cases_Bool (bytes_eq word workers.word)) [
       | inl w ↦ subst (λ (k : Key). word ≡ word_for k) (let same : Workers ≡ key = cc (e, c, p, w) in same) ((bytes_eq-Decides _ _).0 w)
-      | inr w ↦ absurd (cc (e, c, p, w))
+      | inr w ↦ elim (cases_Bool (bytes_eq word protect.word)) [
+        | inl v ↦ subst (λ (k : Key). word ≡ word_for k) (let same : Protect ≡ key = cc (e, c, p, w, v) in same) ((bytes_eq-Decides _ _).0 v)
+        | inr v ↦ absurd (cc (e, c, p, w, v))
+      ]
     ]
   ]
 ]
@@ -98,15 +111,46 @@ value_of command key value e =
     ap (λ (ks : List settings.Key). is_value ks (word_for key) value) o.1
     ∙ value_among o.0 key value (sym (ap (λ (ks : List settings.Key). is_word_of ks (word_for key)) o.1) ∙ e)
 
--- a word gives the option a number where it is a value
+-- a word gives the option a number where it is one in the range
 pub gives_number : (key : Key) (n : Option ℕ) → option_map_or (is_in_range (named key)) n false ≡ is_some (number_for key n)
 gives_number key None = refl
 gives_number key (Some n) = elim (cases_Bool (is_in_range (named key) n)) [ inl t ↦ rw t refl | inr f ↦ rw f refl ]
 
--- the number of a value, which lies in the range
-pub number_is : (key : Key) (n : Option ℕ) (number : ℕ) → Some number ≡ number_for key n → (n ≡ Some number) × (is_in_range (named key) number ≡ true)
-number_is key None number e = absurd (let f : ⊥ = cc e in f)
-number_is key (Some n) number e = elim (cases_Bool (is_in_range (named key) n)) [
-  | inl t ↦ let same : n ≡ number = cc (e, t) in (ap Some same, ap (is_in_range (named key)) (sym same) ∙ t)
+-- and it is that number
+number_is : (key : Key) (n : Option ℕ) → option_map_or (is_in_range (named key)) n false ≡ true → n ≡ number_for key n
+number_is key None e = refl
+number_is key (Some n) e = rw e refl
+
+pub same_number : (key : Key) (usual : ℕ) (o : Option Word) → ((w : Word) → o ≡ Some w → is_number_of (named key) w ≡ true) → unwrap_or (option_and_then natural o) usual ≡ number_or key o usual
+same_number key usual None h = refl
+same_number key usual (Some w) h = ap (λ (n : Option ℕ). unwrap_or n usual) (number_is key (natural w) (h w refl))
+
+-- where the option has no value among words, the first of them is none
+pub no_value_first : (key : Key) (value : Word) (words : List Word) → None ≡ value_first key (value ∷ words) → is_value_of (named key) value ≡ false
+no_value_first key value words e = elim (cases_Bool (is_value_of (named key) value)) [
+  | inl t ↦ absurd (let f : ⊥ = cc (e, t) in f)
+  | inr f ↦ f
+]
+
+-- and where it has one, it is the first of them
+pub value_is_first : (key : Key) (w value : Word) (words : List Word) → Some w ≡ value_first key (value ∷ words) → (value ≡ w) × (is_value_of (named key) w ≡ true)
+value_is_first key w value words e = elim (cases_Bool (is_value_of (named key) value)) [
+  | inl t ↦ (let same : value ≡ w = cc (e, t) in (same, ap (is_value_of (named key)) (sym same) ∙ t))
   | inr f ↦ absurd (let g : ⊥ = cc (e, f) in g)
 ]
+
+-- THE NUMBER OF WORKERS
+
+workers_number : (n : Option ℕ) → (0 < unwrap_or (number_for Workers n) 1) × (unwrap_or (number_for Workers n) 1 ≤ 64)
+workers_number None = (omega arith, omega arith)
+workers_number (Some n) = elim (cases_Bool (is_in_range workers n)) [
+  | inl t ↦
+      let p = and_true (nat_le 1 n) (nat_le n 64) t in
+      let least = leb-true 1 n p.0 in
+      rw t (omega (arith, least), leb-true n 64 p.1)
+  | inr f ↦ rw f (omega arith, omega arith)
+]
+
+pub workers_of : (o : Option Word) → (0 < number_or Workers o 1) × (number_or Workers o 1 ≤ 64)
+workers_of None = (omega arith, omega arith)
+workers_of (Some w) = workers_number (natural w)

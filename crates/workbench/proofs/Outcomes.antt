@@ -103,9 +103,9 @@ only words shelf r s written said may asked h result two three nine = by s h res
 
 -- REDUCE
 
-reduces_to : (told : Option (List ℕ)) (class : Class) (F : Cnf) (pivots : ℕ) (text : List ℕ) → IfSome told (λ bytes. Spells bytes F) → WritesReduction F class None pivots text → IfSome told (λ bytes. ReducesTo bytes class None pivots text)
-reduces_to None class F pivots text s w = tt
-reduces_to (Some bytes) class F pivots text s w = record { formula = F; spells = s; writes = w }
+reduces_to : (told : Option (List ℕ)) (class : Class) (F : Cnf) (options : Options) (text : List ℕ) → IfSome told (λ bytes. Spells bytes F) → WritesReduction F class options.protect options.pivots text → IfSome told (λ bytes. ReducesTo bytes class options.protect options.pivots text)
+reduces_to None class F options text s w = tt
+reduces_to (Some bytes) class F options text s w = record { formula = F; spells = s; writes = w }
 
 -- a text without a fault spells a formula, and another spells none
 spelled : (told : Option (List ℕ)) → IsFormulaText told → (F : Cnf) × IsSome told × IfSome told (λ bytes. Spells bytes F)
@@ -129,7 +129,7 @@ reduce_means request class words shelf out say name options asks asked = record 
   done = λ e.
       let r = asks.read shelf.told Done e.written e.said (result_of words shelf out say request 0 e asked refl) in (
         e.written,
-        reduces_to (shelf.told name) class r.0 options.pivots e.written r.1 r.2.writes,
+        reduces_to (shelf.told name) class r.0 options e.written r.1 r.2.writes,
         e.taken.0,
         e.taken.1.same r.2.silent,
       );

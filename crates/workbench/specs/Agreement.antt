@@ -1,9 +1,9 @@
 -- That a reduction and a check agree.
-use Rattle.std.specs.Prelude.{◌≡◌, ℕ, List, None}
+use Rattle.std.specs.Prelude.{◌≡◌, ℕ, List, Option}
 use Rattle.lk_model.specs.Formulas.Formula.{Cnf}
 use Rattle.lk_model.specs.Texts.Dimacs.{Spells}
 use Rattle.lk_model.specs.Reduction.{ReducesTo}
-use Rattle.lk_model.specs.declared.class.Class.TheVariants.{Pure}
+use Rattle.lk_model.specs.declared.class.Class.{Class}
 use Rattle.lk_model.specs.declared.document.Document.{Document}
 use Rattle.lk_model.specs.Documents.Reading.{IsTextOf}
 use Rattle.lean_checker.specs.Verdicts.{verdict_of}
@@ -17,6 +17,6 @@ pub record IsAcceptedFor (text written : List ℕ) : Type 0 where
   pub read : IsTextOf written d
   pub accepted : verdict_of F d ≡ Accepted
 
--- what a reduction writes of a text is accepted for that text
+-- what a reduction of any class writes of a text is accepted for that text
 abbrev pub WrittenIsAccepted : Type 0
-WrittenIsAccepted = (text written : List ℕ) (pivots : ℕ) → ReducesTo text Pure None pivots written → IsAcceptedFor text written
+WrittenIsAccepted = (text written : List ℕ) (class : Class) (protect : Option (List ℕ)) (pivots : ℕ) → ReducesTo text class protect pivots written → IsAcceptedFor text written

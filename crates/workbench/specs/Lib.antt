@@ -6,6 +6,7 @@ pub mod Inputs
 pub mod Commands
 pub mod Counting
 pub mod Founds
+pub mod Protecting
 pub mod Lawful
 pub mod Requests
 pub mod Stops

@@ -42,7 +42,7 @@ IsNoDocumentText told = IsSomeAnd told (λ bytes. (d : Document) → IsTextOf by
 -- With status 0 the document of a reduction of the formula for the class stands on `out`, and nothing was said. No status but
 -- these comes, and a told text decides between 0 and 2.
 pub record ReduceMeans (class : Class) (words : List Word) (shelf : Shelved) (out say : Sunk) (name : Word) (options : Options) : Type 0 where
-  pub done : Ends words shelf out say 0 → (text : List ℕ) × IfSome (shelf.told name) (λ bytes. ReducesTo bytes class None options.pivots text) × Takes out text × (say.after ≡ say.before)
+  pub done : Ends words shelf out say 0 → (text : List ℕ) × IfSome (shelf.told name) (λ bytes. ReducesTo bytes class options.protect options.pivots text) × Takes out text × (say.after ≡ say.before)
   pub statuses : (answer : ℕ) → Ends words shelf out say answer → IsTrue (list_any (nat_eq answer) (0 ∷ 2 ∷ 3 ∷ 9 ∷ []))
   pub complete : IsFormulaText (shelf.told name) → IsDecided (request_of words) shelf.told Done
   pub refuses : IsNoFormulaText (shelf.told name) → IsDecided (request_of words) shelf.told Input

@@ -5,14 +5,14 @@ use Rattle.lk_model.specs.Texts.Lines.{Word}
 use Rattle.workbench.specs.Commands.{words_of}
 use Rattle.workbench.specs.Lawful as lawful
 use Rattle.workbench.specs.Lawful.{behind}
-use Rattle.workbench.specs.OptionKeys.{numbers_of}
+use Rattle.workbench.specs.OptionKeys.{values_of}
 use Rattle.workbench.specs.declared.command.Command.{Command}
 use Rattle.workbench.specs.declared.options.Options.{Options}
 use Rattle.workbench.specs.declared.words.Request.{Request}
 
 -- the command over the inputs under these names, with these options
 abbrev pub request_for : Command → List Word → Options → lawful.Request
-request_for command names options = record { command = command; names = names; options = numbers_of options }
+request_for command names options = record { command = command; names = names; options = values_of options }
 
 -- what the request asks for
 abbrev pub asked : Request → lawful.Request

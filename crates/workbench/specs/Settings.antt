@@ -1,34 +1,39 @@
 -- The options of the command line.
-use Rattle.std.specs.Prelude.{ℕ, ◌-◌, ◌^◌, Bool, true, false, if◌then◌else◌, not, ◌&&◌, List, [], ◌∷◌, Option, Some, None, codes, nat_le, option_map, unwrap_or, option_and_then}
-use Rattle.std.specs.List.{list_any, list_all}
+use Rattle.std.specs.Prelude.{ℕ, ◌-◌, ◌^◌, Bool, true, false, if◌then◌else◌, not, ◌&&◌, ◌==◌, List, [], ◌∷◌, Option, Some, None, codes, nat_le, option_map, unwrap_or, option_and_then}
+use Rattle.std.specs.List.{list_any, list_all, filter_map, slice_split}
 use Rattle.std.specs.Option.{option_map_or}
 use Rattle.std.specs.Str.{bytes_eq}
+use Rattle.lk_model.specs.Limits.{max_vars}
 use Rattle.lk_model.specs.Texts.Lines.{Word}
 use Rattle.lk_model.specs.Texts.NumberWords.{natural}
 
--- An option's word, its least number and its greatest, and the number where it is not given.
+-- An option's word, whether its value is a list of numbers or one, and the least number and the greatest.
 pub record Key : Type 0 where
   pub word : Word
+  pub is_list : Bool
   pub least : ℕ
   pub greatest : ℕ
-  pub usual : ℕ
 
 -- THE OPTIONS
 
 abbrev pub conflicts : Key
-conflicts = record { word = codes "--conflicts"; least = 1; greatest = 2 ^ 63 - 1; usual = 100000 }
+conflicts = record { word = codes "--conflicts"; is_list = false; least = 1; greatest = 2 ^ 63 - 1 }
 
 abbrev pub pivots : Key
-pivots = record { word = codes "--pivots"; least = 0; greatest = 2 ^ 63 - 1; usual = 100000 }
+pivots = record { word = codes "--pivots"; is_list = false; least = 0; greatest = 2 ^ 63 - 1 }
 
 abbrev pub workers : Key
-workers = record { word = codes "--workers"; least = 1; greatest = 64; usual = 1 }
+workers = record { word = codes "--workers"; is_list = false; least = 1; greatest = 64 }
 
--- the numbers that the options give
+abbrev pub protect : Key
+protect = record { word = codes "--protect"; is_list = true; least = 1; greatest = max_vars }
+
+-- what the options give; of the protected variables the numbers as they are listed
 pub record Options : Type 0 where
   pub conflicts : ℕ
   pub pivots : ℕ
   pub workers : ℕ
+  pub protect : Option (List ℕ)
 
 -- WHICH WORDS ARE OPTIONS
 
@@ -46,8 +51,16 @@ abbrev pub is_in_range : Key → ℕ → Bool
 is_in_range key n = nat_le key.least n && nat_le n key.greatest
 
 -- the word is a number in the option's range
+abbrev pub is_number_of : Key → Word → Bool
+is_number_of key word = option_map_or (is_in_range key) (natural word) false
+
+-- what stands between the commas
+abbrev pub parts_of : Word → List Word
+parts_of value = slice_split (λ b. b == 44) value
+
+-- the word is a value of the option: such a number, or a list of them with a comma between two
 abbrev pub is_value_of : Key → Word → Bool
-is_value_of key value = option_map_or (is_in_range key) (natural value) false
+is_value_of key value = if key.is_list then list_all (is_number_of key) (parts_of value) else is_number_of key value
 
 abbrev pub sets : Key → Setting → Bool
 sets key s = bytes_eq key.word s.0
@@ -73,11 +86,21 @@ value_in key [] = None
 value_in key (word ∷ []) = None
 value_in key (word ∷ value ∷ words) = if bytes_eq key.word word then Some value else value_in key words
 
-abbrev pub number_in : Key → List Word → ℕ
-number_in key words = unwrap_or (option_and_then natural (value_in key words)) key.usual
+-- the number, or the usual one where the option is not given
+abbrev pub number_in : Key → ℕ → List Word → ℕ
+number_in key usual words = unwrap_or (option_and_then natural (value_in key words)) usual
+
+-- the numbers of a list
+abbrev pub listed : Word → List ℕ
+listed value = filter_map natural (parts_of value)
 
 abbrev pub options_by : List Word → Options
-options_by words = record { conflicts = number_in conflicts words; pivots = number_in pivots words; workers = number_in workers words }
+options_by words = record {
+  conflicts = number_in conflicts 100000 words;
+  pivots = number_in pivots 100000 words;
+  workers = number_in workers 1 words;
+  protect = option_map listed (value_in protect words);
+}
 
 abbrev pub options_of : List Key → List Word → Option Options
 options_of keys words = if are_options keys words then Some (options_by words) else None

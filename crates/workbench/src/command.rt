@@ -69,7 +69,7 @@ impl Command {
             Command::ReduceMatching => true,
             Command::Check => match key {
                 Key::Workers => true,
-                Key::Conflicts | Key::Pivots => false,
+                Key::Conflicts | Key::Pivots | Key::Protect => false,
             },
             Command::Report => false,
         }

@@ -12,7 +12,7 @@ use crate::options::{Options, options_of};
 pub(crate) struct Request<'a> {
     pub(crate) command: Command,
     pub(crate) names: &'a [&'a str],
-    pub(crate) options: Options,
+    pub(crate) options: Options<'a>,
 }
 
 /// What lawful words ask for, or the number of the refused word, counted from 1: the least number of

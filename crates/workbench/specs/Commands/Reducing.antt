@@ -1,12 +1,12 @@
 -- The command `reduce`.
-use Rattle.std.specs.Prelude.{◌≡◌, ℕ, List, [], ◌∷◌, codes, None}
+use Rattle.std.specs.Prelude.{◌≡◌, ℕ, List, [], ◌∷◌, codes}
 use Rattle.lk_model.specs.Formulas.Formula.{Cnf}
 use Rattle.lk_model.specs.Texts.Lines.{Word}
 use Rattle.lk_model.specs.Documents.Text.{class_word}
 use Rattle.lk_model.specs.Reduction.{WritesReduction}
 use Rattle.lk_model.specs.declared.class.Class.{Class}
 use Rattle.workbench.specs.Inputs.{Grammar, Formula}
-use Rattle.workbench.specs.Settings.{Key, Options, conflicts, pivots, workers}
+use Rattle.workbench.specs.Settings.{Key, Options, conflicts, pivots, workers, protect}
 use Rattle.workbench.specs.declared.status.Status.{Status}
 use Rattle.workbench.specs.declared.status.Status.TheVariants.{Done}
 
@@ -17,12 +17,12 @@ abbrev pub inputs : List Grammar
 inputs = Formula ∷ []
 
 abbrev pub keys : List Key
-keys = conflicts ∷ pivots ∷ workers ∷ []
+keys = conflicts ∷ pivots ∷ workers ∷ protect ∷ []
 
--- It writes the document of a reduction of the formula for the class.
+-- It writes the document of a reduction of the formula for the class, in which the listed variables are protected.
 pub record Answers (class : Class) (options : Options) (F : Cnf) (status : Status) (written said : List ℕ) : Type 0 where
   pub status_is : status ≡ Done
-  pub writes : WritesReduction F class None options.pivots written
+  pub writes : WritesReduction F class options.protect options.pivots written
   pub silent : said ≡ []
 
 -- so it does for each formula

@@ -1,5 +1,5 @@
 //! The commands `reduce` of the classes that end with status 0 alone.
-ghost use Rattle.std.specs.Prelude.{◌≡◌, ◌<◌, ◌∷◌, [], length, map, None, IfOk, IfErr, IsErrAnd};
+ghost use Rattle.std.specs.Prelude.{◌≡◌, ◌<◌, ◌∷◌, [], length, map, IfOk, IfErr, IsErrAnd};
 ghost use Rattle.lk_model.specs.Documents.Text.{text_of};
 ghost use Rattle.lk_model.specs.declared.document.Document.TheVariants.{Done as Finished};
 ghost use Rattle.lk_outside.specs.Causes.{HasCause};
@@ -9,11 +9,11 @@ ghost use Rattle.workbench.specs.Inputs.{StopsOn};
 ghost use Rattle.workbench.specs.Requests.{request_for};
 
 use crate::command::Command;
-use crate::document::document_of;
 use crate::ending::Ending;
 use crate::find::{find_matching, find_pure};
 use crate::input::read_formula;
 use crate::options::Options;
+use crate::problem::Problem;
 use crate::status::Status;
 use crate::stop::Stop;
 use cert_text::print;
@@ -27,19 +27,20 @@ pub(crate) fn perform_pure<H: Shelf>(
     alloc: Global,
     shelf: &mut H,
     names: &[&str],
-    options: Options,
+    options: Options<'_>,
 ) -> Result<Ending, Stop>
     requires names { length names.now ≡ length (inputs_of Command.ReducePure) }
     ensures ok { IfOk result (λ e. HasResult
-        (request_for Command.ReducePure (map (λ w. w.now) names.now) options) (H.told shelf.old)
+        (request_for Command.ReducePure (map (λ w. w.now) names.now) options.entry) (H.told shelf.old)
         e.status e.written.items e.said.items) }
     ensures stop { IfErr result (StopsOn (H.told shelf.old) 0 (inputs_of Command.ReducePure) (map (λ w. w.now) names.now)
         (H.ailing shelf.new) (H.current shelf.new)) }
     ensures cause { HasCause (H.faults shelf.old) (H.faults shelf.new) (IsErrAnd result (λ s. s ≡ Stop.Read)) }
 {
     let formula = read_formula(alloc, shelf, names[0])?;
-    let found = find_pure(alloc, &formula)?;
-    let document = document_of(alloc, &formula, None, found)?;
+    let problem = Problem::new(alloc, formula, options.protect)?;
+    let found = find_pure(alloc, problem.left())?;
+    let document = problem.document(alloc, found)?;
     Ok(written(alloc, document)?)
 }
 
@@ -50,20 +51,21 @@ pub(crate) fn perform_matching<R: Threads + Sync, H: Shelf, G: Gate>(
     gate: &G,
     shelf: &mut H,
     names: &[&str],
-    options: Options,
+    options: Options<'_>,
 ) -> Result<Ending, Stop>
     requires names { length names.now ≡ length (inputs_of Command.ReduceMatching) }
     requires workers { 0 < options.workers }
     ensures ok { IfOk result (λ e. HasResult
-        (request_for Command.ReduceMatching (map (λ w. w.now) names.now) options) (H.told shelf.old)
+        (request_for Command.ReduceMatching (map (λ w. w.now) names.now) options.entry) (H.told shelf.old)
         e.status e.written.items e.said.items) }
     ensures stop { IfErr result (StopsOn (H.told shelf.old) 0 (inputs_of Command.ReduceMatching) (map (λ w. w.now) names.now)
         (H.ailing shelf.new) (H.current shelf.new)) }
     ensures cause { HasCause (H.faults shelf.old) (H.faults shelf.new) (IsErrAnd result (λ s. s ≡ Stop.Read)) }
 {
     let formula = read_formula(alloc, shelf, names[0])?;
-    let found = find_matching(rt, alloc, gate, &formula, options.workers)?;
-    let document = document_of(alloc, &formula, None, found)?;
+    let problem = Problem::new(alloc, formula, options.protect)?;
+    let found = find_matching(rt, alloc, gate, problem.left(), options.workers)?;
+    let document = problem.document(alloc, found)?;
     Ok(written(alloc, document)?)
 }
 

@@ -29,11 +29,11 @@ pub(crate) fn perform<H: Shelf>(
     alloc: Global,
     shelf: &mut H,
     names: &[&str],
-    options: Options,
+    options: Options<'_>,
 ) -> Result<Ending, Stop>
     requires names { length names.now ≡ length (inputs_of Command.Report) }
     ensures ok { IfOk result (λ e. HasResult
-        (request_for Command.Report (map (λ w. w.now) names.now) options) (H.told shelf.old)
+        (request_for Command.Report (map (λ w. w.now) names.now) options.entry) (H.told shelf.old)
         e.status e.written.items e.said.items) }
     ensures stop { IfErr result (StopsOn (H.told shelf.old) 0 (inputs_of Command.Report) (map (λ w. w.now) names.now)
         (H.ailing shelf.new) (H.current shelf.new)) }

@@ -1,28 +1,44 @@
-use Rattle.std.proofs.Common.{◌≡◌, ◌∙◌, [], ap, sym, arith, Some, get_or, not, false, true}
-use Rattle.std.proofs.lemmas.List.{get_or_default}
+use Rattle.std.proofs.Common.{◌≡◌, ◌∙◌, ◌<◌, [], ap, sym, subst, arith, Some, take, length, not, false, true}
+use Rattle.lk_model.specs.Formulas.Formula.{Cnf}
 use Rattle.lk_model.specs.Chains.Chain.{states_its_clause}
-use Rattle.lk_model.specs.declared.document.Step.{Step}
-use Rattle.lean_checker.specs.Chains.{premises_at, misstates}
-use Rattle.lean_checker.proofs.ChainChecks.{here_first, later_first}
+use Rattle.lean_checker.specs.Chains.{IsWork, premises_at, step_behind, misstates}
+use Rattle.lean_checker.specs.Steps.{step_at}
+use Rattle.lean_checker.proofs.StepPlaces.{place_at, place_of, place_first, place_later, round_is, step_in, step_reads, step_is}
 use Rattle.lean_checker.proofs.chains.bad_step_in.Goals as goal
 
--- what stands where there is no step
-abbrev no_step : Step
-no_step = record { number = 0; clause = []; first = 0; turns = [] }
+pub states_its_clause-requires-clause-round : goal.states_its_clause-requires-clause-round
+states_its_clause-requires-clause-round c =
+    let places = c.args.places.now in
+    let w = place_of c.args.over.now.rounds.now places c.loop-j.j c.requires.places (omega arith) in
+    round_is c.args.over.now (place_at places c.loop-j.j).round c.round_at.result c.requires.rounds c.round_at.ensures w.round
 
-pub returns-then-not-branch-clause-place : goal.returns-then-not-branch-clause-place
-returns-then-not-branch-clause-place c =
+pub returns-then-not-branch : goal.returns-then-not-branch
+returns-then-not-branch c =
     let over = c.args.over.now in
-    let i = c.loop-i.i in
-    let s = c.index-over-i.result in
-    let bad : states_its_clause (premises_at over i) s ≡ false = sym (c.in_ok-states_its_clause.ensures.stated s c.index-over-i.is) ∙ c.if-not-branch.true in
-    ap (λ (t : Step). Some t.number) (sym c.index-over-i.is) ∙ sym (here_first misstates over i s (omega arith) c.index-over-i.is (ap not bad)) ∙ c.loop-i.invariant.rest
+    let places = c.args.places.now in
+    let j = c.loop-j.j in
+    let at = place_at places j in
+    let r = c.round_at.result in
+    let w = place_of over.rounds.now places j c.requires.places (omega arith) in
+    let inside : at.index < length r.steps.now = omega (arith, w.index, ap length c.round_at.ensures.steps) in
+    let is = step_reads r at inside in
+    let bad : states_its_clause (premises_at r at.index) (step_in r at) ≡ false = sym (c.in_ok-states_its_clause.ensures.stated (step_in r at) is) ∙ c.if-not-branch.true in
+    let same : step_behind r (take at.index r.steps.now) (step_in r at) ≡ step_at over at = step_is over at r (step_in r at) c.round_at.ensures inside is in
+    ap Some c.number_of.ensures ∙ sym (place_first misstates over places j at (omega arith) w.is (ap misstates (sym same) ∙ ap not bad)) ∙ c.loop-j.invariant.rest
 
-pub loop-i-preserved : goal.loop-i-preserved
-loop-i-preserved c =
+pub loop-j-preserved : goal.loop-j-preserved
+loop-j-preserved c =
     let over = c.args.over.now in
-    let i = c.loop-i.i in
-    let s : Step = get_or over.steps.now i no_step in
-    let is : s ≡ get_or over.steps.now i s = get_or_default over.steps.now i no_step s (omega arith) in
-    let good : states_its_clause (premises_at over i) s ≡ true = sym (c.in_ok-states_its_clause.ensures.stated s is) ∙ c.if-not-branch.false in
-    record { work = c.in_ok-states_its_clause.ensures.work; rest = sym (later_first misstates over i s (omega arith) is (ap not good)) ∙ c.loop-i.invariant.rest }
+    let places = c.args.places.now in
+    let j = c.loop-j.j in
+    let at = place_at places j in
+    let r = c.round_at.result in
+    let w = place_of over.rounds.now places j c.requires.places (omega arith) in
+    let inside : at.index < length r.steps.now = omega (arith, w.index, ap length c.round_at.ensures.steps) in
+    let is = step_reads r at inside in
+    let good : states_its_clause (premises_at r at.index) (step_in r at) ≡ true = sym (c.in_ok-states_its_clause.ensures.stated (step_in r at) is) ∙ c.if-not-branch.false in
+    let same : step_behind r (take at.index r.steps.now) (step_in r at) ≡ step_at over at = step_is over at r (step_in r at) c.round_at.ensures inside is in
+    record {
+      work = subst (λ (G : Cnf). IsWork G.vars [] c.states_its_clause.new.work) c.round_at.ensures.formula c.in_ok-states_its_clause.ensures.work;
+      rest = sym (place_later misstates over places j at (omega arith) w.is (ap misstates (sym same) ∙ ap not good)) ∙ c.loop-j.invariant.rest;
+    }

@@ -1,12 +1,12 @@
-use Rattle.std.proofs.Common.{◌≡◌, [], take, drop}
-use Rattle.lean_checker.specs.Chains.{first_at, is_unlearned}
+use Rattle.std.proofs.Common.{◌≡◌, [], drop}
+use Rattle.lean_checker.specs.Chains.{is_unlearned}
 use Rattle.lean_checker.specs.LiteralSets.{IsSetOf}
-use Rattle.lean_checker.proofs.ChainChecks.{first_from}
+use Rattle.lean_checker.specs.Steps.{first_step}
 use Rattle.lean_checker.proofs.learned.not_learned_in.Given as goal
 
 -- the first such step is one of those that are left
-abbrev pub invariant-loop-i : goal.invariant-loop-i
-invariant-loop-i l = record {
+abbrev pub invariant-loop-j : goal.invariant-loop-j
+invariant-loop-j l = record {
   held : IsSetOf l.over.formula.now.vars [] l.held;
-  rest : first_from is_unlearned l.over (take l.i l.over.steps.now) (drop l.i l.over.steps.now) ≡ first_at is_unlearned l.over;
+  rest : first_step is_unlearned l.over (drop l.j l.places) ≡ first_step is_unlearned l.over l.places;
 }

@@ -4,4 +4,4 @@ use Rattle.lean_checker.proofs.places.first_answer.Given as goal
 
 -- the answers so far tell nothing
 abbrev pub invariant-loop-answer : goal.invariant-loop-answer
-invariant-loop-answer l = first_answer l.answers ≡ first_answer (drop l.answer-index l.answers)
+invariant-loop-answer g l = first_answer l.answers ≡ first_answer (drop l.answer-index l.answers)

@@ -5,7 +5,7 @@ use Rattle.lean_checker.proofs.OpenFailures.{step_fails, learned_fails}
 use Rattle.lean_checker.proofs.unfinished.step_failure.Goals as goal
 
 pub returns-in-Some : goal.returns-in-Some
-returns-in-Some c =
+returns-in-Some g c =
     let F = c.args.f.now in
     let rounds = c.args.rounds.now in
     let part = c.as_slice.ensures ∙ c.in_ok-part.ensures.value in
@@ -13,7 +13,7 @@ returns-in-Some c =
     step_fails no_variable F rounds c.in-Some.number (sym c.in-Some.is ∙ told)
 
 pub returns-in-Some-2 : goal.returns-in-Some-2
-returns-in-Some-2 c =
+returns-in-Some-2 g c =
     let F = c.args.f.now in
     let rounds = c.args.rounds.now in
     let part = c.as_slice.ensures ∙ c.in_ok-part.ensures.value in

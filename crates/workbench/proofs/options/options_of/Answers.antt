@@ -4,10 +4,11 @@ use Rattle.workbench.specs.Commands.{keys_of}
 use Rattle.workbench.specs.OptionPlaces.{is_word_of}
 use Rattle.workbench.specs.Settings.{Options}
 use Rattle.workbench.specs.OptionKeys.{given_for}
-use Rattle.workbench.proofs.OptionWords.{word_for}
-use Rattle.workbench.proofs.OptionSteps.{nothing, unknown, may_not, no_number, another, all_given, workers_of}
+use Rattle.workbench.specs.OptionKeys.{text_of}
+use Rattle.workbench.proofs.OptionWords.{word_for, workers_of}
+use Rattle.workbench.proofs.OptionSteps.{nothing, unknown, may_not, no_value, another, all_given}
 use Rattle.workbench.proofs.options.options_of.Goals as goal
-use Rattle.workbench.proofs.options.options_of.Goals.{then-not-takes-via-then-not-takes, then-not-takes-via-else-not-takes+then-is_some}
+use Rattle.workbench.proofs.options.options_of.Goals.{then-not-takes-via-then-not-takes, then-not-takes-via-else-not-takes+then-has}
 
 pub loop-place-init : goal.loop-place-init
 loop-place-init c = nothing c.args.command (map (λ w. w.now) c.args.words.now)
@@ -20,20 +21,20 @@ returns-then-not-takes-clause-options c =
     may_not c.args.command c.args.words.now c.loop-place.given c.loop-place.place c.in-Some.key c.loop-place.invariant c.loop-place-test.true c.in-Some.ensures
     (elim c.then-not-takes.branch [
       | then-not-takes-via-then-not-takes w ↦ ap (λ (b : Bool). b && not (is_some (given_for c.loop-place.given c.in-Some.key))) (sym w.if-not-takes.ensures)
-      | then-not-takes-via-else-not-takes+then-is_some w ↦
-          ap (λ (b : Bool). is_word_of (keys_of c.args.command) (word_for c.in-Some.key) && not b) (ap is_some (sym w.number.ensures) ∙ sym w.if-is_some.ensures)
+      | then-not-takes-via-else-not-takes+then-has w ↦
+          ap (λ (b : Bool). is_word_of (keys_of c.args.command) (word_for c.in-Some.key) && not b) (sym w.if-has.ensures)
           ∙ and-false (is_word_of (keys_of c.args.command) (word_for c.in-Some.key))
     ])
 
-pub returns-in_default-number_at-clause-options : goal.returns-in_default-number_at-clause-options
-returns-in_default-number_at-clause-options c =
-    no_number c.args.command c.args.words.now c.loop-place.given c.loop-place.place c.in-Some.key c.loop-place.invariant c.loop-place-test.true c.in-Some.ensures
-    (sym c.if-not-takes.ensures) (ap is_some (sym c.number.ensures) ∙ sym c.if-is_some.ensures) c.in_default-number_at.ensures
+pub returns-in_default-value_at-clause-options : goal.returns-in_default-value_at-clause-options
+returns-in_default-value_at-clause-options c =
+    no_value c.args.command c.args.words.now c.loop-place.given c.loop-place.place c.in-Some.key c.loop-place.invariant c.loop-place-test.true c.in-Some.ensures
+    (sym c.if-not-takes.ensures) (sym c.if-has.ensures) c.in_default-value_at.ensures
 
 pub loop-place-preserved : goal.loop-place-preserved
 loop-place-preserved c =
-    rw c.with-given.ensures (another c.args.command c.args.words.now c.loop-place.given c.loop-place.place c.in-Some.key c.in-Some-number_at.number c.loop-place.invariant c.loop-place-test.true c.in-Some.ensures
-    (sym c.if-not-takes.ensures) (ap is_some (sym c.number.ensures) ∙ sym c.if-is_some.ensures) c.in-Some-number_at.ensures)
+    rw c.give.ensures (another c.args.command c.args.words.now c.loop-place.given c.loop-place.place c.in-Some.key c.in-Some-value_at.value c.loop-place.invariant c.loop-place-test.true c.in-Some.ensures
+    (sym c.if-not-takes.ensures) (sym c.if-has.ensures) c.in-Some-value_at.ensures)
 
 pub returns-clause-options : goal.returns-clause-options
 returns-clause-options c =
@@ -41,4 +42,4 @@ returns-clause-options c =
 
 pub returns-clause-workers : goal.returns-clause-workers
 returns-clause-workers c =
-    subst (λ (o : Options). 0 < o.workers) (sym c.options.ensures) (workers_of c.loop-place.given c.loop-place.invariant.within).0
+    subst (λ (o : Options). 0 < o.workers) (sym c.options.ensures) (workers_of (text_of c.loop-place.given.workers)).0

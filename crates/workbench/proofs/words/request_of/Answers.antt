@@ -1,7 +1,7 @@
 use Rattle.std.proofs.Common.{◌∙◌, ◌+◌, map, arith, ap, sym, length}
 use Rattle.std.proofs.lemmas.List.{length-map}
 use Rattle.std.proofs.lemmas.Result.{err_from_is_err_and}
-use Rattle.workbench.specs.OptionKeys.{numbers_of}
+use Rattle.workbench.specs.OptionKeys.{values_of}
 use Rattle.workbench.proofs.LawfulLists.{unknown}
 use Rattle.workbench.proofs.RequestWords.{lawful_request, refused_request, missing_in}
 use Rattle.workbench.proofs.words.request_of.Goals as goal
@@ -20,7 +20,7 @@ pub returns-in-Ok-clause-asked : goal.returns-in-Ok-clause-asked
 returns-in-Ok-clause-asked c =
     let size = sym (length-map c.words-front.result.now (λ w. w.now)) ∙ ap length c.words-front.ensures in
     let front = length c.words-front.result.now in
-    lawful_request c.args.words.now c.in_ok-command.command front (front + c.inputs.result) (numbers_of c.in-Ok.options) c.in_ok-command.ensures size (omega (arith, c.inputs.ensures)) (omega (arith, c.if-words-end.false)) c.in-Ok.ensures.options
+    lawful_request c.args.words.now c.in_ok-command.command front (front + c.inputs.result) (values_of c.in-Ok.options) c.in_ok-command.ensures size (omega (arith, c.inputs.ensures)) (omega (arith, c.if-words-end.false)) c.in-Ok.ensures.options
 
 pub returns-in-Err-clause-asked : goal.returns-in-Err-clause-asked
 returns-in-Err-clause-asked c =

@@ -1,9 +1,12 @@
 use Rattle.std.proofs.Common.{refl, sym, subst}
 use Rattle.std.specs.Prelude.{IsTrue}
+use Rattle.lk_model.specs.Formulas.Formula.{Cnf}
 use Rattle.lk_model.specs.declared.class.Class.TheVariants.{Pure}
+use Rattle.workbench.specs.Founds.{IsFoundFor}
+use Rattle.workbench.specs.OptionKeys.{values_of}
 use Rattle.workbench.specs.Statuses.{is_result}
 use Rattle.workbench.specs.declared.status.Status.{Status}
-use Rattle.workbench.proofs.Founds.{writes_plain}
+use Rattle.workbench.proofs.Protecting.{problem_writes}
 use Rattle.workbench.proofs.Texts.{one_name}
 use Rattle.workbench.proofs.command.reduce.perform_pure.Goals as goal
 
@@ -14,8 +17,9 @@ returns-clause-ok g c = record {
   result = subst (λ (s : Status). IsTrue (is_result s)) (sym c.in_ok-written.ensures.status) refl;
   answers = record {
     status_is = c.in_ok-written.ensures.status;
-    writes = writes_plain c.in_ok-formula.formula Pure c.in_ok-found.found c.args.options.pivots c.in_ok-document.document c.in_ok-written.field-0.written.items c.in_ok-document.ensures.formula c.in_ok-document.ensures.limits
-        c.in_ok-found.ensures c.in_ok-document.ensures.document c.in_ok-written.ensures.written;
+    writes = problem_writes c.in_ok-formula.formula Pure (values_of c.args.options).protect c.in_ok-problem.problem c.in_ok-found.found c.args.options.pivots c.in_ok-document.document c.in_ok-written.field-0.written.items
+        c.in_ok-problem.ensures c.in_ok-document.ensures.formula c.in_ok-document.ensures.limits
+        (subst (λ (G : Cnf). IsFoundFor Pure G c.in_ok-found.found) c.left.ensures c.in_ok-found.ensures) c.in_ok-document.ensures.document c.in_ok-written.ensures.written;
     silent = c.in_ok-written.ensures.said;
   };
 }

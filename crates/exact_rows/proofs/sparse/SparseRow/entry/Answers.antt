@@ -1,0 +1,14 @@
+use Rattle.std.proofs.Common.{◌∙◌, ap, rules}
+use Rattle.std.specs.Int.RustNames.{FitsSigned}
+use mir.Syntax.{w128}
+use Rattle.std.proofs.lemmas.Int.{to_z-of_z}
+use Rattle.lk_model.specs.Linear.Rows.{entry}
+use Rattle.exact_rows.specs.Sparse.{number_in}
+use Rattle.exact_rows.proofs.Entries.{number_is}
+use Rattle.exact_rows.proofs.sparse.SparseRow.entry.Goals as goal
+
+pub returns-clause-value : goal.returns-clause-value
+returns-clause-value c =
+    let z : FitsSigned w128 c.number_in.result = search rules in
+    simp to_z-of_z (c.number_in.ensures.value ∙ ap (λ es. number_in es c.args.k) c.as_slice.ensures.value
+    ∙ number_is c.self.inside.columns c.self.inside.kept.items c.args.k c.self.invariant c.requires ∙ ap (λ r. entry r c.args.k) c.self.view_is)
