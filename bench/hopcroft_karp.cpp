@@ -1,11 +1,11 @@
-// A plain Hopcroft and Karp over the clauses and variables of a DIMACS file, to measure beside.
+// A plain reducer for matchings, to measure beside: Hopcroft and Karp over the clauses and variables of a
+// DIMACS file.
 //
-//     hopcroft_karp WORK FILE
+//     hopcroft_karp FILE
 //
-// WORK is `reading`, `maximum` or `kernel`, and one size is printed: how many clauses the file has, how
-// many pairs a maximum matching has, or how many clauses the matching kernel keeps. The kernel's owners and
-// rows are made too.
+// It writes the document that `leank reduce matching` writes, perhaps with another choice of owners.
 #include <algorithm>
+#include <charconv>
 #include <cstdint>
 #include <cstdio>
 #include <cstdlib>
@@ -20,6 +20,7 @@ struct Formula {
     Number vars = 0;
     std::vector<Number> ends{0};  // where the clauses end among the variables
     std::vector<Number> variables;
+    std::vector<int> literals;
     Number clauses() const { return Number(ends.size() - 1); }
 };
 
@@ -37,7 +38,10 @@ static Formula read(const char* name) {
         const long literal = std::strtol(at, &end, 10);
         if (end == at) return formula;
         if (literal == 0) formula.ends.push_back(Number(formula.variables.size()));
-        else formula.variables.push_back(Number(std::labs(literal)));
+        else {
+            formula.literals.push_back(int(literal));
+            formula.variables.push_back(Number(std::labs(literal)));
+        }
     }
 }
 
@@ -61,7 +65,6 @@ public:
         : f(formula), of_clause(f.clauses(), 0), of_var(f.vars + 1, 0), layer(f.clauses()), next(f.clauses()) {
         while (search()) turn_walks();
     }
-    std::size_t pairs() const { return of_clause.size() - std::count(of_clause.begin(), of_clause.end(), 0u); }
 
     // What the last search, which met no free variable, has reached.
     Kernel kernel() const {
@@ -143,11 +146,62 @@ private:
     std::vector<Number> of_clause, of_var, layer, next, queue, path;
 };
 
+// Text in one buffer.
+class Text {
+public:
+    Text& word(const char* word) {
+        bytes += word;
+        return *this;
+    }
+    Text& number(long number) {
+        char digits[24];
+        const auto end = std::to_chars(digits, digits + sizeof digits, number).ptr;
+        bytes += ' ';
+        bytes.append(digits, end);
+        return *this;
+    }
+    void line() { bytes += '\n'; }
+    bool put() const { return std::fwrite(bytes.data(), 1, bytes.size(), stdout) == bytes.size(); }
+
+private:
+    std::string bytes;
+};
+
+static void put_clause(Text& text, const Formula& f, Number position) {
+    for (Number k = f.ends[position - 1]; k < f.ends[position]; k++) {
+        const int literal = f.literals[k];
+        char digits[16];
+        *std::to_chars(digits, digits + sizeof digits, literal).ptr = 0;
+        text.word(digits).word(" ");
+    }
+    text.word("0").line();
+}
+
+static Text document(const Formula& f, const Kernel& kernel) {
+    std::vector<int> value(f.vars + 1, 0);
+    for (const Owner& owner : kernel.owners)
+        for (Number k = f.ends[owner.position - 1]; value[owner.variable] == 0; k++)
+            if (f.variables[k] == owner.variable) value[owner.variable] = f.literals[k];
+    Text text;
+    text.word("c leank 1 matching").line();
+    text.word("c formula").number(f.vars).number(f.clauses()).line();
+    text.word("c keep");
+    for (const Number p : kernel.kept) text.number(p);
+    text.number(0).line();
+    text.word("c set");
+    for (const int literal : value)
+        if (literal != 0) text.number(literal);
+    text.number(0).line();
+    for (const Owner& owner : kernel.owners) text.word("c own").number(owner.position).number(owner.variable).line();
+    for (const Row& row : kernel.rows)
+        text.word("c row").number(row.variable).number(row.own).number(row.escape).number(row.rank).line();
+    text.word("p cnf").number(f.vars).number(long(kernel.kept.size())).line();
+    for (const Number p : kernel.kept) put_clause(text, f, p);
+    return text;
+}
+
 int main(int count, char** words) {
-    if (count != 3) return 1;
-    const std::string work = words[1];
-    const Formula formula = read(words[2]);
-    if (work == "reading") return std::printf("%u\n", formula.clauses()) < 0;
-    const Matching matching(formula);
-    return std::printf("%zu\n", work == "maximum" ? matching.pairs() : matching.kernel().kept.size()) < 0;
+    if (count != 2) return 1;
+    const Formula formula = read(words[1]);
+    return document(formula, Matching(formula).kernel()).put() ? 0 : 4;
 }

@@ -1,11 +1,12 @@
 #!/usr/bin/env python3
-"""Measures the maximum matching and the matching kernel beside a plain Hopcroft and Karp in C++.
+"""Measures `reduce matching` beside a plain Hopcroft and Karp in C++ that reads the same formula and
+writes a document of the same kind.
 
-    bench/matching.py MATCH_SIZES [KIND ...]
+    bench/matching.py LEANK [KIND ...]
 
-MATCH_SIZES is the built program (crates/match_sizes/out holds it after `rt run` there). Needs python3
-and g++. Both programs read the file and then search; the time that the same program takes for reading
-alone is taken off. Each figure is the least of seven runs. Nothing fails by time.
+LEANK is the built program (crates/leank/out holds it after `bin/leank` ran once). Needs python3 and
+g++. Each figure is the least wall time of some runs; `reading` is what leank takes to read the formula
+alone. Both documents are checked. Nothing fails by time.
 """
 import os
 import random
@@ -15,7 +16,11 @@ import tempfile
 import time
 
 SEED = 1
-RUNS = 7
+RUNS = 5
+
+
+def put(out, clause):
+    out.write(" ".join(map(str, clause)) + " 0\n")
 
 
 def random_three(out, variables, clauses):
@@ -23,75 +28,108 @@ def random_three(out, variables, clauses):
     out.write(f"p cnf {variables} {clauses}\n")
     for _ in range(clauses):
         chosen = draw.sample(range(1, variables + 1), 3)
-        out.write(" ".join(str(v if draw.random() < 0.5 else -v) for v in chosen) + " 0\n")
+        put(out, [v if draw.random() < 0.5 else -v for v in chosen])
 
 
 def chain(out):
     """Implications from a unit clause to the complement of the last variable."""
     out.write("p cnf 999999 1000000\n1 0\n")
     for v in range(2, 1000000):
-        out.write(f"{1 - v} {v} 0\n")
-    out.write("-999999 0\n")
+        put(out, [1 - v, v])
+    put(out, [-999999])
 
 
 def one_walk(out):
     """The only way to match the last clause turns all pairs."""
     out.write("p cnf 1000000 1000000\n")
     for v in range(1, 1000000):
-        out.write(f"{v + 1} {v} 0\n")
-    out.write("1000000 0\n")
+        put(out, [v + 1, v])
+    put(out, [1000000])
 
 
 def complete(out, variables, clauses):
     """Each clause holds each variable."""
     out.write(f"p cnf {variables} {clauses}\n")
-    clause = " ".join(str(v) for v in range(1, variables + 1)) + " 0\n"
     for _ in range(clauses):
-        out.write(clause)
+        put(out, range(1, variables + 1))
+
+
+def square(first, second):
+    """The four clauses over two variables, which are their own kernel."""
+    return [[first, second], [first, -second], [-first, second], [-first, -second]]
+
+
+def parts(out):
+    """300,000 parts of four clauses."""
+    out.write("p cnf 600000 1200000\n")
+    for v in range(1, 600000, 2):
+        for clause in square(v, v + 1):
+            put(out, clause)
+
+
+def joined(out):
+    """The same clauses with a literal more, so that all are one part."""
+    out.write("p cnf 600000 1200000\n")
+    for v in range(1, 600000, 2):
+        first, *others = square(v, v + 1)
+        put(out, first + [v + 2] if v + 2 < 600000 else first)
+        for clause in others:
+            put(out, clause)
 
 
 KINDS = {
-    "random": lambda out: random_three(out, 100000, 90000),
+    "random": lambda out: random_three(out, 500000, 450000),
     "tight": lambda out: random_three(out, 100000, 92000),
     "chain": chain,
     "walk": one_walk,
-    "square": lambda out: complete(out, 3000, 3000),
-    "wide": lambda out: complete(out, 3000, 3200),
+    "square": lambda out: complete(out, 1500, 1500),
+    "wide": lambda out: complete(out, 1500, 1600),
+    "parts": parts,
+    "joined": joined,
 }
 
 
-def seconds(program, work, name):
-    """The least wall seconds of some runs, and what is printed."""
-    least, printed = None, None
+def least_seconds(words, output):
+    """The least wall seconds of some runs of a command whose output goes to a file."""
+    least = float("inf")
     for _ in range(RUNS):
-        begin = time.monotonic()
-        printed = subprocess.run([program, work, name], check=True, capture_output=True).stdout
-        taken = time.monotonic() - begin
-        least = taken if least is None else min(least, taken)
-    return least, int(printed)
+        with open(output, "w") as out:
+            begin = time.monotonic()
+            subprocess.run(words, stdout=out, stderr=subprocess.DEVNULL)
+            least = min(least, time.monotonic() - begin)
+    return least
+
+
+def checked(leank, formula, document):
+    """The line `c keep` of a document that is accepted."""
+    if subprocess.run([leank, "check", formula, document], stdout=subprocess.DEVNULL).returncode != 0:
+        sys.exit(f"{document}: not accepted")
+    with open(document) as text:
+        return next(line for line in text if line.startswith("c keep"))
 
 
 def main():
     if len(sys.argv) < 2:
         sys.exit(__doc__)
-    proved, kinds = os.path.abspath(sys.argv[1]), sys.argv[2:] or list(KINDS)
+    leank, kinds = os.path.abspath(sys.argv[1]), sys.argv[2:] or list(KINDS)
     source = os.path.join(os.path.dirname(os.path.abspath(__file__)), "hopcroft_karp.cpp")
     with tempfile.TemporaryDirectory() as folder:
         plain = os.path.join(folder, "hopcroft_karp")
         subprocess.run(["g++", "-O2", "-std=c++17", "-o", plain, source], check=True)
+        formula, ours, theirs = (os.path.join(folder, name) for name in ("formula", "ours", "theirs"))
         for kind in kinds:
-            name = os.path.join(folder, kind + ".cnf")
-            with open(name, "w") as out:
+            with open(formula, "w") as out:
                 KINDS[kind](out)
-            reading = [seconds(program, "reading", name)[0] for program in (proved, plain)]
-            for work in ("maximum", "kernel"):
-                (ours, size), (theirs, same) = (seconds(program, work, name) for program in (proved, plain))
-                if size != same:
-                    sys.exit(f"{kind}: {work} is {size}, and {same} by the plain program")
-                ours, theirs = ours - reading[0], theirs - reading[1]
-                ratio = ours / theirs if theirs > 0 else float("inf")
-                print(f"{kind:8} {work:8} {size:8}  {ours * 1000:8.1f} ms  plain {theirs * 1000:8.1f} ms  ratio {ratio:.2f}")
-            os.remove(name)
+            beside = least_seconds([plain, formula], theirs)
+            kept = checked(leank, formula, theirs)
+            reading = least_seconds([leank, "check", formula, os.devnull], os.devnull)
+            print(f"{kind:7} {os.path.getsize(formula):9} bytes, {len(kept.split()) - 3} kept  plain {beside:.2f} s  reading {reading:.2f} s")
+            for workers in ("1", "2"):
+                words = [leank, "reduce", "matching", formula, "--workers", workers]
+                seconds = least_seconds(words, ours)
+                if checked(leank, formula, ours) != kept:
+                    sys.exit(f"{kind}: another kernel")
+                print(f"    {workers} worker(s) {seconds:6.2f} s  ratio {seconds / beside:.2f}")
 
 
 if __name__ == "__main__":

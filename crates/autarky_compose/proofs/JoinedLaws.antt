@@ -32,7 +32,7 @@ kept_by F groups found t p all j e = kept_from F groups found p all (j.kept.only
 kept_of_all : (m : ℕ) (found : List MatchingResult) (t : MatchingResult) (k p : ℕ) → AreJoined m found t → k < length found
     → among (get_or found k nothing).kept p ≡ true → among t.kept p ≡ true
 kept_of_all m found t k p j lt e =
-    contains_among t.kept p (j.kept.every p (into_all (λ (r : MatchingResult). r.kept) found p k lt (among_contains (get_or found k nothing).kept p e)))
+    contains_among t.kept p (j.kept.every p (into_all nothing (λ (r : MatchingResult). r.kept) found p k lt (among_contains (get_or found k nothing).kept p e)))
 
 positions_rise : (m : ℕ) (found : List MatchingResult) (t : MatchingResult) → AreJoined m found t → rises_within 0 m t.kept ≡ true
 positions_rise m found t j = subst (λ (ps : List ℕ). rises_within 0 m ps ≡ true) (map-id t.kept) j.kept.rising
@@ -73,7 +73,7 @@ removed_own F groups found t p cover all j e =
     let out : among r.kept p ≡ false = false_from_ne_true _ (λ kept. both_ways (not (among t.kept p)) (ap not (kept_of_all (length F.clauses) found t k.0 p j k.1 kept)) f.0) in
     let listed = subst (λ (ps : List ℕ). among ps p ≡ true) (sym h.removed) (in_filter (λ q. not (among r.kept q)) (get_or groups k.0 []) p (ap not out) k.2) in
     let w = key_found (λ (o : Own). o.pos) r.own p listed in
-    let there = j.own.every w.value (into_all (λ (r : MatchingResult). r.own) found w.value k.0 k.1 w.there) in
+    let there = j.own.every w.value (into_all nothing (λ (r : MatchingResult). r.own) found w.value k.0 k.1 w.there) in
     subst (λ (q : ℕ). among (map (λ (o : Own). o.pos) t.own) q ≡ true) w.at (key_among (λ (o : Own). o.pos) t.own w.value there)
 
 removed : (F : Cnf) (groups : List (List ℕ)) (found : List MatchingResult) (t : MatchingResult) → IsDisjointCover F groups
@@ -105,7 +105,7 @@ variable_row F groups found t v all j e =
     let r = get_or found k.place nothing in
     let listed = in_filter (variable_occurs F r.kept) (variables_to F.vars) v (occurs F r.kept p.0 v k.kept p.2) f.1 in
     let w = key_found (λ (x : MatchRow). x.var) r.rows v (subst (λ (vs : List ℕ). among vs v ≡ true) (sym k.result.variables) listed) in
-    let there = j.rows.every w.value (into_all (λ (r : MatchingResult). r.rows) found w.value k.place k.inside w.there) in
+    let there = j.rows.every w.value (into_all nothing (λ (r : MatchingResult). r.rows) found w.value k.place k.inside w.there) in
     subst (λ (u : ℕ). among (map (λ (x : MatchRow). x.var) t.rows) u ≡ true) w.at (key_among (λ (x : MatchRow). x.var) t.rows w.value there)
 
 variables : (F : Cnf) (groups : List (List ℕ)) (found : List MatchingResult) (t : MatchingResult) → AreMatchingResults F groups found

@@ -5,3 +5,6 @@ pub mod JoinedLaws
 pub mod Tables
 pub mod PartItems
 pub mod Results
+pub mod JoinedRounds
+pub mod GeneralItems
+pub mod GeneralLaws

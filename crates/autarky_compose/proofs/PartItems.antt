@@ -17,7 +17,7 @@ use Rattle.autarky_compose.proofs.Orders.{same_item}
 use Rattle.autarky_compose.proofs.Sources.{nothing, kept_from, own_from, row_from}
 
 -- what holds of each item of a list
-each_item : {X : Type 0} (P : X → Type 0) (xs : List X) → ((x : X) → Contains xs x → P x) → All P xs
+pub each_item : {X : Type 0} (P : X → Type 0) (xs : List X) → ((x : X) → Contains xs x → P x) → All P xs
 each_item P xs h = λ k d lt. h (get_or xs k d) (Contains-get_or xs k d lt)
 
 -- GROUPS

@@ -30,20 +30,20 @@ one F (ps ∷ groups) (r ∷ found) zero all lt = all.0
 one F (ps ∷ groups) (r ∷ found) (suc k) all lt = one F groups found k all.1 (omega (arith, lt))
 
 -- an item of all results is one of a result
-pub from_all : {X : Type 0} (f : MatchingResult → List X) (found : List MatchingResult) (x : X) → Contains (flat_map f found) x
-    → (k : ℕ) × (k < length found) × Contains (f (get_or found k nothing)) x
-from_all f [] x (k, lt, e) = absurd (omega (arith, lt))
-from_all f (r ∷ found) x h = elim (Contains-append_cases (f r) (flat_map f found) x h) [
+pub from_all : {X Y : Type 0} (d : Y) (f : Y → List X) (found : List Y) (x : X) → Contains (flat_map f found) x
+    → (k : ℕ) × (k < length found) × Contains (f (get_or found k d)) x
+from_all d f [] x (k, lt, e) = absurd (omega (arith, lt))
+from_all d f (r ∷ found) x h = elim (Contains-append_cases (f r) (flat_map f found) x h) [
   | inl here ↦ (zero, omega arith, here)
-  | inr later ↦ (let w = from_all f found x later in let lt = w.1 in (suc w.0, omega (arith, lt), w.2))
+  | inr later ↦ (let w = from_all d f found x later in let lt = w.1 in (suc w.0, omega (arith, lt), w.2))
 ]
 
 -- and an item of a result is one of all
-pub into_all : {X : Type 0} (f : MatchingResult → List X) (found : List MatchingResult) (x : X) (k : ℕ) → k < length found
-    → Contains (f (get_or found k nothing)) x → Contains (flat_map f found) x
-into_all f [] x k lt h = absurd (omega (arith, lt))
-into_all f (r ∷ found) x zero lt h = Contains-append_left (f r) (flat_map f found) x h
-into_all f (r ∷ found) x (suc k) lt h = Contains-append_right (f r) (flat_map f found) x (into_all f found x k (omega (arith, lt)) h)
+pub into_all : {X Y : Type 0} (d : Y) (f : Y → List X) (found : List Y) (x : X) (k : ℕ) → k < length found
+    → Contains (f (get_or found k d)) x → Contains (flat_map f found) x
+into_all d f [] x k lt h = absurd (omega (arith, lt))
+into_all d f (r ∷ found) x zero lt h = Contains-append_left (f r) (flat_map f found) x h
+into_all d f (r ∷ found) x (suc k) lt h = Contains-append_right (f r) (flat_map f found) x (into_all d f found x k (omega (arith, lt)) h)
 
 -- a position of some group has a result
 pub result_with : (F : Cnf) (groups : List (List ℕ)) (found : List MatchingResult) (p : ℕ) → AreMatchingResults F groups found
@@ -68,7 +68,7 @@ pub record KeptFrom (F : Cnf) (groups : List (List ℕ)) (found : List MatchingR
 pub kept_from : (F : Cnf) (groups : List (List ℕ)) (found : List MatchingResult) (p : ℕ) → AreMatchingResults F groups found → Contains (all_kept found) p
     → KeptFrom F groups found p
 kept_from F groups found p all c =
-    let w = from_all (λ (r : MatchingResult). r.kept) found p c in
+    let w = from_all nothing (λ (r : MatchingResult). r.kept) found p c in
     let h = one F groups found w.0 all w.1 in
     let k = contains_among (get_or found w.0 nothing).kept p w.2 in
     record { place = w.0; inside = w.1; result = h; kept = k; in_group = h.within p k }
@@ -86,7 +86,7 @@ pub record OwnFrom (F : Cnf) (groups : List (List ℕ)) (found : List MatchingRe
 pub own_from : (F : Cnf) (groups : List (List ℕ)) (found : List MatchingResult) (o : Own) → AreMatchingResults F groups found → Contains (all_own found) o
     → OwnFrom F groups found o
 own_from F groups found o all c =
-    let w = from_all (λ (r : MatchingResult). r.own) found o c in
+    let w = from_all nothing (λ (r : MatchingResult). r.own) found o c in
     let h = one F groups found w.0 all w.1 in
     let r = get_or found w.0 nothing in
     let group = get_or groups w.0 [] in
@@ -109,7 +109,7 @@ pub record RowFrom (F : Cnf) (groups : List (List ℕ)) (found : List MatchingRe
 pub row_from : (F : Cnf) (groups : List (List ℕ)) (found : List MatchingResult) (w : MatchRow) → AreMatchingResults F groups found → Contains (all_rows found) w
     → RowFrom F groups found w
 row_from F groups found w all c =
-    let u = from_all (λ (r : MatchingResult). r.rows) found w c in
+    let u = from_all nothing (λ (r : MatchingResult). r.rows) found w c in
     let h = one F groups found u.0 all u.1 in
     let r = get_or found u.0 nothing in
     let row = h.rows w u.2 in

@@ -1,7 +1,6 @@
 -- What the matching reducer finds in groups of positions that share no variable, as parts do, joined.
-use Rattle.std.specs.Prelude.{◌≡◌, ◌^◌, ℕ, List, [], ◌∷◌, ⊤, length, map, Contains, IsTrue}
+use Rattle.std.specs.Prelude.{◌≡◌, ◌^◌, ℕ, List, [], ◌∷◌, ⊤, length}
 use Rattle.std.specs.List.{flat_map}
-use Rattle.lk_model.specs.Lists.{rises_within}
 use Rattle.lk_model.specs.Formulas.Formula.{Cnf, positions_of}
 use Rattle.lk_model.specs.Formulas.Parts.{AreParts}
 use Rattle.lk_model.specs.declared.document.Own.{Own}
@@ -9,6 +8,7 @@ use Rattle.lk_model.specs.declared.document.MatchRow.{MatchRow}
 use Rattle.lk_model.specs.declared.result.MatchingResult.{MatchingResult}
 use Rattle.kernel_laws.specs.Matching.MatchingResults.{IsMatchingResult}
 use Rattle.par_parts.specs.Groups.{IsDisjointCover}
+use Rattle.autarky_compose.specs.Ordered.{AreInOrder}
 
 -- one result for each of these groups
 abbrev pub AreMatchingResults : Cnf → List (List ℕ) → List MatchingResult → Type 0
@@ -23,12 +23,6 @@ pub record AreOfGroups (m : ℕ) (found : List MatchingResult) : Type 0 where
   pub count : length formula.clauses ≡ m
   pub cover : IsDisjointCover formula groups
   pub results : AreMatchingResults formula groups found
-
--- exactly the items of a list, by their keys, which rise from above 0 to at most high
-pub record AreInOrder {X : Type 0} (key : X → ℕ) (high : ℕ) (items ordered : List X) : Type 0 where
-  pub rising : IsTrue (rises_within 0 high (map key ordered))
-  pub only : (x : X) → Contains ordered x → Contains items x
-  pub every : (x : X) → Contains items x → Contains ordered x
 
 -- what all results keep, their own lines and their rows
 abbrev pub all_kept : List MatchingResult → List ℕ

@@ -1,2 +1,4 @@
+pub mod Ordered
 pub mod JoinedMatching
+pub mod JoinedGeneral
 pub mod Tables

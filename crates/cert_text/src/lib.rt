@@ -19,5 +19,5 @@ mod steps;
 
 pub use laws::text_law;
 pub use model::read_model;
-pub use printing::print;
+pub use printing::{print, print_model};
 pub use reading::read;

@@ -13,6 +13,7 @@ mod general;
 mod line;
 mod linear;
 mod matching;
+mod model;
 mod pure;
 mod unfinished;
 
@@ -22,6 +23,7 @@ use self::general::put_rounds;
 use self::line::{put_literal_line, put_number_line};
 use self::linear::put_linear;
 use self::matching::put_matching;
+pub use self::model::print_model;
 use self::pure::put_pure;
 use self::unfinished::put_unfinished;
 use lk_model::{Body, Document, DoneDocument, OutOfMemory};

@@ -14,15 +14,14 @@ use std::test::Fail;
 /// A first number, and turns as literals and numbers.
 type Chain = (u64, &'static [(i32, u64)]);
 
-/// What is left of a refutation, numbered from a next number on, and the positions that it uses.
+/// What is left of a refutation, numbered from a next number on.
 struct Trimmed {
     next: u64,
     kept: &'static [Chain],
-    used: &'static [u32],
 }
 
-/// Chains over a part of a formula, the clauses that their steps state, and what is left of them if they
-/// refute.
+/// Chains over a part of a formula, the clauses that their steps state, the positions that they use, and
+/// what is left of them if they refute.
 struct Case {
     name: &'static str,
     vars: u32,
@@ -32,6 +31,7 @@ struct Case {
     first: u64,
     chains: &'static [Chain],
     stated: &'static [&'static [i32]],
+    used: &'static [u32],
     trimmed: Option<Trimmed>,
 }
 
@@ -47,10 +47,10 @@ const CASES: &[Case] = &[
         first: 5,
         chains: &[(1, &[(2, 2)]), (3, &[(2, 4), (-1, 5)])],
         stated: &[&[1], &[]],
+        used: &[1, 2, 3, 4],
         trimmed: Some(Trimmed {
             next: 5,
             kept: &[(1, &[(2, 2)]), (3, &[(2, 4), (-1, 5)])],
-            used: &[1, 2, 3, 4],
         }),
     },
     Case {
@@ -69,10 +69,10 @@ const CASES: &[Case] = &[
             (21, &[(1, 23)]),
         ],
         stated: &[&[2], &[1], &[-2], &[-1], &[], &[]],
+        used: &[1, 2, 3, 4],
         trimmed: Some(Trimmed {
             next: 7,
             kept: &[(1, &[(2, 2)]), (3, &[(2, 4)]), (7, &[(1, 8)])],
-            used: &[1, 2, 3, 4],
         }),
     },
     Case {
@@ -84,10 +84,10 @@ const CASES: &[Case] = &[
         first: 5,
         chains: &[(3, &[(2, 4)]), (1, &[(1, 2)])],
         stated: &[&[1], &[]],
+        used: &[1, 2],
         trimmed: Some(Trimmed {
             next: 5,
             kept: &[(1, &[(1, 2)])],
-            used: &[1, 2],
         }),
     },
     Case {
@@ -99,10 +99,10 @@ const CASES: &[Case] = &[
         first: 4,
         chains: &[(1, &[(1, 3)])],
         stated: &[&[]],
+        used: &[1, 3],
         trimmed: Some(Trimmed {
             next: 4,
             kept: &[(1, &[(1, 3)])],
-            used: &[1, 3],
         }),
     },
     Case {
@@ -119,6 +119,7 @@ const CASES: &[Case] = &[
             (7, &[(-2, 4)]),
         ],
         stated: &[&[1, -1, 2], &[1, 2, -2], &[-2], &[]],
+        used: &[1, 2, 3, 4],
         trimmed: Some(Trimmed {
             next: 5,
             kept: &[
@@ -127,7 +128,6 @@ const CASES: &[Case] = &[
                 (6, &[(2, 2), (1, 3)]),
                 (7, &[(-2, 4)]),
             ],
-            used: &[1, 2, 3, 4],
         }),
     },
     Case {
@@ -139,6 +139,7 @@ const CASES: &[Case] = &[
         first: 5,
         chains: &[(1, &[(2, 2)]), (3, &[(2, 4)])],
         stated: &[&[1], &[-1]],
+        used: &[3, 4],
         trimmed: None,
     },
     Case {
@@ -164,6 +165,7 @@ const CASES: &[Case] = &[
             48, 49, 50, 51, 52, 53, 54, 55, 56, 57, 58, 59, 60, 61, 62, 63, 64, 65, 66, 67, 68, 69,
             70,
         ]],
+        used: &[1, 2],
         trimmed: None,
     },
 ];
@@ -350,7 +352,16 @@ fn is_round(round: &Round, case: &Case) -> bool {
     have_chains(case.first, steps, case.chains) && state(steps, case.stated)
 }
 
-/// Whether the log has the chains of the case, and their clauses.
+/// Whether the steps of a log use these positions.
+fn log_uses(over: &Crossed, log: &Log, positions: &[u32]) -> Result<bool, OutOfMemory> {
+    if u64::from(over.formula.len()) >= log.first() {
+        return Ok(false);
+    }
+    let used = log.used(over)?;
+    Ok(used.as_slice() == positions)
+}
+
+/// Whether the log has the chains of the case, their clauses, and its positions.
 fn is_logged(alloc: Global, over: &Crossed, case: &Case) -> Result<bool, Fail>
     requires { IsCrossed over.now }
 {
@@ -358,35 +369,40 @@ fn is_logged(alloc: Global, over: &Crossed, case: &Case) -> Result<bool, Fail>
     if !finds(&log, case.stated) {
         return Ok(false);
     }
+    if !log_uses(over, &log, case.used)? {
+        return Ok(false);
+    }
     Ok(is_round(&log.into_round(), case))
 }
 
-/// Whether a trimmed log is as the case has it, and uses its positions.
+/// Whether a trimmed log is as the case has it, and uses the same positions.
 fn is_wanted(
     alloc: Global,
     over: &Crossed,
     round: &Round,
     wanted: &Trimmed,
+    used: &[u32],
 ) -> Result<bool, OutOfMemory>
     requires { IsCrossed over.now }
 {
     if !have_chains(wanted.next, round.steps.as_slice(), wanted.kept) {
         return Ok(false);
     }
-    uses(alloc, over, wanted.next, round, wanted.used)
+    uses(alloc, over, wanted.next, round, used)
 }
 
-/// Whether the log is trimmed as the case has it, and uses its positions.
+/// Whether the log is trimmed as the case has it, and uses the same positions then.
 fn is_trimmed(
     alloc: Global,
     over: &Crossed,
     log: Log,
     wanted: &Trimmed,
+    used: &[u32],
 ) -> Result<bool, OutOfMemory>
     requires { IsCrossed over.now }
 {
     match trim(log, wanted.next)? {
-        Some(round) => is_wanted(alloc, over, &round, wanted),
+        Some(round) => is_wanted(alloc, over, &round, wanted, used),
         None => Ok(false),
     }
 }
@@ -399,7 +415,7 @@ fn trims(alloc: Global, over: &Crossed, case: &Case) -> Result<bool, Fail>
         return Ok(true);
     };
     let log = log_of(alloc, over, case.first, case.chains)?;
-    Ok(is_trimmed(alloc, over, log, wanted)?)
+    Ok(is_trimmed(alloc, over, log, wanted, case.used)?)
 }
 
 /// Whether the log of a case is as it stands there, and is trimmed so.

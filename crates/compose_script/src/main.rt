@@ -6,13 +6,17 @@
 //! - `kernel N; CLAUSES` tells the matching kernel of a formula, found in each part by itself: the kept
 //!   positions, the own lines and the variables of the rows. The number of variables comes first, then the
 //!   clauses with commas between them, 0 for an empty one.
+//! - `general M; RESULTS` joins general results for the parts of a formula of M clauses, with bars between
+//!   them, and tells the result as such a text (`src/given.rt`), or that they cannot be joined.
 //! - `drawn N` compares the kernels of so many drawn formulas with those that are found in one piece.
 #![tactic(auto)]
 
+mod given;
+mod joinable;
 mod joining;
 mod telling;
 
-use crate::telling::{tell_drawn, tell_kernel};
+use crate::telling::{tell_drawn, tell_general, tell_kernel};
 use std::alloc::Global;
 use std::test::Fail;
 
@@ -23,6 +27,7 @@ fn tell(alloc: Global, line: &str, out: &mut String) -> Result<(), Fail> {
     let number = number.trim().parse().unwrap_or(0);
     match word {
         "kernel" => tell_kernel(alloc, number, clauses, out),
+        "general" => tell_general(alloc, number, clauses, out),
         "drawn" => tell_drawn(alloc, number, out),
         _ => Ok(()),
     }

@@ -1,4 +1,6 @@
-//! What the matching kernels of formulas are.
+//! What the matching kernels of formulas are, and what general results are joined.
+use crate::given::{put_general, results_of_text};
+use crate::joinable::joined;
 use crate::joining::kernel_by_parts;
 use lk_model::{MatchRow, MatchingResult, Own};
 use lk_samples::{drawn_formula, formula_of_text, positions};
@@ -36,6 +38,21 @@ pub(crate) fn tell_kernel(alloc: Global, n: u32, text: &str, out: &mut String) -
     let f = formula_of_text(alloc, n, text)?;
     let r = kernel_by_parts(alloc, &f)?;
     put_result(&r, out)?;
+    Ok(())
+}
+
+/// Tells what the results of a text are, joined, for a formula of m clauses.
+pub(crate) fn tell_general(
+    alloc: Global,
+    m: u32,
+    text: &str,
+    out: &mut String,
+) -> Result<(), Fail> {
+    let found = results_of_text(alloc, text)?;
+    match joined(alloc, m, found)? {
+        Some(r) => put_general(&r, out)?,
+        None => writeln!(out, "= not joinable")?,
+    }
     Ok(())
 }
 

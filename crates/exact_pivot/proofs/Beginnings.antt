@@ -1,7 +1,8 @@
 -- The starting rows as the code makes them: their sizes, and their small numbers.
-use Rattle.std.proofs.Common.{◌≡◌, ℕ, suc, ◌+◌, ◌≤◌, Bool, true, false, cond, List, [], ◌∷◌, ◌++◌, map, zip, replicate, length, ℤ, pos, negsuc, neg_ℤ, ◌==◌, ◌+ℤ◌, ◌-ℤ◌, ◌*ℤ◌, int_lt, unsigned_abs, ap, ◌∙◌, arith}
+use Rattle.std.proofs.Common.{◌≡◌, ℕ, suc, ◌+◌, ◌≤◌, Bool, true, false, cond, List, [], ◌∷◌, ◌++◌, map, zip, replicate, length, ℤ, pos, negsuc, neg_ℤ, ◌==◌, ◌+ℤ◌, ◌-ℤ◌, ◌*ℤ◌, int_lt, unsigned_abs, sym, ap, ◌∙◌, subst, arith}
 use Rattle.std.proofs.lemmas.Int.{ints}
 use Rattle.std.proofs.lemmas.List.Elements.{All-append, All-cons, All-nil}
+use Rattle.std.proofs.lemmas.List.{length-append, length-map}
 use Rattle.std.proofs.lemmas.List.FromFn.{length-range_with_len}
 use Rattle.std.specs.List.{All}
 use Rattle.lk_model.specs.Lists.{up_to, sum_of}
@@ -19,7 +20,7 @@ use Rattle.exact_pivot.specs.Small.{AreSmall, cost_of}
 pub variables_few : (F : Cnf) (S : List ℕ) → length (variables_at F S) ≤ F.vars
 variables_few F S = omega (arith, filter_length (variable_occurs F S) (variables_to F.vars), length-range_with_len 1 F.vars)
 
-unit_most : (b d : Bool) → unsigned_abs (cond b (pos 1) (pos 0) -ℤ cond d (pos 1) (pos 0)) ≤ 1
+pub unit_most : (b d : Bool) → unsigned_abs (cond b (pos 1) (pos 0) -ℤ cond d (pos 1) (pos 0)) ≤ 1
 unit_most true true = omega arith
 unit_most true false = omega arith
 unit_most false true = omega arith
@@ -40,7 +41,7 @@ all_map : {X : Type 0} (P : ℤ → Type 0) (f : X → ℤ) (xs : List X) → ((
 all_map P f [] h = All-nil P
 all_map P f (x ∷ xs) h = All-cons P (f x) (map f xs) (h x) (all_map P f xs h)
 
-small_row : (F : Cnf) (S : List ℕ) (j v : ℕ) → length S ≤ 4_000_000 → AreSmall (start_row F S (j, v)).entries
+pub small_row : (F : Cnf) (S : List ℕ) (j v : ℕ) → length S ≤ 4_000_000 → AreSmall (start_row F S (j, v)).entries
 unfolding start_row
 small_row F S j v few =
     let small : ℤ → Type 0 = λ x. unsigned_abs x ≤ 4_000_000 in
@@ -87,3 +88,27 @@ begun_keeps F S few most = tableau_of F S (start_of F S) (omega (arith, few, mos
 
 pub rows_count : (F : Cnf) (S : List ℕ) → length (start_rows F S) ≡ length (variables_at F S)
 rows_count F S = zip_length (start_row F S) (variables_at F S) 1
+
+-- how many columns they have
+pub row_width : (F : Cnf) (S : List ℕ) (j v : ℕ) → length (start_row F S (j, v)).entries ≡ length S + length (variables_at F S) + 2
+unfolding start_row
+row_width F S j v =
+    let clauses = map (λ p. sign_of F S v *ℤ incidence (clause_at F p) v) S in
+    let units = map (λ w. cond (w == v) (pos 1) (pos 0)) (variables_at F S) in
+    omega (
+      arith,
+      length-append (clauses ++ units) (pos 0 ∷ (sign_of F S v *ℤ lack F S v) ∷ []),
+      length-append clauses units,
+      length-map S (λ p. sign_of F S v *ℤ incidence (clause_at F p) v),
+      length-map (variables_at F S) (λ w. cond (w == v) (pos 1) (pos 0)),
+    )
+
+pub row_widths : (F : Cnf) (S : List ℕ) → All (λ (row : Row). length row.entries ≡ length S + length (start_rows F S) + 2) (start_rows F S)
+row_widths F S = subst (λ (n : ℕ). All (λ (row : Row). length row.entries ≡ length S + n + 2) (start_rows F S)) (sym (rows_count F S)) (along (zip (up_to (length (variables_at F S))) (variables_at F S)))
+  where
+    wide : Row → Type 0
+    wide row = length row.entries ≡ length S + length (variables_at F S) + 2
+
+    along : (jvs : List (ℕ × ℕ)) → All wide (map (start_row F S) jvs)
+    along [] = All-nil wide
+    along (jv ∷ jvs) = All-cons wide (start_row F S jv) (map (start_row F S) jvs) (row_width F S jv.0 jv.1) (along jvs)

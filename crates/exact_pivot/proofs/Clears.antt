@@ -7,6 +7,9 @@ use Rattle.lk_model.specs.Linear.Rows.{Row}
 use Rattle.lk_model.specs.Linear.Pivot.{made_to_clear}
 use Rattle.lk_model.specs.declared.wide.Wide.{Wide}
 use Rattle.exact_rows.proofs.Wides.{first_wide-append}
+use Rattle.exact_rows.specs.Sparse.{IsStop}
+use Rattle.exact_rows.specs.declared.sparse.SparseStop.{SparseStop}
+use Rattle.exact_rows.specs.declared.sparse.SparseStop.TheVariants as stops
 use Rattle.exact_pivot.specs.Moves.{made_to_clear_all}
 
 written : {X : Type 0} (zs xs : List X) (i : ℕ) (d : X) → length zs ≡ length xs → i < length xs
@@ -40,12 +43,18 @@ made_from by k rows i d h =
     let step : i + 1 ≡ suc i = omega arith in
     rw (step, drop-cons rows i d h) (first_wide-append (made_to_clear by k (get_or rows i d).entries) (made_to_clear_all by k (drop (suc i) rows)))
 
-pub at_row : (by : List ℤ) (k : ℕ) (rows : List Row) (i : ℕ) (d : Row) (w : Wide) → i < length rows
+at_row : (by : List ℤ) (k : ℕ) (rows : List Row) (i : ℕ) (d : Row) (w : Wide) → i < length rows
     → first_wide (made_to_clear_all by k rows) ≡ first_wide (made_to_clear_all by k (drop i rows))
     → Some w ≡ first_wide (made_to_clear by k (get_or rows i d).entries) → Some w ≡ first_wide (made_to_clear_all by k rows)
 at_row by k rows i d w h e f =
     let here : Some w ≡ option_or (first_wide (made_to_clear by k (get_or rows i d).entries)) (first_wide (made_to_clear_all by k (drop (i + 1) rows))) = rw (← f) refl in
     here ∙ sym (e ∙ made_from by k rows i d h)
+
+pub stop_at_row : (by : List ℤ) (k : ℕ) (rows : List Row) (i : ℕ) (d : Row) (stop : SparseStop) → i < length rows
+    → first_wide (made_to_clear_all by k rows) ≡ first_wide (made_to_clear_all by k (drop i rows))
+    → IsStop (made_to_clear by k (get_or rows i d).entries) stop → IsStop (made_to_clear_all by k rows) stop
+stop_at_row by k xs i d (stops.Wide w) h e f = sym (at_row by k xs i d w h e (sym f))
+stop_at_row by k xs i d stops.OutOfMemory h e f = f
 
 pub past_row : (by : List ℤ) (k : ℕ) (rows : List Row) (i : ℕ) (d : Row) → i < length rows
     → first_wide (made_to_clear_all by k rows) ≡ first_wide (made_to_clear_all by k (drop i rows))

@@ -8,6 +8,7 @@ pub mod Standing
 pub mod Finds
 pub mod Orders
 pub mod Leaving
+pub mod FirstColumns
 pub mod Bests
 pub mod Starts
 pub mod ReachedRows
@@ -23,3 +24,6 @@ pub mod Joins
 pub mod Placings
 pub mod Endings
 pub mod Stagings
+pub mod Scattering
+pub mod StartEntries
+pub mod Costs

@@ -1,5 +1,5 @@
 -- The rows after a pivot, by the calls that make them.
-use Rattle.std.proofs.Common.{◌≡◌, ℕ, zero, suc, ◌+◌, ◌-◌, ◌<◌, not, cond, ◌==◌, List, [], ◌∷◌, ◌++◌, map, filter, take, drop, length, get_or, ℤ, Option, Some, None, refl, sym, ap, ◌∙◌, arith}
+use Rattle.std.proofs.Common.{◌≡◌, ℕ, zero, suc, ◌+◌, ◌-◌, ◌<◌, not, cond, ◌==◌, List, [], ◌∷◌, ◌++◌, map, filter, take, drop, length, get_or, ℤ, None, Err, refl, sym, ap, ◌∙◌, arith}
 use Rattle.std.specs.List.{All, range_with_len, insert, remove, flat_map}
 use Rattle.std.specs.Option.{option_or}
 use Rattle.std.proofs.lemmas.List.{get_or_read}
@@ -10,9 +10,13 @@ use Rattle.lk_model.specs.Linear.Rows.{Row, TableauRows, row_at, r_of, right_col
 use Rattle.lk_model.specs.Linear.Pivot.{in_first_phase, turned, cleared, made_to_clear, row_after, pivoted, made_in_pivot}
 use Rattle.lk_model.specs.declared.wide.Wide.{Wide}
 use Rattle.exact_rows.proofs.Wides.{first_wide-append}
+use Rattle.exact_rows.specs.Sparse.{IsStop}
+use Rattle.exact_rows.specs.declared.sparse.SparseStop.{SparseStop}
+use Rattle.exact_rows.specs.declared.sparse.SparseStop.TheVariants as stops
 use Rattle.exact_pivot.specs.Reached.{IsPivot}
 use Rattle.exact_pivot.specs.Shape.{IsTableau}
-use Rattle.exact_pivot.specs.Moves.{cleared_row, made_to_clear_all, turned_on}
+use Rattle.exact_pivot.specs.Moves.{Gives, cleared_row, made_to_clear_all, turned_on}
+use Rattle.exact_pivot.specs.Stops.{stop_of}
 use Rattle.exact_pivot.proofs.Clearing.{turned_width}
 use Rattle.exact_pivot.proofs.Pivots.{map_apart, made_apart}
 
@@ -76,12 +80,22 @@ module _ (t : TableauRows) (i k : ℕ) (shape : IsTableau t) (p : IsPivot t i k)
   pub by_is : (row after : Row) (by : List ℤ) → row ≡ get_or t.rows (i - 1) row → after ≡ turned_on k row → by ≡ after.entries → by ≡ turned t i k
   by_is row after by e f g = g ∙ ap (λ (x : Row). x.entries) (f ∙ turned_is row e)
 
-  pub first_is_wide : (w : Wide) → Some w ≡ first_wide (made_to_clear_all (turned t i k) k (remove t.rows (i - 1))) → first_wide (made_in_pivot t i k) ≡ Some w
-  first_is_wide w e = made_is ∙ ap (λ o. option_or o (first_wide (cond (in_first_phase t) (made_to_clear (turned t i k) k t.cost) []))) (sym e)
+  abbrev others : List Wide
+  others = made_to_clear_all (turned t i k) k (remove t.rows (i - 1))
 
-  pub second_is : (o : Option Wide) → None ≡ first_wide (made_to_clear_all (turned t i k) k (remove t.rows (i - 1)))
-      → o ≡ first_wide (cond (in_first_phase t) (made_to_clear (turned t i k) k t.cost) []) → first_wide (made_in_pivot t i k) ≡ o
-  second_is o e f = made_is ∙ ap (λ x. option_or x (first_wide (cond (in_first_phase t) (made_to_clear (turned t i k) k t.cost) []))) (sym e) ∙ sym f
+  abbrev last : List Wide
+  last = cond (in_first_phase t) (made_to_clear (turned t i k) k t.cost) []
+
+  pub first_stops : (x : TableauRows) (stop : SparseStop) → IsStop others stop → Gives (made_in_pivot t i k) x (Err (stop_of stop))
+  first_stops x (stops.Wide w) h = made_is ∙ ap (λ o. option_or o (first_wide last)) h
+  first_stops x stops.OutOfMemory h = h
+
+  pub second_is : first_wide others ≡ None → first_wide (made_in_pivot t i k) ≡ first_wide last
+  second_is e = made_is ∙ ap (λ o. option_or o (first_wide last)) e
+
+  pub second_stops : (x : TableauRows) (stop : SparseStop) → first_wide others ≡ None → IsStop last stop → Gives (made_in_pivot t i k) x (Err (stop_of stop))
+  second_stops x (stops.Wide w) e h = second_is e ∙ h
+  second_stops x stops.OutOfMemory e h = h
 
   pub pivoted_is : (rows : List Row) (cost : List ℤ) → rows ≡ insert (map (cleared_row (turned t i k) k) (remove t.rows (i - 1))) (i - 1) (record { entries = turned t i k; basic = k })
       → cost ≡ cond (in_first_phase t) (cleared (turned t i k) k t.cost) t.cost → record t { rows = rows; cost = cost } ≡ pivoted t i k

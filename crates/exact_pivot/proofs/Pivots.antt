@@ -4,7 +4,7 @@ use Rattle.std.specs.List.{range_with_len, insert, remove, flat_map, filter}
 use Rattle.std.proofs.lemmas.Bool.{ne_eqb}
 
 -- what a function gives along a range, by what another gives
-map_range : {X : Type 0} (f g : ℕ → X) (a n : ℕ) → ((j : ℕ) → a ≤ j → j < a + n → f j ≡ g j) → map f (range_with_len a n) ≡ map g (range_with_len a n)
+pub map_range : {X : Type 0} (f g : ℕ → X) (a n : ℕ) → ((j : ℕ) → a ≤ j → j < a + n → f j ≡ g j) → map f (range_with_len a n) ≡ map g (range_with_len a n)
 map_range f g a zero e = refl
 map_range f g a (suc n) e = λ i. e a (omega arith) (omega arith) i ∷ map_range f g (a + 1) n (λ j h k. e j (omega arith) (omega arith)) i
 

@@ -1,7 +1,6 @@
 -- Positions that rise, and sums over them.
-use Rattle.std.proofs.Common.{◌≡◌, ℕ, zero, suc, ◌+◌, ◌<◌, ◌≤◌, Bool, true, false, ◌&&◌, nat_lt, nat_le, List, [], ◌∷◌, map, drop, length, get_or, ℤ, pos, ◌+ℤ◌, ◌-ℤ◌, refl, ap, arith, drop-cons}
+use Rattle.std.proofs.Common.{◌≡◌, ℕ, zero, suc, ◌+◌, ◌<◌, ◌≤◌, Bool, true, false, ◌&&◌, nat_lt, nat_le, List, [], ◌∷◌, map, drop, length, get_or, ℤ, ◌+ℤ◌, ◌-ℤ◌, refl, ap, arith, drop-cons}
 use Rattle.std.proofs.lemmas.Bool.{leb-true, ltb-true}
-use Rattle.std.proofs.lemmas.List.{drop_all}
 use Rattle.std.proofs.lemmas.Int.{ints}
 use Rattle.lk_model.specs.Lists.{rises_within, sum_of}
 
@@ -32,8 +31,3 @@ less_step f ns i d x y z all h g k e =
     let step : i + 1 ≡ suc i = omega arith in
     let rest : sum_of (map f (drop i ns)) ≡ f (get_or ns i d) +ℤ sum_of (map f (drop (suc i) ns)) = ap (λ ms. sum_of (map f ms)) (drop-cons ns i d h) in
     rw step (omega (arith, ints, e, rest, g, k))
-
-pub less_end : {X : Type 0} (f : X → ℤ) (ns : List X) (i : ℕ) (x all : ℤ) → length ns ≤ i → x -ℤ sum_of (map f (drop i ns)) ≡ all → x ≡ all
-less_end f ns i x all h e =
-    let rest : sum_of (map f (drop i ns)) ≡ pos 0 = ap (λ ms. sum_of (map f ms)) (drop_all i ns h) in
-    omega (arith, ints, e, rest)

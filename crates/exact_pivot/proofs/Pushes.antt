@@ -3,7 +3,6 @@ use Rattle.std.proofs.Common.{◌≡◌, ℕ, zero, suc, ◌+◌, ◌-◌, ◌<�
 use Rattle.std.proofs.lemmas.List.{append_assoc, get_or_past, map_more}
 use Rattle.std.proofs.lemmas.Bool.{ltb-true, ltb-false}
 use Rattle.std.specs.List.{range_with_len}
-use Rattle.lk_model.specs.Lists.{up_to}
 use Rattle.lk_model.specs.Linear.Rows.{entry}
 use Rattle.exact_pivot.specs.Small.{AreSmall}
 
@@ -12,22 +11,6 @@ pub push_step : {X Y : Type 0} (f : X → Y) (xs : List X) (ys before : List Y) 
     → before ++ y ∷ [] ≡ ys ++ map f (take (i + 1) xs)
 push_step f xs ys before i y d h e g =
     (λ j. e j ++ g j ∷ []) ∙ append_assoc ys (map f (take i xs)) (f (get_or xs i d) ∷ []) ∙ ap (λ zs. ys ++ zs) (sym (map_more f xs i d h))
-
--- a list and two elements
-pub push_two : {X : Type 0} (xs : List X) (x y : X) → xs ++ x ∷ [] ++ y ∷ [] ≡ xs ++ x ∷ y ∷ []
-push_two xs x y = append_assoc xs (x ∷ []) (y ∷ [])
-
-map_range_more : {X : Type 0} (f : ℕ → X) (a n : ℕ) → map f (range_with_len a (n + 1)) ≡ map f (range_with_len a n) ++ f (a + n) ∷ []
-map_range_more f a zero = ap (λ k. f k ∷ []) (let same : a ≡ a + 0 = omega arith in same)
-map_range_more f a (suc n) =
-    let more : suc n + 1 ≡ suc (n + 1) = omega arith in
-    rw more (ap (λ ys. f a ∷ ys) (map_range_more f (a + 1) n ∙ ap (λ k. map f (range_with_len (a + 1) n) ++ f k ∷ []) (let same : a + 1 + n ≡ a + suc n = omega arith in same)))
-
--- one more of what a function gives from 1 on
-pub push_range : {X : Type 0} (f : ℕ → X) (ys before : List X) (k : ℕ) (y : X) → before ≡ ys ++ map f (up_to k) → y ≡ f (k + 1) → before ++ y ∷ [] ≡ ys ++ map f (up_to (k + 1))
-push_range f ys before k y e g =
-    (λ j. e j ++ g j ∷ []) ∙ append_assoc ys (map f (up_to k)) (f (k + 1) ∷ [])
-    ∙ ap (λ zs. ys ++ zs) (ap (λ n. map f (up_to k) ++ f n ∷ []) (let same : k + 1 ≡ 1 + k = omega arith in same) ∙ sym (map_range_more f 1 k))
 
 -- a variable with its number
 pub zip_get : (vs : List ℕ) (a i : ℕ) → i < length vs → get_or (zip (range_with_len a (length vs)) vs) i (0, 0) ≡ (a + i, get_or vs i 0)

@@ -6,3 +6,6 @@ pub mod Seen
 pub mod Small
 pub mod Placed
 pub mod Staged
+pub mod Columns
+pub mod Stops
+pub mod Scattered

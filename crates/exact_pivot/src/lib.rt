@@ -1,10 +1,11 @@
 //! The tableau of the linear run.
 #![tactic(auto)]
 
-mod dense;
 mod ends;
 mod equation;
+mod incidences;
 mod laws;
+mod numbers;
 mod stages;
 mod start;
 mod stop;

@@ -6,7 +6,7 @@
 //!
 //! Here such weights may also come from a row of the second phase, all whose balances are 0, and a formula is reduced
 //! by several stages one after another. An autarky is then given by the first of them that is not 0 on a variable.
-ghost use Rattle.std.specs.Prelude.{◌≡◌, ◌+◌, ◌<◌, ◌^◌, pos, negsuc, ◌⊎◌, length, map, IsTrue, IfOk, OnOk};
+ghost use Rattle.std.specs.Prelude.{◌≡◌, ◌+◌, ◌<◌, ◌^◌, pos, negsuc, ◌⊎◌, length, map, find, IsTrue, IfOk, OnOk};
 ghost use Rattle.std.specs.List.{All, flat_map};
 ghost use Rattle.std.specs.Result.{result_err};
 ghost use Rattle.lk_model.specs.Lists.{up_to, is_nonzero};
@@ -18,9 +18,9 @@ ghost use Rattle.exact_rows.specs.Made.{AreInRange};
 ghost use Rattle.exact_pivot.specs.Moves.{Gives};
 ghost use Rattle.exact_pivot.specs.Staged.{row_in, artificial_in, difference_at, made_in_difference, number_in, signed_number, stage_numbers, made_in_numbers, lasts, weights_with};
 
-use crate::dense::DenseRow;
 use crate::ends::signed;
 use crate::equation::Equation;
+use crate::numbers::Numbers;
 use crate::stop::PivotStop;
 use exact_rows::{difference, primitive};
 use lk_model::{List, Stage, Weight, Wide};
@@ -34,7 +34,7 @@ pub fn stage(
     vars: &[u32],
     signs: &[i128],
     rows: &[Equation],
-    cost: &DenseRow,
+    cost: &Numbers,
 ) -> Result<Stage, PivotStop>
     requires size { clause_count + length vars.now + 2 < 2 ^ 32 }
     requires signs { length signs.now ≡ length vars.now }
@@ -52,7 +52,7 @@ fn write_numbers(
     clause_count: u32,
     signs: &[i128],
     rows: &[Equation],
-    cost: &DenseRow,
+    cost: &Numbers,
 ) -> Result<(), Wide>
     requires size { clause_count + length signs.now + 2 < 2 ^ 32 }
     requires lengths { length numbers.old ≡ length signs.now }
@@ -72,7 +72,7 @@ fn write_numbers(
 }
 
 // Whether the first phase lasts, by the right side of the cost row.
-fn lasts(cost: &DenseRow, right_column: u32) -> bool
+fn lasts(cost: &Numbers, right_column: u32) -> bool
     ensures { result ≡ is_nonzero (entry cost.now right_column) }
 {
     cost.entry(right_column) != 0
@@ -82,7 +82,7 @@ fn write_differences(
     numbers: &mut [i128],
     clause_count: u32,
     signs: &[i128],
-    cost: &DenseRow,
+    cost: &Numbers,
 ) -> Result<(), Wide>
     requires size { clause_count + length signs.now + 2 < 2 ^ 32 }
     requires lengths { length numbers.old ≡ length signs.now }
@@ -146,6 +146,16 @@ pub fn entry_of(rows: &[Equation], i: u32, k: u32) -> i128
     match rows.get((i as usize).saturating_sub(1)) {
         Some(row) => row.entry(k),
         None => 0,
+    }
+}
+
+/// The first column up to the last one given in which the entry of a row is not 0.
+pub fn first_nonzero_of(rows: &[Equation], i: u32, last: u32) -> Option<u32>
+    ensures { result ≡ find (λ k. is_nonzero (entry (row_in rows.now i).entries k)) (up_to last) }
+{
+    match rows.get((i as usize).saturating_sub(1)) {
+        Some(row) => row.entries().first_nonzero(last),
+        None => None,
     }
 }
 

@@ -1,119 +1,88 @@
 //! The rows at the start.
-ghost use Rattle.std.specs.Prelude.{◌≡◌, ℕ, ◌||◌, ◌<◌, ◌≤◌, ◌+◌, ◌==◌, ◌++◌, ◌∷◌, [], cond, int_lt, negsuc, pos, ◌^◌, ◌-ℤ◌, ◌*ℤ◌, ◌≤ℤ◌, length, map, replicate, zip, IsTrue, IfOk, OnOk, unsigned_abs};
-ghost use Rattle.lk_model.specs.Lists.{rises_within, up_to};
-ghost use Rattle.lk_model.specs.Formulas.Formula.{clause_at, variables_at, variable_occurs, IsWithinLimits};
-ghost use Rattle.lk_model.specs.Formulas.Balance.{incidence};
-ghost use Rattle.lk_model.specs.Linear.Rows.{Row, lack, sign_of, start_row, start_rows, less_column};
-ghost use Rattle.exact_pivot.specs.Small.{AreSmall, cost_of};
+ghost use Rattle.std.specs.Prelude.{◌≡◌, ℕ, ◌<◌, ◌≤◌, ◌+◌, ◌-◌, ◌++◌, ◌∷◌, [], cond, int_lt, negsuc, pos, ◌^◌, ◌-ℤ◌, ◌+ℤ◌, ◌*ℤ◌, neg_ℤ, length, map, replicate, take, slice_index_or, slice_set, IsTrue, IfOk, OnOk, unsigned_abs};
 ghost use Rattle.std.specs.List.{All};
+ghost use Rattle.lk_model.specs.Lists.{rises_within, up_to, sum_of};
 ghost use Rattle.lk_model.specs.Limits.{is_in_range};
-ghost use Rattle.lk_model.specs.Formulas.Literal.{contains, is_clause, mentions};
-ghost use Rattle.lk_model.specs.Held.VariableSets.{is_in};
+ghost use Rattle.lk_model.specs.Formulas.Formula.{variables_at, IsWithinLimits};
+ghost use Rattle.lk_model.specs.Linear.Rows.{Row, entry, sign_of, start_rows, less_column};
 ghost use Rattle.exact_rows.specs.Made.{AreInRange};
+ghost use Rattle.exact_rows.specs.Sparse.{AreEntries, number_in, row_of};
+ghost use Rattle.exact_pivot.specs.Small.{AreSmall, AreSmallEntries, cost_of};
+ghost use Rattle.exact_pivot.specs.Scattered.{lack_of, sign_at, times_sign, start_entries, with_number};
 
-use crate::dense::DenseRow;
 use crate::equation::Equation;
-use lk_model::{Formula, Lit, OutOfMemory};
+use crate::incidences::incidences;
+use crate::numbers::Numbers;
+use exact_rows::{Entry, SparseRow};
+use lk_model::{Formula, OutOfMemory};
 use std::alloc::Global;
 
-// 1 where the clause holds the variable alone, -1 where it holds its complement alone, else 0.
-fn incidence(clause: &[Lit], v: u32) -> i128
-    requires { v ≤ 1000000 }
-    ensures value { result ≡ incidence clause.now v }
-    ensures most { unsigned_abs result ≤ 1 }
-{
-    let x = v as i32;
-    match (holds(clause, x), holds(clause, -x)) {
-        (true, false) => 1,
-        (false, true) => -1,
-        _ => 0,
-    }
-}
-
-fn holds(clause: &[Lit], x: i32) -> bool
-    ensures { result ≡ contains clause.now x }
-{
-    clause.iter().any(|l| x == l.get())
-}
-
-// What the incidences of the variable lack to 0.
-fn lack(f: &Formula, kept: &[u32], v: u32) -> i128
-    requires kept { IsTrue (rises_within 0 (length f.now.clauses) kept.now) }
-    requires v { v ≤ 1000000 }
-    ensures value { result ≡ lack f.now kept.now v }
-    ensures most { unsigned_abs result ≤ length kept.now }
-{
-    let mut lack = 0;
-    for p in kept {
-        lack = less(lack, incidence(f.clause(*p), v));
-    }
-    lack
-}
-
-/// The sign that makes what a variable lacks at least 0, for each variable.
-pub fn start_signs(
-    alloc: Global,
-    f: &Formula,
-    kept: &[u32],
-    vars: &[u32],
-) -> Result<Vec<i128>, OutOfMemory>
-    requires kept { IsTrue (rises_within 0 (length f.now.clauses) kept.now) }
-    requires vars { All (λ v. v ≤ 1000000) vars.now }
-    ensures { IfOk result (λ signs. signs.items ≡ map (sign_of f.now kept.now) vars.now) }
-{
-    let mut signs = Vec::with_capacity(alloc, vars.len())?;
-    for v in vars {
-        signs.push(sign_for(lack(f, kept, *v)))?;
-    }
-    Ok(signs)
-}
-
-/// The rows of the variables.
+/// The rows of the variables, and the sign of each: it makes what the variable lacks at least 0.
 pub fn start_rows(
     alloc: Global,
     f: &Formula,
     kept: &[u32],
     vars: &[u32],
-) -> Result<Vec<Equation>, OutOfMemory>
+) -> Result<(Vec<i128>, Vec<Equation>), OutOfMemory>
     requires kept { IsTrue (rises_within 0 (length f.now.clauses) kept.now) }
     requires vars { vars.now ≡ variables_at f.now kept.now }
-    requires range { All (λ v. v ≤ 1000000) vars.now }
-    requires size { length kept.now + length vars.now + 2 < 2 ^ 32 }
-    ensures { IfOk result (λ rows. rows.items ≡ start_rows f.now kept.now) }
+    requires limits { IsWithinLimits f.now }
+    ensures signs { IfOk result (λ p. p.0.items ≡ map (sign_of f.now kept.now) vars.now) }
+    ensures rows { IfOk result (λ p. p.1.items ≡ start_rows f.now kept.now) }
 {
+    let incidences = incidences(alloc, f, kept)?;
+    let mut signs = Vec::with_capacity(alloc, vars.len())?;
     let mut rows = Vec::with_capacity(alloc, vars.len())?;
+    let right = kept.len() + vars.len() + 2;
     for (j, v) in vars.iter().enumerate() {
-        let basic = (kept.len() + j + 1) as u32;
-        rows.push(Equation::of(start_entries(alloc, f, kept, vars, *v)?, basic))?;
+        let entries = incidences[*v as usize].as_slice();
+        let basic = kept.len() + j + 1;
+        let numbers = start_numbers(alloc, entries, basic, right)?;
+        signs.push(sign_for(lack(entries)))?;
+        rows.push(Equation::of(numbers, basic as u32))?;
     }
-    Ok(rows)
+    Ok((signs, rows))
 }
 
-fn start_entries(
+// The row of a variable with these entries in the columns of the clauses.
+fn start_numbers(
     alloc: Global,
-    f: &Formula,
-    kept: &[u32],
-    vars: &[u32],
-    v: u32,
-) -> Result<DenseRow, OutOfMemory>
-    requires kept { IsTrue (rises_within 0 (length f.now.clauses) kept.now) }
-    requires vars { vars.now ≡ variables_at f.now kept.now }
-    requires v { v ≤ 1000000 }
-    ensures { IfOk result (λ row. row ≡ (start_row f.now kept.now (1, v)).entries) }
+    entries: &[Entry],
+    artificial: usize,
+    right: usize,
+) -> Result<Numbers, OutOfMemory>
+    requires small { AreSmallEntries entries.now }
+    requires fit { AreEntries right (start_entries entries.now artificial right) }
+    ensures { IfOk result (λ numbers. numbers ≡ row_of right (start_entries entries.now artificial right)) }
 {
-    let lack = lack(f, kept, v);
+    let lack = lack(entries);
     let sign = sign_for(lack);
-    let mut entries = Vec::with_capacity(alloc, kept.len() + vars.len() + 2)?;
-    push_clauses(&mut entries, f, kept, v, sign)?;
-    push_units(&mut entries, vars, v)?;
-    entries.push(0)?;
-    entries.push(signed(sign, lack))?;
-    Ok(DenseRow::of(entries))
+    let mut row = Vec::with_capacity(alloc, entries.len() + 2)?;
+    push_times(&mut row, entries, sign)?;
+    row.push(Entry {
+        column: artificial,
+        value: 1,
+    })?;
+    push_number(&mut row, right, signed(sign, lack))?;
+    Ok(Numbers::of(SparseRow::with_entries(right, row)))
+}
+
+// What entries lack to 0.
+fn lack(entries: &[Entry]) -> i128
+    requires { AreSmallEntries entries.now }
+    ensures value { result ≡ lack_of entries.now }
+    ensures most { unsigned_abs result ≤ length entries.now }
+{
+    let mut lack = 0;
+    for e in entries {
+        lack = less(lack, e.value);
+    }
+    lack
 }
 
 // -1 for a number below 0, else 1.
 fn sign_for(lack: i128) -> i128
-    ensures value { result ≡ cond (int_lt lack (pos 0)) (negsuc 0) (pos 1) }
+    ensures value { result ≡ sign_at lack }
     ensures unit { unsigned_abs result ≡ 1 }
 {
     if lack < 0 { -1 } else { 1 }
@@ -124,98 +93,109 @@ fn signed(sign: i128, x: i128) -> i128
     requires sign { unsigned_abs sign ≡ 1 }
     requires x { unsigned_abs x < 2 ^ 100 }
     ensures value { result ≡ sign *ℤ x }
-    ensures most { unsigned_abs result ≤ unsigned_abs x }
     ensures range { IsTrue (is_in_range result) }
 {
     if sign < 0 { -x } else { x }
 }
 
-// Appends the entries of the clauses.
-fn push_clauses(
-    entries: &mut Vec<i128>,
-    f: &Formula,
-    kept: &[u32],
-    v: u32,
-    sign: i128,
-) -> Result<(), OutOfMemory>
-    requires kept { IsTrue (rises_within 0 (length f.now.clauses) kept.now) }
-    requires v { v ≤ 1000000 }
+// Appends entries times a sign.
+fn push_times(row: &mut Vec<Entry>, entries: &[Entry], sign: i128) -> Result<(), OutOfMemory>
+    requires small { AreSmallEntries entries.now }
     requires sign { unsigned_abs sign ≡ 1 }
-    requires range { AreInRange entries.old.items }
-    ensures value { OnOk result (entries.new.items ≡ entries.old.items ++ map (λ p. sign *ℤ incidence (clause_at f.now p) v) kept.now) }
-    ensures range { AreInRange entries.new.items }
+    ensures { OnOk result (row.new.items ≡ row.old.items ++ map (times_sign sign) entries.now) }
 {
-    for p in kept {
-        entries.push(signed(sign, incidence(f.clause(*p), v)))?;
+    for e in entries {
+        row.push(Entry {
+            column: e.column,
+            value: signed(sign, e.value),
+        })?;
     }
     Ok(())
 }
 
-// Appends 1 at the variable, and 0 at each other.
-fn push_units(entries: &mut Vec<i128>, vars: &[u32], v: u32) -> Result<(), OutOfMemory>
-    requires range { AreInRange entries.old.items }
-    ensures value { OnOk result (entries.new.items ≡ entries.old.items ++ map (λ w. cond (w == v) (pos 1) (pos 0)) vars.now) }
-    ensures range { AreInRange entries.new.items }
+// Appends a number in a column behind all entries, where it is not 0.
+fn push_number(row: &mut Vec<Entry>, column: usize, value: i128) -> Result<(), OutOfMemory>
+    ensures { OnOk result (row.new.items ≡ with_number row.old.items column value) }
 {
-    for w in vars {
-        entries.push(if *w == v { 1 } else { 0 })?;
+    if value != 0 {
+        row.push(Entry { column, value })?;
     }
     Ok(())
 }
 
 /// The cost row, for so many clauses.
-pub fn start_cost(alloc: Global, m: u32, rows: &[Equation]) -> Result<DenseRow, OutOfMemory>
+pub fn start_cost(alloc: Global, m: u32, rows: &[Equation]) -> Result<Numbers, OutOfMemory>
     requires size { m + length rows.now + 2 < 2 ^ 32 }
+    requires widths { All (λ (row : Row). length row.entries ≡ m + length rows.now + 2) rows.now }
     requires small { All (λ (row : Row). AreSmall row.entries) rows.now }
     ensures { IfOk result (λ cost. cost ≡ cost_of m rows.now) }
 {
-    let r = rows.len() as u32;
-    let mut cost = Vec::with_capacity(alloc, (m + r + 2) as usize)?;
-    push_columns(&mut cost, m, rows)?;
-    push_none(&mut cost, r)?;
-    cost.push(1)?;
-    cost.push(less_column(rows, m + r + 2))?;
-    Ok(DenseRow::of(cost))
+    let mut sums = vec![in alloc; 0; m as usize + rows.len() + 2]?;
+    subtract_rows(&mut sums, rows);
+    let cost = cost_numbers(alloc, m as usize, rows.len(), &sums)?;
+    let row = SparseRow::of(alloc, &cost)?;
+    Ok(Numbers::of(row))
 }
 
-// Appends less the sum of each column of a clause.
-fn push_columns(cost: &mut Vec<i128>, m: u32, rows: &[Equation]) -> Result<(), OutOfMemory>
-    requires size { m + length rows.now + 2 < 2 ^ 32 }
-    requires small { All (λ (row : Row). AreSmall row.entries) rows.now }
-    requires range { AreInRange cost.old.items }
-    ensures value { OnOk result (cost.new.items ≡ cost.old.items ++ map (less_column rows.now) (up_to m)) }
-    ensures range { AreInRange cost.new.items }
+// The numbers of the cost row, for so many clauses and variables: those of the clauses and that on the right side.
+fn cost_numbers(alloc: Global, m: usize, r: usize, sums: &[i128]) -> Result<Vec<i128>, OutOfMemory>
+    requires { length sums.now ≡ m + r + 2 }
+    ensures { IfOk result (λ cost. cost.items ≡ take m sums.now ++ replicate r (pos 0) ++ pos 1 ∷ slice_index_or sums.now (m + r + 1) (pos 0) ∷ []) }
 {
-    for k in 0..m {
-        cost.push(less_column(rows, k + 1))?;
+    let mut cost = Vec::with_capacity(alloc, sums.len())?;
+    cost.extend_from_slice(&sums[..m])?;
+    push_none(&mut cost, r)?;
+    cost.push(1)?;
+    cost.push(sums[m + r + 1])?;
+    Ok(cost)
+}
+
+// Subtracts all rows from a row of zeros.
+fn subtract_rows(sums: &mut [i128], rows: &[Equation])
+    requires none { sums.old ≡ replicate (length sums.old) (pos 0) }
+    requires count { length rows.now < 2 ^ 32 }
+    requires widths { All (λ (row : Row). length row.entries ≡ length sums.old) rows.now }
+    requires small { All (λ (row : Row). AreSmall row.entries) rows.now }
+    ensures { sums.new ≡ map (less_column rows.now) (up_to (length sums.old)) }
+{
+    for row in rows {
+        subtract(sums, row.entries());
     }
-    Ok(())
+}
+
+// Subtracts a row, in the time of its entries that are not 0.
+fn subtract(sums: &mut [i128], row: &Numbers)
+    requires width { length row.now ≡ length sums.old }
+    requires small { AreSmall row.now }
+    requires far { All (λ x. unsigned_abs x < 2 ^ 99) sums.old }
+    ensures { sums.new ≡ map (λ k. entry sums.old k -ℤ entry row.now k) (up_to (length sums.old)) }
+{
+    let entries = row.entries();
+    for e in entries {
+        subtract_at(sums, e.column, e.value);
+    }
+}
+
+// Subtracts a number in a column.
+fn subtract_at(sums: &mut [i128], column: usize, x: i128)
+    requires first { 0 < column }
+    requires last { column ≤ length sums.old }
+    requires far { unsigned_abs (entry sums.old column) < 2 ^ 99 }
+    requires x { unsigned_abs x < 2 ^ 99 }
+    ensures { sums.new ≡ slice_set sums.old (column - 1) (entry sums.old column -ℤ x) }
+{
+    let k = column - 1;
+    sums[k] = less(sums[k], x);
 }
 
 // Appends so many times 0.
-fn push_none(cost: &mut Vec<i128>, r: u32) -> Result<(), OutOfMemory>
-    requires range { AreInRange cost.old.items }
-    ensures value { OnOk result (cost.new.items ≡ cost.old.items ++ replicate r (pos 0)) }
-    ensures range { AreInRange cost.new.items }
+fn push_none(cost: &mut Vec<i128>, r: usize) -> Result<(), OutOfMemory>
+    ensures { OnOk result (cost.new.items ≡ cost.old.items ++ replicate r (pos 0)) }
 {
     for k in 0..r {
         cost.push(0)?;
     }
     Ok(())
-}
-
-// Less the sum of a column over the rows.
-fn less_column(rows: &[Equation], k: u32) -> i128
-    requires size { length rows.now < 2 ^ 32 }
-    requires small { All (λ (row : Row). AreSmall row.entries) rows.now }
-    ensures value { result ≡ less_column rows.now k }
-    ensures range { IsTrue (is_in_range result) }
-{
-    let mut total = 0;
-    for row in rows {
-        total = less(total, row.entry(k));
-    }
-    total
 }
 
 // The difference of numbers that are far from the limits.

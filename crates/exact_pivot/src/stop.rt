@@ -1,4 +1,5 @@
 //! What comes next, and why a call stops.
+use exact_rows::SparseStop;
 use lk_model::Wide;
 use std::alloc::{AllocError, AllocFailed};
 
@@ -30,6 +31,20 @@ impl From<Wide> for PivotStop {
 
     fn from(w: Wide) -> PivotStop {
         PivotStop::Wide(w)
+    }
+}
+
+impl From<SparseStop> for PivotStop {
+    ghost use Rattle.std.specs.Prelude.{◌≡◌};
+    ghost use Rattle.exact_pivot.specs.Stops.{stop_of};
+
+    ghost from_gives = { λ stop e. e ≡ stop_of stop };
+
+    fn from(stop: SparseStop) -> PivotStop {
+        match stop {
+            SparseStop::Wide(w) => PivotStop::Wide(w),
+            SparseStop::OutOfMemory => PivotStop::OutOfMemory,
+        }
     }
 }
 

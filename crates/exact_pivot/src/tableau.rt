@@ -17,11 +17,11 @@ ghost use Rattle.exact_pivot.specs.Moves.{move_of, Gives};
 ghost use Rattle.exact_pivot.specs.Shape.{IsTableau};
 ghost use Rattle.exact_pivot.specs.Best.{IsBest, order_of_quotients};
 
-use crate::dense::DenseRow;
 use crate::ends::{duals, units};
 use crate::equation::{Equation, clear_all};
-use crate::stages::{artificial_row, basic_of, entry_of, stage};
-use crate::start::{start_cost, start_rows, start_signs};
+use crate::numbers::Numbers;
+use crate::stages::{artificial_row, basic_of, entry_of, first_nonzero_of, stage};
+use crate::start::{start_cost, start_rows};
 use crate::stop::{Next, PivotStop};
 use exact_rows::compare_ratio;
 use lk_model::{Dual, Formula, List, OutOfMemory, Stage, Unit};
@@ -39,7 +39,7 @@ pub struct Tableau {
     vars: Vec<u32>,
     signs: Vec<i128>,
     rows: Vec<Equation>,
-    cost: DenseRow,
+    cost: Numbers,
 }
 
 impl Model for Tableau {
@@ -64,8 +64,7 @@ impl Tableau {
         let mut positions = Vec::with_capacity(alloc, kept.len())?;
         positions.extend_from_slice(kept)?;
         let vars = f.occurring(alloc, kept)?.into_vec();
-        let signs = start_signs(alloc, f, kept, &vars)?;
-        let rows = start_rows(alloc, f, kept, &vars)?;
+        let (signs, rows) = start_rows(alloc, f, kept, &vars)?;
         let cost = start_cost(alloc, kept.len() as u32, &rows)?;
         Ok(Tableau {
             alloc,
@@ -145,7 +144,8 @@ impl Tableau {
     fn entering(&self) -> Option<u32>
         ensures { result ≡ entering self.now }
     {
-        (1..self.clause_count() + self.row_count() + 1).find(|k| self.cost.entry(*k) < 0)
+        self.cost
+            .first_negative(self.clause_count() + self.row_count())
     }
 
     fn may_leave(&self, col: u32, i: u32) -> bool
@@ -238,7 +238,7 @@ impl Tableau {
     fn replacing(&self, i: u32) -> Option<u32>
         ensures { result ≡ replacing self.now i }
     {
-        (1..self.clause_count() + 1).find(|k| self.entry(i, *k) != 0)
+        first_nonzero_of(&self.rows, i, self.clause_count())
     }
 
     /// The rows after the pivot that comes next. After an error there are none.
@@ -251,8 +251,8 @@ impl Tableau {
         let mut cost = self.cost;
         let mut by = rows.remove(row as usize - 1);
         by.enter(col);
-        clear_all(&mut rows, by.entries(), col)?;
-        cost.clear_if(first_phase, by.entries(), col)?;
+        clear_all(self.alloc, &mut rows, by.entries(), col)?;
+        cost.clear_if(first_phase, self.alloc, by.entries(), col)?;
         rows.insert(row as usize - 1, by)?;
         Ok(Tableau {
             alloc: self.alloc,

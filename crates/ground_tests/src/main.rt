@@ -7,6 +7,7 @@ mod assignments;
 mod cuts;
 mod model;
 mod numbers;
+mod occurrences;
 mod parts;
 mod positions;
 mod shelves;
@@ -45,6 +46,7 @@ fn put_model(alloc: Global, word: &str, parts: Parts, out: &mut String) -> Resul
         "set" => model::put_set(alloc, parts, out),
         "at" => positions::put_at(alloc, parts, out),
         "listed" => positions::put_listed(alloc, parts, out),
+        "occurs" => occurrences::put_occurrences(alloc, parts, out),
         _ => put_outside(alloc, word, parts, out),
     }
 }

@@ -5,7 +5,7 @@ use Rattle.std.proofs.lemmas.List.Folds.{list_all-append}
 use Rattle.std.specs.Option.{option_map_or}
 use Rattle.std.proofs.lemmas.Bool.{cases_Bool, not-true, leb-true, leb-false, le-leb, lt-ltb}
 use Rattle.std.proofs.lemmas.List.{get_or-take, get_or_default, length-take, take-append-drop}
-use Rattle.lk_model.specs.Lists.{is_empty, rises_within, up_to}
+use Rattle.lk_model.specs.Lists.{is_empty, among, rises_within, up_to}
 use Rattle.lk_model.specs.Formulas.Literal.{variable, contains, complement, is_literal, is_tautology, is_within}
 use Rattle.lk_model.specs.Formulas.Formula.{Cnf, clause_at, positions_of, is_formula}
 use Rattle.lk_model.specs.Formulas.Crossed.{Variables, crossed_out}
@@ -24,7 +24,7 @@ use Rattle.lean_checker.specs.declared.chains.RoundAt.{RoundAt}
 use Rattle.lean_checker.specs.declared.learned.Known.{Known}
 use Rattle.lean_checker.specs.declared.steps.Rounds.{Rounds}
 use Rattle.lean_checker.specs.Blocking.{is_before}
-use Rattle.lean_checker.specs.Chains.{step_numbered, step_behind, is_unlearned}
+use Rattle.lean_checker.specs.Chains.{IsRoundAt, step_numbered, step_behind, is_unlearned}
 use Rattle.lean_checker.specs.Index.{list_of, IsFound, AreClausesFound, AreStepsFound, AreRoundsFound}
 use Rattle.lean_checker.specs.Learned.{AreKnown, IsKnown, are_open_but_last, is_clause_within, is_step_within}
 use Rattle.lean_checker.specs.LiteralSets.{IsSetOf, has_literal}
@@ -138,36 +138,55 @@ front_form n i steps all =
     (and_true (list_all (is_step n) (take i steps)) (list_all (is_step n) (drop i steps))
     (sym (list_all-append (is_step n) (take i steps) (drop i steps)) ∙ ap (list_all (is_step n)) (take-append-drop i steps) ∙ all)).0
 
+-- an earlier step whose clause stands within the flags is one that the clause contains
+step_held : (over : RoundAt) (i : ℕ) (c : List ℤ) (flags : List Bool) (k : ℕ) (s : Step) → IsRoundAt over → IsSetOf over.formula.now.vars c flags → step_numbered over i k ≡ Some s
+    → list_all (has_literal flags) s.clause ≡ true → list_any (λ (t : Step). is_within t.clause c) (take i over.steps.now) ≡ true
+step_held over i c flags k s round set is up =
+    found_any (λ (t : Step). t.number == k) (λ (t : Step). is_within t.clause c) (take i over.steps.now) s is
+    (sym (all_told over.formula.now.vars c s.clause flags set (step_literals over.formula.now.vars s
+    (found_passes (is_step over.formula.now.vars) (λ (t : Step). t.number == k) (take i over.steps.now) s (front_form over.formula.now.vars i over.steps.now round.steps.form) is)))
+    ∙ up)
+
+-- a step that the clause contains is found under a literal of its clause in whose list it stands
+step_under : (over : RoundAt) (known : Known) (i j : ℕ) (c : List ℤ) (flags : List Bool) (s : Step) (l : ℤ) → IsRoundAt over → i < length over.steps.now → IsSetOf over.formula.now.vars c flags → j < i
+    → s ≡ get_or over.steps.now j s → is_within s.clause c ≡ true → contains s.clause l ≡ true → among (list_of known.steps l) s.number ≡ true
+    → list_any (λ k. list_any (is_step_within over i flags) (list_of known.steps k)) c ≡ true
+step_under over known i j c flags s l round inside set low is within there listed =
+    let form : is_step over.formula.now.vars s ≡ true = step_form over j s round (omega (arith, low, inside)) is in
+    let up : list_all (has_literal flags) s.clause ≡ true = all_told over.formula.now.vars c s.clause flags set (step_literals over.formula.now.vars s form) ∙ within in
+    passes_one (λ k. list_any (is_step_within over i flags) (list_of known.steps k)) c l (passes_each (contains c) s.clause l within there)
+    (passes_among (is_step_within over i flags) (list_of known.steps l) s.number listed
+    (ap (λ (o : Option Step). option_map_or (λ (u : Step). list_all (has_literal flags) u.clause) o false) (number_found over i j s round inside low is) ∙ up))
+
+-- and it stands in the list of one, since nothing is crossed out before the first round
+step_listed : (over : RoundAt) (known : Known) (i j : ℕ) (c : List ℤ) (flags : List Bool) (s : Step) → IsKnown over known → i < length over.steps.now → IsSetOf over.formula.now.vars c flags → j < i
+    → s ≡ get_or over.steps.now j s → is_within s.clause c ≡ true
+    → (l : ℤ) × (contains (crossed_out (is_before 0 over.blocked_at.now) s.clause) l ≡ true) × (among (list_of known.steps l) s.number ≡ true)
+    → list_any (λ k. list_any (is_step_within over i flags) (list_of known.steps k)) c ≡ true
+step_listed over known i j c flags s h inside set low is within (l, there, listed) =
+    step_under over known i j c flags s l h.round inside set low is within (ap (λ (d : List ℤ). contains d l) (sym (crossed_none over.blocked_at.now s.clause)) ∙ there) listed
+
+step_contained : (over : RoundAt) (known : Known) (i j : ℕ) (c : List ℤ) (flags : List Bool) (s : Step) → IsKnown over known → i < length over.steps.now → IsSetOf over.formula.now.vars c flags → j < i
+    → s ≡ get_or over.steps.now j s → is_within s.clause c ≡ true → list_any (λ k. list_any (is_step_within over i flags) (list_of known.steps k)) c ≡ true
+step_contained over known i j c flags s h inside set low is within =
+    let some : is_empty s.clause ≡ false = open_at over.steps.now j s h.steps_open (omega (arith, low, inside)) is in
+    let there : IsFound over.blocked_at.now known.steps s.clause s.number =
+    subst (λ (u : Step). IsFound over.blocked_at.now known.steps u.clause u.number) (sym is) (h.steps j s (omega (arith, low, inside))) in
+    step_listed over known i j c flags s h inside set low is within (there 0 (ap is_empty (crossed_none over.blocked_at.now s.clause) ∙ some))
+
 pub steps_found : (over : RoundAt) (known : Known) (i : ℕ) (c : List ℤ) (flags : List Bool) → IsKnown over known → i < length over.steps.now → IsSetOf over.formula.now.vars c flags
     → list_any (λ l. list_any (is_step_within over i flags) (list_of known.steps l)) c ≡ list_any (λ (s : Step). is_within s.clause c) (take i over.steps.now)
 steps_found over known i c flags h inside set =
-    let n = over.formula.now.vars in
-    let steps : List Step = over.steps.now in
-    let blocks : List ℕ = over.blocked_at.now in
-    let holds : Step → Bool = λ s. is_within s.clause c in
-    same_tests (list_any (λ l. list_any (is_step_within over i flags) (list_of known.steps l)) c) (list_any holds (take i steps))
+    same_tests (list_any (λ l. list_any (is_step_within over i flags) (list_of known.steps l)) c) (list_any (λ (s : Step). is_within s.clause c) (take i over.steps.now))
     (λ e.
     let one = literal_passing (λ l. list_any (is_step_within over i flags) (list_of known.steps l)) c e in
     let at = passing (is_step_within over i flags) (list_of known.steps one.0) one.2 in
     let found = within_found flags (step_numbered over i at.0) at.2 in
-    let form = found_passes (is_step n) (λ (s : Step). s.number == at.0) (take i steps) found.0 (front_form n i steps h.round.steps.form) found.1 in
-    found_any (λ (s : Step). s.number == at.0) holds (take i steps) found.0 found.1 (sym (all_told n c found.0.clause flags set (step_literals n found.0 form)) ∙ found.2))
+    step_held over i c flags at.0 found.0 h.round set found.1 found.2)
     (λ e.
-    let at = any_place holds (take i steps) e in
-    let j = at.0 in
-    let s = at.1 in
-    let low : j < i = omega (arith, at.2, length-take i steps) in
-    let is : s ≡ get_or steps j s = at.3 ∙ get_or-take i steps j s low in
-    let some : is_empty s.clause ≡ false = open_at steps j s h.steps_open (omega (arith, low, inside)) is in
-    let there : IsFound blocks known.steps s.clause s.number =
-    subst (λ (u : Step). IsFound blocks known.steps u.clause u.number) (sym is) (h.steps j s (omega (arith, low, inside))) in
-    let found = there 0 (ap is_empty (crossed_none blocks s.clause) ∙ some) in
-    let holds_it : contains s.clause found.0 ≡ true = ap (λ (d : List ℤ). contains d found.0) (sym (crossed_none blocks s.clause)) ∙ found.1 in
-    let form = step_form over j s h.round (omega (arith, low, inside)) is in
-    let within : list_all (has_literal flags) s.clause ≡ true = all_told n c s.clause flags set (step_literals n s form) ∙ at.4 in
-    passes_one (λ l. list_any (is_step_within over i flags) (list_of known.steps l)) c found.0 (passes_each (contains c) s.clause found.0 at.4 holds_it)
-    (passes_among (is_step_within over i flags) (list_of known.steps found.0) s.number found.2
-    (ap (λ (o : Option Step). option_map_or (λ (u : Step). list_all (has_literal flags) u.clause) o false) (number_found over i j s h.round inside low is) ∙ within)))
+    let at = any_place (λ (s : Step). is_within s.clause c) (take i over.steps.now) e in
+    let low : at.0 < i = omega (arith, at.2, length-take i over.steps.now) in
+    step_contained over known i at.0 c flags at.1 h inside set low (at.3 ∙ get_or-take i over.steps.now at.0 at.1 low) at.4)
 
 -- ALL TOGETHER
 

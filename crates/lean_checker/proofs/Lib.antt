@@ -2,7 +2,6 @@ pub mod Sizes
 pub mod LiteralSetLemmas
 pub mod ClauseLines
 pub mod OtherFormulas
-pub mod SetValues
 pub mod KeptFlags
 pub mod OrderPlaces
 pub mod OrderBreaks

@@ -1,7 +1,7 @@
 //! The checks of every finished document, each in one pass.
-ghost use Rattle.std.specs.Prelude.{◌≡◌, ◌≤◌, ◌<◌, length, map, IfOk, IsTrue};
+ghost use Rattle.std.specs.Prelude.{◌≡◌, ◌≤◌, ◌<◌, length, IfOk, IsTrue};
 ghost use Rattle.lk_model.specs.Lists.{rises_within};
-ghost use Rattle.lk_model.specs.Formulas.Literal.{variable, is_same_list};
+ghost use Rattle.lk_model.specs.Formulas.Literal.{is_same_list};
 ghost use Rattle.lk_model.specs.Formulas.Formula.{clause_at, is_formula};
 ghost use Rattle.lk_model.specs.Formulas.Lean.{are_positions};
 ghost use Rattle.lk_model.specs.Held.PartialValues.{assignment_by};
@@ -14,7 +14,7 @@ ghost use Rattle.lean_checker.specs.Flags.{AreKeptFlags, is_flagged, is_misplace
 ghost use Rattle.lean_checker.specs.Common.{common_checks};
 
 use lk_model::{DoneDocument, Formula, Kind, Lit, OutOfMemory, Why};
-use partial_assign::Partial;
+use partial_assign::{Partial, assignment_of};
 use std::alloc::Global;
 
 /// 0 where the formula has other numbers of variables or clauses than the document says.
@@ -50,20 +50,6 @@ pub(crate) fn is_same_list(one: &[Lit], other: &[Lit]) -> bool
     ensures { result ≡ is_same_list one.now other.now }
 {
     one == other
-}
-
-/// The assignment of the variables from 1 to n that a set line gives.
-pub(crate) fn assignment_of(alloc: Global, n: u32, set: &[Lit]) -> Result<Partial, OutOfMemory>
-    requires few { n ≤ 1000000 }
-    requires rising { IsTrue (rises_within 0 n (map variable set.now)) }
-    ensures vars { IfOk result (λ values. length values ≡ n) }
-    ensures values { IfOk result (λ values. assignment_by values ≡ assignment_of set.now) }
-{
-    let mut values = Partial::new(alloc, n)?;
-    for l in set {
-        values.put(*l);
-    }
-    Ok(values)
 }
 
 /// Which of the positions from 1 to m are kept.

@@ -16,12 +16,12 @@ ghost use Rattle.lean_checker.specs.Pairs.{AreOccurring, NotesVariables};
 ghost use Rattle.lean_checker.specs.Places.{places_in};
 ghost use Rattle.lean_checker.specs.Linear.{is_bad_stage, least_stage, weights_at, AreFirsts, NotesStage, sign_of, is_bad_sign, AreDuals, is_bad_dual, signed, AreNumbers, AddsNumbers, is_unbalanced, numbers_of};
 
-use crate::common::{assignment_of, kept_flags};
+use crate::common::kept_flags;
 use crate::places::{Span, Workers};
 use exact_rows::sign_of_sum;
 use lk_model::{DoneDocument, Dual, Formula, List, Lit, OutOfMemory, Stage, VarSet, Weight};
 use par_parts::Gate;
-use partial_assign::Partial;
+use partial_assign::{Partial, assignment_of};
 use std::alloc::Global;
 use std::cmp::Ordering;
 use std::thread::Threads;

@@ -17,11 +17,11 @@ ghost use Rattle.lk_model.specs.Checks.MatchingChecks.{bad_owner, bad_row};
 ghost use Rattle.lean_checker.specs.Pairs.{AreOccurring, NotesVariables};
 ghost use Rattle.lean_checker.specs.Matching.{AreOwners, AreFirstOwners, AreRows, AreFirstRows, AreRankBounds, AreNamedThere, NotesNamed, has_own, has_escape, row_in, holds_true, is_bad_owner, is_bad_row};
 
-use crate::common::{assignment_of, kept_flags};
+use crate::common::kept_flags;
 use crate::places::Workers;
 use lk_model::{DoneDocument, Formula, Lit, MatchRow, OutOfMemory, Own, VarSet};
 use par_parts::Gate;
-use partial_assign::Partial;
+use partial_assign::{Partial, assignment_of};
 use std::alloc::Global;
 use std::thread::Threads;
 

@@ -1,8 +1,9 @@
 //! Numbers in decimal digits.
-ghost use Rattle.std.specs.Prelude.{◌≡◌, ◌++◌, ◌^◌, min, OnOk, OnErr, option_map};
+ghost use Rattle.std.specs.Prelude.{◌≡◌, ◌≤◌, ◌++◌, ◌^◌, min, not, length, OnOk, OnErr, IfSome, option_map};
 ghost use Rattle.std.specs.Fmt.{signed_decimal};
+ghost use Rattle.std.specs.Str.{bytes_eq};
 ghost use Rattle.lk_model.specs.Texts.NumberWords.{natural, number, plain_number};
-ghost use Rattle.lk_text.specs.Kinds.{kind_of, if_in_range};
+ghost use Rattle.lk_text.specs.Kinds.{kind_of, if_in_range, begins_with_zero};
 
 use itoa::Buffer;
 use lk_model::OutOfMemory;
@@ -21,6 +22,9 @@ pub enum NumberWord {
 
 /// From here on the numbers do not fit.
 const PAST: u128 = 1 << 127;
+
+/// So many digits fit 64 bits.
+const SHORT: usize = 18;
 
 /// Appends the shortest decimal spelling of a number: digits without a leading zero, behind a
 /// `-` where the number is below 0. Without memory for it nothing is appended.
@@ -55,6 +59,35 @@ pub fn classify(word: &[u8]) -> NumberWord
 pub fn read_natural(digits: &[u8]) -> Option<u128>
     ensures { result ≡ option_map (λ n. min n (2 ^ 127)) (natural digits.now) }
 {
+    if digits.len() <= SHORT {
+        Some(u128::from(read_short(digits)?))
+    } else {
+        read_long(digits)
+    }
+}
+
+/// The value of one or more digits that fit 64 bits.
+fn read_short(digits: &[u8]) -> Option<u64>
+    requires { length digits.now ≤ 18 }
+    ensures { result ≡ natural digits.now }
+{
+    if digits.is_empty() {
+        return None;
+    }
+    let mut value = 0u64;
+    for digit in digits {
+        if !digit.is_ascii_digit() {
+            return None;
+        }
+        value = value * 10 + u64::from(*digit - b'0');
+    }
+    Some(value)
+}
+
+/// The value of any number of digits, or 2^127 where it is greater.
+fn read_long(digits: &[u8]) -> Option<u128>
+    ensures { result ≡ option_map (λ n. min n (2 ^ 127)) (natural digits.now) }
+{
     if digits.is_empty() {
         return None;
     }
@@ -75,13 +108,35 @@ pub fn read_natural(digits: &[u8]) -> Option<u128>
 pub fn read_plain(word: &[u8]) -> Option<i128>
     ensures { result ≡ if_in_range (plain_number word.now) }
 {
-    let NumberWord::Is(x) = classify(word) else {
-        return None;
-    };
-    let mut buffer = Buffer::new();
-    if buffer.format(x).as_bytes() == word {
-        Some(x)
-    } else {
-        None
+    match classify(word) {
+        NumberWord::Is(x) => {
+            if has_leading_zero(word) {
+                None
+            } else {
+                Some(x)
+            }
+        }
+        _ => None,
     }
+}
+
+/// Whether a number word is not the shortest spelling of its number.
+fn has_leading_zero(word: &[u8]) -> bool
+    ensures { IfSome (if_in_range (number word.now)) (λ x. result ≡ not (bytes_eq word.now (signed_decimal x))) }
+{
+    let Some((first, rest)) = word.split_first() else {
+        return false;
+    };
+    if *first == b'-' {
+        begins_with_zero(rest)
+    } else {
+        begins_with_zero(word)
+    }
+}
+
+/// Whether a zero stands before another digit.
+fn begins_with_zero(digits: &[u8]) -> bool
+    ensures { result ≡ begins_with_zero digits.now }
+{
+    digits.len() > 1 && digits[0] == b'0'
 }

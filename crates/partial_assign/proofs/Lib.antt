@@ -1,1 +1,2 @@
 mod Extensions
+mod SetValues

@@ -3,6 +3,8 @@
 
 mod assignment;
 mod extension;
+mod literals;
 
 pub use assignment::Partial;
 pub use extension::{compose, extend_total};
+pub use literals::assignment_of;

@@ -1,6 +1,5 @@
 pub mod Selections
 pub mod ListLemmas
-pub mod HolderLemmas
 pub mod PairLemmas
 pub mod Steps
 pub mod Runs

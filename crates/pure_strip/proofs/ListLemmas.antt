@@ -3,20 +3,10 @@ use Rattle.std.proofs.Common.{◌≡◌, ℕ, ◌+◌, ◌<◌, ◌≤◌, ◌�
 use Rattle.std.specs.Prelude.{filter, find}
 use Rattle.std.specs.List.{list_any, All}
 use Rattle.std.proofs.lemmas.Bool.{cases_Bool}
-use Rattle.std.proofs.lemmas.List.{map-id, append-nil}
-use Rattle.std.proofs.lemmas.List.Elements.{filter-append}
-use Rattle.std.proofs.lemmas.List.FromFn.{map-range_with_len_more, get_or-range_with_len, length-range_with_len}
+use Rattle.std.proofs.lemmas.List.{append-nil}
+use Rattle.std.proofs.lemmas.List.FromFn.{get_or-range_with_len, length-range_with_len}
 use Rattle.lk_model.specs.Lists.{up_to}
-
--- one number more
-pub up_to-more : (n : ℕ) → up_to (n + 1) ≡ up_to n ++ (n + 1) ∷ []
-up_to-more n =
-    let e : 1 + n ≡ n + 1 = omega arith in
-    sym (map-id (up_to (n + 1))) ∙ map-range_with_len_more (λ (k : ℕ). k) 1 n (n + 1) e ∙ ap (λ (ks : List ℕ). ks ++ (n + 1) ∷ []) (map-id (up_to n))
-
--- one number more, if the test keeps it
-pub filter-up_to-more : (test : ℕ → Bool) (n : ℕ) → filter test (up_to (n + 1)) ≡ filter test (up_to n) ++ cond (test (n + 1)) ((n + 1) ∷ []) []
-filter-up_to-more test n = ap (filter test) (up_to-more n) ∙ filter-append test (up_to n) ((n + 1) ∷ [])
+use Rattle.occurrence_lists.proofs.FirstPositions.{filter-up_to-more}
 
 -- each of the numbers lies between
 pub up_to-bounds : (n : ℕ) → All (λ p. (0 < p) × (p ≤ n)) (up_to n)

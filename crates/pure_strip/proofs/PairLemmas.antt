@@ -3,12 +3,11 @@ use Rattle.std.proofs.Common.{◌≡◌, ℕ, ◌+◌, ◌<◌, ◌≤◌, ◌�
 use Rattle.std.specs.Prelude.{filter, find, neg_ℤ, nat_le}
 use Rattle.std.specs.List.{All}
 use Rattle.std.proofs.lemmas.Bool.{and_from, le-leb}
-use Rattle.std.proofs.lemmas.List.{map-append, append-nil, get_or_read}
+use Rattle.std.proofs.lemmas.List.{map-append, append-nil}
 use Rattle.std.proofs.lemmas.List.Elements.{All-filter, All-same}
 use Rattle.std.proofs.lemmas.Int.{to_z_pos}
 use Rattle.lk_model.specs.Lists.{up_to, is_between}
 use Rattle.lk_model.specs.Formulas.Literal.{complement, contains, mentions, is_literal, rank_of}
-use Rattle.lk_model.proofs.Ranks.{rank_small}
 use Rattle.lk_model.specs.Formulas.Formula.{Cnf, clause_at, positions_of, literal_occurs, variable_occurs, IsWithinLimits}
 use Rattle.lk_model.specs.Formulas.PureRun.{least_pure, least_with}
 use Rattle.lk_model.specs.declared.document.Pair.{Pair}
@@ -17,8 +16,9 @@ use Rattle.kernel_laws.proofs.Pure.PureLiterals.{both_signs}
 use Rattle.kernel_laws.proofs.Clauses.{mentions_or}
 use Rattle.kernel_laws.proofs.Tests.{any_or, any_same}
 use Rattle.pure_strip.specs.Live.{is_live}
-use Rattle.pure_strip.specs.Tables.{AreHolders}
-use Rattle.pure_strip.proofs.ListLemmas.{filter-up_to-more, up_to-bounds, find-filter, is_some-find}
+use Rattle.occurrence_lists.specs.Occurrences.{AreOccurrences}
+use Rattle.occurrence_lists.proofs.FirstPositions.{filter-up_to-more}
+use Rattle.pure_strip.proofs.ListLemmas.{up_to-bounds, find-filter, is_some-find}
 
 -- the least positions with the variable and with its complement
 abbrev pub pair_of : Cnf → List ℕ → ℕ → Pair
@@ -78,17 +78,15 @@ pub pairs-without_complement : (F : Cnf) (ps : List ℕ) (n : ℕ) → least_pur
 pairs-without_complement F ps n none lt e = pairs-same F ps n ((occurs_with F ps (n + 1) none (omega arith) (omega arith)).1 ∙ ap (λ (o : Option ℕ). is_some o) e)
 
 -- the positions at a literal's rank
-pub listed : (F : Cnf) (table : List (List ℕ)) (l : ℤ) (list : List ℕ) → AreHolders F (positions_of F) table → is_literal F.vars l ≡ true → list ≡ get_or table (rank_of l) list → list ≡ filter (λ p. contains (clause_at F p) l) (positions_of F)
-listed F table l list holders lit read =
-    let within : rank_of l < length table = omega (arith, holders.size, rank_small F.vars l lit) in
-    get_or_read table (rank_of l) list within read [] ∙ holders.held l lit
+pub listed : (F : Cnf) (table : List (List ℕ)) (l : ℤ) (list : List ℕ) → AreOccurrences F table → is_literal F.vars l ≡ true → list ≡ get_or table (rank_of l) [] → list ≡ filter (λ p. contains (clause_at F p) l) (positions_of F)
+listed F table l list holders lit read = read ∙ holders.held l lit
 
 -- they are positions, and the first live one of them is the least live position whose clause holds the literal
 pub record IsListed (F : Cnf) (live : List Bool) (l : ℤ) (list : List ℕ) : Type 0 where
   pub within : All (λ p. (0 < p) × (p ≤ length live)) list
   pub first : find (is_live live) list ≡ least_with F (filter (is_live live) (positions_of F)) l
 
-pub is_listed : (F : Cnf) (table : List (List ℕ)) (live : List Bool) (l : ℤ) (list : List ℕ) → AreHolders F (positions_of F) table → length live ≡ length F.clauses → is_literal F.vars l ≡ true → list ≡ get_or table (rank_of l) list → IsListed F live l list
+pub is_listed : (F : Cnf) (table : List (List ℕ)) (live : List Bool) (l : ℤ) (list : List ℕ) → AreOccurrences F table → length live ≡ length F.clauses → is_literal F.vars l ≡ true → list ≡ get_or table (rank_of l) [] → IsListed F live l list
 is_listed F table live l list holders size lit read =
     let P : ℕ → Type 0 = λ p. (0 < p) × (p ≤ length live) in
     let tested : ℕ → Bool = λ p. contains (clause_at F p) l in
@@ -106,20 +104,17 @@ positive_literal n v low high = and_from (nat_le 1 v) (nat_le v n) (le-leb 1 v (
 negative_literal : (n v : ℕ) → 0 < v → v ≤ n → is_literal n (neg_ℤ (pos v)) ≡ true
 negative_literal n v low high = ap (λ (k : ℕ). is_between 1 n k) (variable_negative v) ∙ positive_literal n v low high
 
--- a list that was read at a literal
-pub read_at : (table : List (List ℕ)) (l k : ℤ) (list item : List ℕ) → l ≡ k → item ≡ get_or table (rank_of l) item → list ≡ item → list ≡ get_or table (rank_of k) list
-read_at table l k list item at is same = same ∙ is ∙ ap (λ (z : ℤ). get_or table (rank_of z) item) at ∙ ap (get_or table (rank_of k)) (sym same)
-
 -- the literal that was made of a variable's number
 number_is : (F : Cnf) (n : ℕ) (l : ℤ) → IsWithinLimits F → n < F.vars → l ≡ to_z w32 (n + 1) → l ≡ pos (n + 1)
 number_is F n l limits lt is = is ∙ to_z_pos w32 (n + 1) (omega (arith, limits.vars))
 
 -- the list that was read at a variable
-pub listed-variable : (F : Cnf) (table : List (List ℕ)) (live : List Bool) (n : ℕ) (l : ℤ) (list item : List ℕ) → AreHolders F (positions_of F) table → length live ≡ length F.clauses → IsWithinLimits F → n < F.vars → l ≡ to_z w32 (n + 1) → item ≡ get_or table (rank_of l) item → list ≡ item → IsListed F live (pos (n + 1)) list
-listed-variable F table live n l list item holders size limits lt is read same =
-    is_listed F table live (pos (n + 1)) list holders size (positive_literal F.vars (n + 1) (omega arith) (omega arith)) (read_at table l (pos (n + 1)) list item (number_is F n l limits lt is) read same)
+pub listed-variable : (F : Cnf) (table : List (List ℕ)) (live : List Bool) (n : ℕ) (l : ℤ) (list : List ℕ) → AreOccurrences F table → length live ≡ length F.clauses → IsWithinLimits F → n < F.vars → l ≡ to_z w32 (n + 1) → list ≡ get_or table (rank_of l) [] → IsListed F live (pos (n + 1)) list
+listed-variable F table live n l list holders size limits lt is read =
+    is_listed F table live (pos (n + 1)) list holders size (positive_literal F.vars (n + 1) (omega arith) (omega arith)) (read ∙ ap (λ (z : ℤ). get_or table (rank_of z) []) (number_is F n l limits lt is))
 
 -- the list that was read at its complement
-pub listed-complement : (F : Cnf) (table : List (List ℕ)) (live : List Bool) (n : ℕ) (l k : ℤ) (list item : List ℕ) → AreHolders F (positions_of F) table → length live ≡ length F.clauses → IsWithinLimits F → n < F.vars → l ≡ to_z w32 (n + 1) → k ≡ complement l → item ≡ get_or table (rank_of k) item → list ≡ item → IsListed F live (neg_ℤ (pos (n + 1))) list
-listed-complement F table live n l k list item holders size limits lt is other read same =
-    is_listed F table live (neg_ℤ (pos (n + 1))) list holders size (negative_literal F.vars (n + 1) (omega arith) (omega arith)) (read_at table k (neg_ℤ (pos (n + 1))) list item (other ∙ ap complement (number_is F n l limits lt is)) read same)
+pub listed-complement : (F : Cnf) (table : List (List ℕ)) (live : List Bool) (n : ℕ) (l k : ℤ) (list : List ℕ) → AreOccurrences F table → length live ≡ length F.clauses → IsWithinLimits F → n < F.vars → l ≡ to_z w32 (n + 1) → k ≡ complement l → list ≡ get_or table (rank_of k) [] → IsListed F live (neg_ℤ (pos (n + 1))) list
+listed-complement F table live n l k list holders size limits lt is other read =
+    is_listed F table live (neg_ℤ (pos (n + 1))) list holders size (negative_literal F.vars (n + 1) (omega arith) (omega arith))
+    (read ∙ ap (λ (z : ℤ). get_or table (rank_of z) []) (other ∙ ap complement (number_is F n l limits lt is)))

@@ -11,7 +11,7 @@ use Rattle.lk_model.specs.Formulas.PureRun.{untouched}
 use Rattle.lk_model.proofs.Booleans.{and_true}
 use Rattle.lk_model.proofs.Ranks.{rank_small}
 use Rattle.kernel_laws.proofs.Pure.PureLiterals.{touches_none}
-use Rattle.pure_strip.specs.Tables.{AreHolders}
+use Rattle.occurrence_lists.specs.Occurrences.{AreOccurrences}
 use Rattle.pure_strip.specs.Counted.{Counted, count_of}
 use Rattle.pure_strip.specs.Live.{is_live, AreCounted, AreUntouched}
 use Rattle.pure_strip.proofs.Selections.{count_by-agree}
@@ -22,7 +22,7 @@ all_live : (m p : ℕ) → 1 ≤ p → p ≤ m → is_live (replicate m true) p 
 all_live m p low high = get_or-replicate m (p - 1) true false (omega (arith, low, high))
 
 -- the counts at first
-pub Counted-start : (F : Cnf) (live : List Bool) (table : List (List ℕ)) (c : Counted) → live ≡ replicate (length F.clauses) true → AreHolders F (positions_of F) table → c ≡ record { vars = F.vars; counts = map length table } → AreCounted F live c
+pub Counted-start : (F : Cnf) (live : List Bool) (table : List (List ℕ)) (c : Counted) → live ≡ replicate (length F.clauses) true → AreOccurrences F table → c ≡ record { vars = F.vars; counts = map length table } → AreCounted F live c
 Counted-start F live table c live_is holders is = record {
   size = ap length live_is ∙ length-replicate (length F.clauses) true;
   vars = ap (λ (s : Counted). s.vars) is;

@@ -14,7 +14,7 @@ use std::marker::Model;
 #[derive(Drop)]
 pub(crate) struct Counts {
     vars: u32,
-    counts: LitTable<usize>,
+    counts: LitTable<u32>,
     lone: BTreeSet<u32>,
 }
 
@@ -30,7 +30,7 @@ impl Model for Counts {
 
 impl Counts {
     /// These numbers, with the set.
-    pub fn new(alloc: Global, vars: u32, counts: LitTable<usize>) -> Result<Counts, OutOfMemory>
+    pub fn new(alloc: Global, vars: u32, counts: LitTable<u32>) -> Result<Counts, OutOfMemory>
         requires small { vars ≤ 1000000 }
         requires size { length counts ≡ 2 * vars + 2 }
         ensures { IfOk result (λ c. c ≡ record { vars = vars; counts = counts }) }
@@ -75,7 +75,7 @@ impl Counts {
 fn lone_variables(
     alloc: Global,
     vars: u32,
-    counts: &LitTable<usize>,
+    counts: &LitTable<u32>,
 ) -> Result<BTreeSet<u32>, OutOfMemory>
     requires small { vars ≤ 1000000 }
     requires size { length counts.now ≡ 2 * vars + 2 }
@@ -91,7 +91,7 @@ fn lone_variables(
 }
 
 /// Whether a variable occurs in one sign only.
-fn occurs_in_one_sign(counts: &LitTable<usize>, v: u32) -> bool
+fn occurs_in_one_sign(counts: &LitTable<u32>, v: u32) -> bool
     requires first { 0 < v }
     requires last { v ≤ 1000000 }
     requires within { 2 * v + 1 < length counts.now }

@@ -8,10 +8,10 @@ ghost use Rattle.lk_model.specs.Reduction.{ReducesBy};
 ghost use Rattle.lk_model.specs.declared.class.Class.TheVariants.{Pure};
 
 use crate::counts::Counts;
-use crate::holders::holders_of;
-use crate::pairs::{lengths, live_positions, pairs_of};
+use crate::pairs::{live_positions, pairs_of};
 use crate::run::pure_order;
 use lk_model::{Formula, OutOfMemory, PureResult};
+use occurrence_lists::OccurrenceLists;
 use std::alloc::Global;
 
 /// The pure kernel of a formula, and what shows it.
@@ -31,9 +31,10 @@ pub fn pure_kernel(alloc: Global, f: &Formula) -> Result<PureResult, OutOfMemory
     ensures pairs { IfOk result (λ r. r.pairs ≡ least_pairs f.now r.kept) }
     ensures kernel { IfOk result (λ r. ReducesBy no_variable Pure f.now r.kept (assignment_of r.order)) }
 {
-    let holders = holders_of(alloc, f)?;
+    let holders = OccurrenceLists::new(alloc, f)?;
     let mut live = vec![in alloc; true; f.len() as usize]?;
-    let mut counts = Counts::new(alloc, f.vars(), lengths(alloc, &holders)?)?;
+    let lengths = holders.counts(alloc)?;
+    let mut counts = Counts::new(alloc, f.vars(), lengths)?;
     let order = pure_order(alloc, f, &holders, &mut live, &mut counts)?;
     let kept = live_positions(alloc, live.as_slice())?;
     let pairs = pairs_of(alloc, f, &holders, live.as_slice())?;

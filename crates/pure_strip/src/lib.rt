@@ -2,7 +2,6 @@
 #![tactic(auto)]
 
 mod counts;
-mod holders;
 mod kernel;
 mod pairs;
 mod run;

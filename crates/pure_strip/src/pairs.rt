@@ -1,28 +1,14 @@
 //! What the run leaves: the kept positions, and a pair for each of their variables.
-ghost use Rattle.std.specs.Prelude.{◌≡◌, ◌≤◌, ◌<◌, length, filter, find, map, None, IfOk, All};
+ghost use Rattle.std.specs.Prelude.{◌≡◌, ◌≤◌, ◌<◌, length, filter, find, None, IfOk, All};
 ghost use Rattle.lk_model.specs.Lists.{up_to};
 ghost use Rattle.lk_model.specs.Formulas.Formula.{positions_of};
 ghost use Rattle.lk_model.specs.Formulas.PureRun.{least_pure, least_pairs};
-ghost use Rattle.pure_strip.specs.Tables.{AreHolders};
+ghost use Rattle.occurrence_lists.specs.Occurrences.{AreOccurrences};
 ghost use Rattle.pure_strip.specs.Live.{is_live};
 
-use lk_model::{Formula, List, Lit, LitTable, OutOfMemory, Pair};
-use std::alloc::{AllocError, Global};
-
-/// How many positions stand in each list.
-pub(crate) fn lengths(
-    alloc: Global,
-    lists: &LitTable<List<u32>>,
-) -> Result<LitTable<usize>, AllocError>
-    ensures { IfOk result (λ t. t ≡ map (λ ps. length ps) lists.now) }
-{
-    let lengths = lists
-        .as_slice()
-        .iter()
-        .map(|list| list.len())
-        .collect(alloc)?;
-    Ok(LitTable::from_vec(lengths))
-}
+use lk_model::{Formula, List, Lit, OutOfMemory, Pair};
+use occurrence_lists::OccurrenceLists;
+use std::alloc::Global;
 
 /// The positions whose flags are up, ascending.
 pub(crate) fn live_positions(alloc: Global, live: &[bool]) -> Result<List<u32>, OutOfMemory>
@@ -43,10 +29,10 @@ pub(crate) fn live_positions(alloc: Global, live: &[bool]) -> Result<List<u32>, 
 pub(crate) fn pairs_of(
     alloc: Global,
     f: &Formula,
-    holders: &LitTable<List<u32>>,
+    holders: &OccurrenceLists,
     live: &[bool],
 ) -> Result<List<Pair>, OutOfMemory>
-    requires holders { AreHolders f.now (positions_of f.now) holders.now }
+    requires holders { AreOccurrences f.now holders.now }
     requires size { length live.now ≡ length f.now.clauses }
     requires lean { least_pure f.now (filter (is_live live.now) (positions_of f.now)) ≡ None }
     ensures { IfOk result (λ pairs. pairs ≡ least_pairs f.now (filter (is_live live.now) (positions_of f.now))) }
@@ -57,8 +43,8 @@ pub(crate) fn pairs_of(
         let Some(l) = Lit::new(var as i32) else {
             unreachable!()
         };
-        if let Some(with) = first_live(holders[l].as_slice(), live) {
-            if let Some(against) = first_live(holders[l.negated()].as_slice(), live) {
+        if let Some(with) = first_live(holders.positions(l), live) {
+            if let Some(against) = first_live(holders.positions(l.negated()), live) {
                 pairs.push(Pair { var, with, against })?;
             }
         }

@@ -8,14 +8,14 @@
 //! (`counts`): no step goes through the formula.
 ghost use Rattle.std.specs.Prelude.{◌≡◌, ◌<◌, ◌≤◌, [], length, slice_set, false, IfOk, OnOk, IsTrue, All, ◌-◌, ◌+◌, ◌*◌};
 ghost use Rattle.lk_model.specs.Formulas.Literal.{is_clause};
-ghost use Rattle.lk_model.specs.Formulas.Formula.{positions_of};
 ghost use Rattle.lk_model.specs.Formulas.PureRun.{IsPureRun};
-ghost use Rattle.pure_strip.specs.Tables.{AreHolders};
+ghost use Rattle.occurrence_lists.specs.Occurrences.{AreOccurrences};
 ghost use Rattle.pure_strip.specs.Counted.{AreHeld, LowersAll};
 ghost use Rattle.pure_strip.specs.Live.{is_live, AreCounted, AreUntouched, GoDown};
 
 use crate::counts::Counts;
-use lk_model::{Formula, List, Lit, LitTable, OutOfMemory};
+use lk_model::{Formula, List, Lit, OutOfMemory};
+use occurrence_lists::OccurrenceLists;
 use std::alloc::Global;
 
 /// The order of the pure run. The flags that are up in the end are those of the clauses that no
@@ -23,11 +23,11 @@ use std::alloc::Global;
 pub(crate) fn pure_order(
     alloc: Global,
     f: &Formula,
-    holders: &LitTable<List<u32>>,
+    holders: &OccurrenceLists,
     live: &mut Vec<bool>,
     counts: &mut Counts,
 ) -> Result<List<Lit>, OutOfMemory>
-    requires holders { AreHolders f.now (positions_of f.now) holders.now }
+    requires holders { AreOccurrences f.now holders.now }
     requires counted { AreCounted f.now live.old.items counts.old }
     requires untouched { AreUntouched f.now [] live.old.items }
     ensures run { IfOk result (IsPureRun f.now) }
@@ -35,7 +35,7 @@ pub(crate) fn pure_order(
 {
     let mut order = List::new(alloc);
     while let Some(l) = counts.least_lone() {
-        touch_all(f, holders[l].as_slice(), live, counts)?;
+        touch_all(f, holders.positions(l), live, counts)?;
         order.push(l)?;
     }
     Ok(order)

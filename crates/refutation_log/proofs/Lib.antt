@@ -2,11 +2,15 @@ pub mod Clauses
 pub mod Sorting
 pub mod Joining
 pub mod Steps
+pub mod FlaggedLaws
 pub mod Chains
 pub mod Marking
 pub mod Renumbering
 pub mod Keeping
 pub mod Trimming
+pub mod Used
 pub mod ChainNames
+pub mod KeptNames
 pub mod TrimmedLaws
 pub mod InFormLaws
+pub mod OtherPremisesLaws

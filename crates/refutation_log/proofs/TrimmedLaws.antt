@@ -1,15 +1,15 @@
 -- A trimmed refutation stands.
-use Rattle.std.proofs.Common.{◌≡◌, ℕ, suc, ◌+◌, ◌-◌, ◌<◌, ◌≤◌, Bool, true, false, cond, ◌||◌, ◌==◌, nat_lt, List, [], ◌∷◌, ◌++◌, refl, sym, ◌∙◌, ap, subst, arith, ℤ, Option, Some, None, length, map, filter, find, option_map, IsTrue}
-use Rattle.std.specs.List.{list_all}
+use Rattle.std.proofs.Common.{◌≡◌, ℕ, suc, ◌+◌, ◌-◌, ◌<◌, ◌≤◌, Bool, true, false, cond, not, ◌||◌, ◌==◌, nat_lt, List, [], ◌∷◌, ◌++◌, refl, sym, ◌∙◌, ap, subst, arith, ℤ, Option, Some, None, length, map, filter, find, option_map, IsTrue}
+use Rattle.std.specs.List.{list_all, range_with_len}
 use Rattle.std.specs.Prelude.{option_and_then}
 use Rattle.std.specs.Option.{option_map_or}
-use Rattle.std.proofs.lemmas.Bool.{le-leb, eq-eqb, eqb-true}
+use Rattle.std.proofs.lemmas.Bool.{le-leb, eq-eqb, eqb-true, and_from}
 use Rattle.std.proofs.lemmas.List.{append-nil, map-append, length-map}
 use Rattle.std.proofs.lemmas.List.Sums.{length-filter, count_by-le-length}
 use Rattle.std.proofs.lemmas.List.Elements.{filter-append}
-use Rattle.lk_model.specs.Lists.{among}
+use Rattle.lk_model.specs.Lists.{among, is_empty}
 use Rattle.lk_model.specs.Formulas.Literal.{is_same_set}
-use Rattle.lk_model.specs.Chains.Chain.{Premises, clause_named, after_turns, names_of, states_its_clause, resolvent}
+use Rattle.lk_model.specs.Chains.Chain.{Premises, clause_named, after_turns, chain_clause, names_of, states_its_clause, resolvent}
 use Rattle.lk_model.specs.Held.VariableSets.{premises_of}
 use Rattle.lk_model.specs.Chains.Rounds.{reached, is_refutation}
 use Rattle.lk_model.specs.Laws.{last_number}
@@ -17,20 +17,18 @@ use Rattle.lk_model.specs.declared.crossed.Crossed.{Crossed}
 use Rattle.lk_model.specs.declared.document.Turn.{Turn}
 use Rattle.lk_model.specs.declared.document.Step.{Step}
 use Rattle.refutation_log.specs.Derivation.{are_numbered, are_chains, names_lower, is_ascending, clause_of_step, IsDerivation}
-use Rattle.refutation_log.specs.Trimmed.{with_numbers, TrimsTo, TrimmedLaw}
+use Rattle.refutation_log.specs.Trimmed.{with_numbers, are_filled_before_last, TrimsTo, TrimmedLaw}
 use Rattle.refutation_log.proofs.Steps.{head_number}
 use Rattle.lk_model.proofs.Booleans.{and_true}
+use Rattle.lk_model.proofs.Counting.{among-filter, among-range}
 use Rattle.lk_model.proofs.Lists.{among_later, name_lower}
 use Rattle.refutation_log.proofs.Chains.{step_named}
 use Rattle.refutation_log.proofs.ChainNames.{state_clauses, from_chains, to_chains, chain_sides}
 use Rattle.refutation_log.proofs.Marking.{among_append, at_rest}
 use Rattle.refutation_log.proofs.Renumbering.{same_in_range}
 use Rattle.refutation_log.proofs.Keeping.{Valid, a_position, a_step, new_of, count_kept, count_more, new_position, new_step, new_less, new_apart}
-use Rattle.refutation_log.proofs.Trimming.{EachFits, each_fits, reached_last, with_number, trimmed_is}
-
--- the kept steps, with new numbers
-abbrev pub kept_of : (ℕ → Bool) → ℕ → ℕ → List Step → List Step
-kept_of K first next xs = map (with_numbers (new_of K first next)) (filter (λ (s : Step). K s.number) xs)
+use Rattle.refutation_log.proofs.Trimming.{EachFits, each_fits, reached_last, reached_names, with_number, trimmed_is}
+use Rattle.refutation_log.proofs.KeptNames.{kept_of, names_new, all_mapped, names_kept, clauses_kept, fewer_kept, low_names}
 
 -- THEIR NUMBERS
 
@@ -56,22 +54,6 @@ numbered_new K first next (x ∷ xs) a i e n =
         let none : count_kept K first (suc i) ≡ count_kept K first i + 0 = more ∙ ap (λ b. count_kept K first i + cond b 1 0) (ap K (sym same) ∙ is) in
         let next_one : next + count_kept K first (suc i) ≡ next + count_kept K first i = omega (arith, none) in
         rw (is) (subst (λ j. are_numbered j (kept_of K first next xs) ≡ true) next_one h)
-
-turn_names : (f : ℕ → ℕ) (turns : List Turn) → map (λ (t : Turn). t.with) (map (with_number f) turns) ≡ map f (map (λ (t : Turn). t.with) turns)
-turn_names f [] = refl
-turn_names f (t ∷ turns) = ap (λ ns. f t.with ∷ ns) (turn_names f turns)
-
-names_new : (f : ℕ → ℕ) (s : Step) → names_of (with_numbers f s) ≡ map f (names_of s)
-names_new f s = ap (λ ns. f s.first ∷ ns) (turn_names f s.turns)
-
-all_mapped : (t : ℕ → Bool) (f : ℕ → ℕ) (ns : List ℕ) → ((k : ℕ) → among ns k ≡ true → t (f k) ≡ true) → list_all t (map f ns) ≡ true
-all_mapped t f [] h = refl
-all_mapped t f (n ∷ ns) h =
-    rw (h n (rw (eq-eqb n n refl) refl), all_mapped t f ns (λ k m. h k (rw m (or_yes (n == k))))) refl
-  where
-    or_yes : (b : Bool) → (b || true) ≡ true
-    or_yes true = refl
-    or_yes false = refl
 
 lower_new : (K : ℕ → Bool) (bound first next top : ℕ) (xs : List Step) (a : ℕ) → bound ≤ next → next ≤ first → first ≤ a → are_numbered a xs ≡ true
     → list_all names_lower xs ≡ true → EachFits K bound first top xs → list_all names_lower (kept_of K first next xs) ≡ true
@@ -122,6 +104,23 @@ refutes_new K first next x (y ∷ ys) is = at (K x.number) (refutes_new K first 
         × (is_refutation (map (with_numbers (new_of K first next)) (cond t (x ∷ filter (λ (s : Step). K s.number) (y ∷ ys)) (filter (λ (s : Step). K s.number) (y ∷ ys)))) ≡ is_refutation (y ∷ ys))
     at true h = (omega arith, refutes_later (with_numbers (new_of K first next) x) (kept_of K first next (y ∷ ys)) h.0 ∙ h.1)
     at false h = h
+
+-- no clause before the last one lost its literals
+filled_more : (x : Step) (ys : List Step) → not (is_empty x.clause) ≡ true → are_filled_before_last ys ≡ true → are_filled_before_last (x ∷ ys) ≡ true
+filled_more x [] here more = refl
+filled_more x (y ∷ ys) here more = rw (here) more
+
+filled_new : (K : ℕ → Bool) (first next : ℕ) (x : Step) (xs : List Step) → K (last_number (x ∷ xs)) ≡ true
+    → are_filled_before_last (x ∷ xs) ≡ true → are_filled_before_last (kept_of K first next (x ∷ xs)) ≡ true
+filled_new K first next x [] is h = rw (is) refl
+filled_new K first next x (y ∷ ys) is h =
+    let both = and_true (not (is_empty x.clause)) (are_filled_before_last (y ∷ ys)) h in
+    at (K x.number) both.0 (filled_new K first next y ys is both.1)
+  where
+    at : (t : Bool) → not (is_empty x.clause) ≡ true → are_filled_before_last (kept_of K first next (y ∷ ys)) ≡ true
+        → are_filled_before_last (map (with_numbers (new_of K first next)) (cond t (x ∷ filter (λ (s : Step). K s.number) (y ∷ ys)) (filter (λ (s : Step). K s.number) (y ∷ ys)))) ≡ true
+    at true here more = filled_more (with_numbers (new_of K first next) x) (kept_of K first next (y ∷ ys)) here more
+    at false here more = more
 
 -- WHAT IS REACHED
 
@@ -263,18 +262,23 @@ turns_new P Q f (t ∷ turns) same c =
     at_clause h None = refl
     at_clause h (Some d) = at_resolvent h (resolvent t.lit c d)
 
+-- the clause of a chain, where its new numbers stand for what its numbers stood for
+pub chain_new : (P Q : Premises) (f : ℕ → ℕ) (first : ℕ) (turns : List Turn)
+    → ((k : ℕ) → among (first ∷ map (λ (t : Turn). t.with) turns) k ≡ true → clause_named Q (f k) ≡ clause_named P k)
+    → chain_clause Q (f first) (map (with_number f) turns) ≡ chain_clause P first turns
+chain_new P Q f first turns same =
+    rw (same first (rw (eq-eqb first first refl) refl))
+    (at (turns_new P Q f turns (λ k m. same k (among_later first k (map (λ (t : Turn). t.with) turns) m))) (clause_named P first))
+  where
+    at : ((c : List ℤ) → after_turns Q c (map (with_number f) turns) ≡ after_turns P c turns) → (o : Option (List ℤ))
+        → option_and_then (λ c. after_turns Q c (map (with_number f) turns)) o ≡ option_and_then (λ c. after_turns P c turns) o
+    at h None = refl
+    at h (Some c) = h c
+
 states_new : (P Q : Premises) (f : ℕ → ℕ) (s : Step) → ((k : ℕ) → among (names_of s) k ≡ true → clause_named Q (f k) ≡ clause_named P k)
     → states_its_clause Q (with_numbers f s) ≡ states_its_clause P s
 unfolding states_its_clause
-states_new P Q f s same =
-    rw (same s.first (rw (eq-eqb s.first s.first refl) refl))
-    (ap (λ o. option_map_or (is_same_set s.clause) o false)
-    (at (turns_new P Q f s.turns (λ k m. same k (among_later s.first k (map (λ (t : Turn). t.with) s.turns) m))) (clause_named P s.first)))
-  where
-    at : ((c : List ℤ) → after_turns Q c (map (with_number f) s.turns) ≡ after_turns P c s.turns) → (o : Option (List ℤ))
-        → option_and_then (λ c. after_turns Q c (map (with_number f) s.turns)) o ≡ option_and_then (λ c. after_turns P c s.turns) o
-    at h None = refl
-    at h (Some c) = h c
+states_new P Q f s same = ap (λ (o : Option (List ℤ)). option_map_or (is_same_set s.clause) o false) (chain_new P Q f s.first s.turns same)
 
 kept_push : (K : ℕ → Bool) (first next : ℕ) (pre : List Step) (x : Step) (b : Bool) → K x.number ≡ b
     → kept_of K first next (pre ++ x ∷ []) ≡ kept_of K first next pre ++ map (with_numbers (new_of K first next)) (cond b (x ∷ []) [])
@@ -313,6 +317,10 @@ chains_new over K first next top pre (x ∷ xs) past n before fits e =
 
 -- THE LAW
 
+-- a position that is reached is used
+used_there : (K : ℕ → Bool) (m k : ℕ) → 0 < k → k ≤ m → K k ≡ true → among (filter K (range_with_len 1 m)) k ≡ true
+used_there K m k low high is = among-filter K (range_with_len 1 m) k ∙ and_from (K k) (among (range_with_len 1 m) k) is (among-range 1 m k (omega arith) (omega (arith, high)))
+
 kept_stand : (over : Crossed) (first next : ℕ) (steps : List Step) → IsDerivation first steps → IsTrue (are_chains over steps) → IsTrue (is_refutation steps)
     → length over.formula.now.clauses < next → next ≤ first → TrimsTo over next steps (kept_of (among (reached steps)) first next steps)
 kept_stand over first next [] d chains whole past n = absurd (let f : ⊥ = cc in f)
@@ -337,6 +345,14 @@ kept_stand over first next (s ∷ xs) d chains whole past n =
           (λ p le lt. (let v : Valid K (suc m) first top p = a_position (omega (arith, lt)) in
           ap (among (reached (kept_of K first next steps))) (sym (new_position K first next p (omega (arith, lt, past, n))))
           ∙ (reached_new K (suc m) first next top s xs (omega arith) n match fits p v).1));
+      names = λ crossed.
+          subst (λ (ss : List Step). list_all (λ (u : Step). list_all (λ k. nat_lt m k || among (filter K (range_with_len 1 m)) k) (names_of u)) ss ≡ true)
+          (sym (append-nil (kept_of K first next steps)))
+          (names_kept K m first next top (filter K (range_with_len 1 m)) steps past n fits
+          (λ u c is k mem low. used_there K m k (low_names over steps crossed.part (from_chains over steps chains) u c k mem (omega (arith, low))) (omega (arith, low)) (reached_names first steps u k d c is mem)));
+      clauses = clauses_kept K first next steps;
+      filled = filled_new K first next s xs (reached_last first s xs d);
+      fewer = fewer_kept K first next steps;
     }
 
 pub trimmed_law : TrimmedLaw

@@ -29,7 +29,7 @@ in_order low first (s ∷ steps) lt n l =
     rw (le-leb (suc low) s.number (omega (arith, h.0, lt)), both.0)
     (in_order s.number (first + 1) steps (omega (arith, h.0)) h.1 both.1)
 
-in_order_from_0 : (first : ℕ) (s : Step) (steps : List Step) → are_numbered first (s ∷ steps) ≡ true → list_all names_lower (s ∷ steps) ≡ true
+pub in_order_from_0 : (first : ℕ) (s : Step) (steps : List Step) → are_numbered first (s ∷ steps) ≡ true → list_all names_lower (s ∷ steps) ≡ true
     → are_in_order 0 (s ∷ steps) ≡ true
 in_order_from_0 first s steps n l =
     let h = head_number first s steps n in
@@ -56,7 +56,7 @@ EachFits K bound first top [] = Unit {0}
 EachFits K bound first top (s ∷ steps) =
     (K s.number ≡ true → (k : ℕ) → among (s.number ∷ names_of s) k ≡ true → Valid K bound first top k) × EachFits K bound first top steps
 
-contains_later : (s t : Step) (steps : List Step) → Contains steps s → Contains (t ∷ steps) s
+pub contains_later : (s t : Step) (steps : List Step) → Contains steps s → Contains (t ∷ steps) s
 contains_later s t steps (i, lt, e) = (suc i, omega (arith, lt), e)
 
 fits_within : (bound first a top : ℕ) (K : ℕ → Bool) (xs : List Step) → first ≤ a → a + length xs ≤ top
@@ -192,7 +192,7 @@ numbers_are K first next bound marks numbers is each b k (a_step le below kept) 
     (each (k - first) (omega arith) ∙ ap (λ n. next + n) (sym (length-filter (λ b. b) (take (k - first) marks)) ∙ marks_count K first marks is (k - first) (omega arith)))
 
 -- the steps that have a mark
-marked_steps : (K : ℕ → Bool) (first : ℕ) (marks : List Bool) → ((k : ℕ) → k < length marks → slice_index_or marks k false ≡ K (first + k))
+pub marked_steps : (K : ℕ → Bool) (first : ℕ) (marks : List Bool) → ((k : ℕ) → k < length marks → slice_index_or marks k false ≡ K (first + k))
     → (a : ℕ) (xs : List Step) → first ≤ a → a + length xs ≤ first + length marks → are_numbered a xs ≡ true
     → filter (is_marked first marks) xs ≡ filter (λ (s : Step). K s.number) xs
 marked_steps K first marks is a [] le within n = refl

@@ -1,10 +1,11 @@
 -- A refutation without the steps that its last one does not need.
-use Rattle.std.specs.Prelude.{◌≡◌, ℕ, ◌+◌, ◌==◌, ◌||◌, ◌≤◌, Bool, nat_lt, nat_le, ◌<◌, IsTrue, List, length, map, filter, position}
+use Rattle.std.specs.Prelude.{◌≡◌, ℕ, ◌+◌, ◌==◌, ◌||◌, ◌≤◌, Bool, true, not, ◌&&◌, nat_lt, nat_le, ◌<◌, IsTrue, List, [], ◌∷◌, length, map, filter, position}
 use Rattle.std.specs.List.{list_all}
 use Rattle.std.specs.Option.{option_map_or}
-use Rattle.lk_model.specs.Lists.{among}
+use Rattle.lk_model.specs.Lists.{among, is_empty}
 use Rattle.lk_model.specs.Chains.Chain.{names_of}
-use Rattle.lk_model.specs.Chains.Rounds.{reached, is_refutation, used_positions}
+use Rattle.lk_model.specs.Chains.Rounds.{reached, is_refutation, used_positions, names_within}
+use Rattle.lk_model.specs.Held.VariableSets.{IsCrossed}
 use Rattle.lk_model.specs.declared.crossed.Crossed.{Crossed}
 use Rattle.lk_model.specs.declared.document.Step.{Step}
 use Rattle.lk_model.specs.declared.document.Turn.{Turn}
@@ -36,13 +37,29 @@ abbrev pub names_positions_below : ℕ → ℕ → List Step → Bool
 names_positions_below bound first steps =
     list_all (λ (s : Step). list_all (λ k. nat_lt k bound || nat_le first k) (names_of s)) steps
 
--- Trimmed steps refute by chains over the same clauses, and use the same of them.
+-- each clause before the last one has a literal
+abbrev pub are_filled_before_last : List Step → Bool
+are_filled_before_last [] = true
+are_filled_before_last (s ∷ []) = true
+are_filled_before_last (s ∷ t ∷ later) = not (is_empty s.clause) && are_filled_before_last (t ∷ later)
+
+-- how many steps have a clause with a literal
+abbrev pub count_filled : List Step → ℕ
+count_filled steps = length (filter (λ (s : Step). not (is_empty s.clause)) steps)
+
+-- Trimmed steps refute by chains over the same clauses, and use the same of them. Their clauses are those of the reached
+-- steps, so they have no more clauses with a literal, and none without one before the last if there was none. Of the positions
+-- their chains name only those that are used.
 pub record TrimsTo (over : Crossed) (next : ℕ) (steps after : List Step) : Type 0 where
   pub derivation : IsDerivation next after
   pub shorter : length after ≤ length steps
   pub chains : IsTrue (are_chains over after)
   pub refutation : IsTrue (is_refutation after)
   pub positions : used_positions over.formula.now (record { steps = after }) ≡ used_positions over.formula.now (record { steps = steps })
+  pub names : IsCrossed over → IsTrue (names_within over.formula.now (used_positions over.formula.now (record { steps = steps })) (record { steps = after } ∷ []))
+  pub clauses : map (λ (s : Step). s.clause) after ≡ map (λ (s : Step). s.clause) (reached_steps steps)
+  pub filled : IsTrue (are_filled_before_last steps) → IsTrue (are_filled_before_last after)
+  pub fewer : count_filled after ≤ count_filled steps
 
 -- a refutation whose new numbers are above those of the formula's clauses
 abbrev pub TrimmedLaw : Type 0

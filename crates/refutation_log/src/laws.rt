@@ -1,6 +1,7 @@
 //! Laws over the definitions.
 ghost use Rattle.refutation_log.specs.Derivation.{PushedLaw};
 ghost use Rattle.refutation_log.specs.InForm.{FormLaw};
+ghost use Rattle.refutation_log.specs.OtherPremises.{OtherPremisesLaw};
 ghost use Rattle.refutation_log.specs.Trimmed.{TrimmedLaw};
 
 /// Steps that are pushed one after another onto an empty log, over the same clauses, state the clauses
@@ -20,4 +21,11 @@ pub fn trimmed_law()
 /// above the formula's clauses and below 2^64.
 pub fn form_law()
     ensures { FormLaw }
+{}
+
+/// What a chain states depends on the clauses that it names alone: chains over some positions are chains
+/// over others that have the named ones, where the same variables of their clauses are blocked.
+#[tactic(auto, using(crate::proofs::OtherPremisesLaws::other_premises_law))]
+pub fn other_premises_law()
+    ensures { OtherPremisesLaw }
 {}

@@ -2,13 +2,15 @@
 #![tactic(auto)]
 
 mod axioms;
+mod chain_clause;
 mod laws;
 mod log;
+mod names;
 mod numbers;
 mod reach;
 mod work;
 
 pub use axioms::axioms_of;
-pub use laws::{form_law, pushed_law, trimmed_law};
+pub use laws::{form_law, other_premises_law, pushed_law, trimmed_law};
 pub use log::Log;
 pub use work::{Work, resolve_into};

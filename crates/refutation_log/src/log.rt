@@ -12,17 +12,20 @@ ghost use Rattle.std.specs.Prelude.{◌≡◌, ◌-◌, ◌<◌, ◌≤◌, ◌^
 ghost use Rattle.lk_model.specs.Held.VariableSets.{IsCrossed};
 ghost use Rattle.lk_model.specs.Held.VariableSets.{premises_of};
 ghost use Rattle.lk_model.specs.Chains.Chain.{clause_named, after_turns, chain_clause};
-ghost use Rattle.lk_model.specs.Chains.Rounds.{is_refutation};
+ghost use Rattle.lk_model.specs.Chains.Rounds.{is_refutation, used_positions};
 ghost use Rattle.refutation_log.specs.Derivation.{next_number, clause_of_step, last_clause_of, is_ascending, Extends, IsLog};
 ghost use Rattle.refutation_log.specs.Trimmed.{trimmed, names_positions_below};
 ghost use Rattle.refutation_log.specs.SameClause.{IsSameClause};
 
+use crate::chain_clause::FlaggedClause;
+use crate::names::named_positions;
 use crate::numbers::{kept_steps, new_numbers};
 use crate::reach::marks_of;
-use crate::work::{Work, resolve_into};
+use crate::work::Work;
 use lk_model::{Crossed, List, Lit, OutOfMemory, Round, Step, Turn};
 use std::alloc::Global;
 use std::marker::Model;
+use std::mem;
 
 /// Steps that are numbered one after another from a first number on. Each states the clause of its
 /// chain, in order: ascending by variable, the positive literal first.
@@ -30,6 +33,8 @@ use std::marker::Model;
 pub struct Log {
     first: u64,
     steps: Vec<Step>,
+    // The clause of the chain that was pushed last; its flags serve the next one.
+    flagged: FlaggedClause,
 }
 
 impl Model for Log {
@@ -51,6 +56,7 @@ impl Log {
         Log {
             first: next,
             steps: Vec::new(alloc),
+            flagged: FlaggedClause::new(alloc),
         }
     }
 
@@ -84,8 +90,15 @@ impl Log {
         ensures number { IfOk result (λ k. k ≡ next_number self.old) }
         ensures ok { OnOk result (Extends over.now self.old first turns.now self.new) }
         ensures err { OnErr result (self.new ≡ self.old) }
+        ensures log { IsLog self.new.first self.new.steps }
     {
-        let clause = self.clause_of_chain(over, first, turns)?;
+        let mut flagged = mem::replace(
+            &mut self.flagged,
+            FlaggedClause::new(*self.steps.allocator()),
+        );
+        let clause = self.clause_of_chain(over, first, turns, &mut flagged);
+        self.flagged = flagged;
+        let clause = clause?;
         let number = self.first + self.steps.len() as u64;
         let step = Step {
             number,
@@ -102,6 +115,7 @@ impl Log {
         requires { 0 < length self.now.steps }
         ensures value { last_clause_of self.now.steps ≡ Some result.now }
         ensures order { IsTrue (is_ascending result.now) }
+        ensures log { IsLog self.now.first self.now.steps }
     {
         self.steps[self.steps.len() - 1].clause.as_slice()
     }
@@ -111,8 +125,24 @@ impl Log {
         requires { IsSome (clause_of_step self.now.steps k) }
         ensures value { clause_of_step self.now.steps k ≡ Some result.now }
         ensures order { IsTrue (is_ascending result.now) }
+        ensures log { IsLog self.now.first self.now.steps }
     {
         self.steps[(k - self.first) as usize].clause.as_slice()
+    }
+
+    /// The positions that the steps use, ascending: those that are reached backwards from the last one.
+    /// The log's numbers must be above those of the formula's clauses.
+    pub fn used(&self, over: &Crossed) -> Result<List<u32>, OutOfMemory>
+        requires { length over.now.formula.now.clauses < self.now.first }
+        ensures { IfOk result (λ ps. ps ≡ used_positions over.now.formula.now (record { steps = self.now.steps })) }
+    {
+        let alloc = *self.steps.allocator();
+        let marks = marks_of(alloc, 0, self.first, &self.steps)?;
+        let last = over.formula.len();
+        let mut positions = named_positions(alloc, last, self.first, &self.steps, &marks.steps)?;
+        positions.sort_unstable();
+        positions.dedup();
+        Ok(List::from_vec(positions))
     }
 
     /// All steps.
@@ -148,47 +178,57 @@ impl Log {
         over: &Crossed,
         first: u64,
         turns: &[Turn],
+        flagged: &mut FlaggedClause,
     ) -> Result<Work, OutOfMemory>
         requires crossed { IsCrossed over.now }
         requires past { length over.now.formula.now.clauses < self.now.first }
         requires chain { IsSome (chain_clause (premises_of over.now self.now.steps) first turns.now) }
         ensures { IfOk result (λ w. IsSameClause (Some w) (chain_clause (premises_of over.now self.now.steps) first turns.now)) }
     {
-        let mut work = self.work_of(over, first)?;
+        flagged.clear();
+        self.begin(over, first, flagged)?;
         for turn in turns {
-            self.take(over, *turn, &mut work)?;
+            self.take(over, *turn, flagged)?;
         }
-        Ok(work)
+        let lits = flagged.to_vec()?;
+        Work::of_any(*self.steps.allocator(), &lits)
     }
 
-    // The clause that a number stands for.
-    fn work_of(&self, over: &Crossed, k: u64) -> Result<Work, OutOfMemory>
+    // Begins with the clause that a number stands for.
+    fn begin(&self, over: &Crossed, k: u64, flagged: &mut FlaggedClause) -> Result<(), OutOfMemory>
         requires crossed { IsCrossed over.now }
         requires past { length over.now.formula.now.clauses < self.now.first }
         requires named { IsSome (clause_named (premises_of over.now self.now.steps) k) }
-        ensures { IfOk result (λ w. IsSameClause (Some w) (clause_named (premises_of over.now self.now.steps) k)) }
+        requires empty { flagged.old ≡ [] }
+        ensures { OnOk result (IsSameClause (Some flagged.new) (clause_named (premises_of over.now self.now.steps) k)) }
     {
-        let alloc = *self.steps.allocator();
         if k <= u64::from(over.formula.len()) {
-            let clause = over.clause(alloc, k as u32)?;
-            Work::of_any(alloc, clause.as_slice())
+            flagged.put_crossed(over.formula.clause(k as u32), over.blocked)
         } else {
-            Work::of_any(alloc, self.clause(k))
+            flagged.put_all(self.clause(k))
         }
     }
 
     // Takes a turn.
-    fn take(&self, over: &Crossed, turn: Turn, work: &mut Work) -> Result<(), OutOfMemory>
+    fn take(
+        &self,
+        over: &Crossed,
+        turn: Turn,
+        flagged: &mut FlaggedClause,
+    ) -> Result<(), OutOfMemory>
         requires crossed { IsCrossed over.now }
         requires past { length over.now.formula.now.clauses < self.now.first }
-        requires goes { IsSome (after_turns (premises_of over.now self.now.steps) work.old (turn ∷ [])) }
-        ensures { OnOk result (IsSameClause (Some work.new) (after_turns (premises_of over.now self.now.steps) work.old (turn ∷ []))) }
+        requires goes { IsSome (after_turns (premises_of over.now self.now.steps) flagged.old (turn ∷ [])) }
+        ensures { OnOk result (IsSameClause (Some flagged.new) (after_turns (premises_of over.now self.now.steps) flagged.old (turn ∷ []))) }
     {
         if turn.with <= u64::from(over.formula.len()) {
-            let clause = over.clause(*self.steps.allocator(), turn.with as u32)?;
-            resolve_into(work, turn.lit, clause.as_slice())
+            flagged.resolve_crossed(
+                turn.lit,
+                over.formula.clause(turn.with as u32),
+                over.blocked,
+            )
         } else {
-            resolve_into(work, turn.lit, self.clause(turn.with))
+            flagged.resolve(turn.lit, self.clause(turn.with))
         }
     }
 

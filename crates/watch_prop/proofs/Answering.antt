@@ -1,5 +1,5 @@
 -- What comes of a clause's demand.
-use Rattle.std.proofs.Common.{◌≡◌, ◌∙◌, ℕ, ◌+◌, ◌<◌, ◌≤◌, ◌++◌, ◌∷◌, [], true, false, not, ◌||◌, List, ℤ, pos, Some, length, drop, get_or, set, refl, sym, ap, subst, arith, Vec}
+use Rattle.std.proofs.Common.{◌≡◌, ◌∙◌, ℕ, ◌+◌, ◌<◌, ◌≤◌, true, false, not, List, ℤ, length, drop, refl, sym, ap, subst, arith, Vec}
 use Rattle.std.specs.declared.alloc.Global.{Global}
 use Rattle.std.specs.Ordering.{int_eq}
 use Rattle.std.proofs.lemmas.Bool.{not-true}
@@ -15,10 +15,10 @@ use Rattle.watch_prop.specs.Trail.{Path, true_in, false_in}
 use Rattle.watch_prop.specs.Watch.{other_of, IsDemand, all_false_but}
 use Rattle.watch_prop.specs.Watchers.{watchers}
 use Rattle.watch_prop.specs.Linked.{IsLinked, clause_at_place, watch_at, moved}
-use Rattle.watch_prop.specs.States.{IsState, Settles, Leads}
-use Rattle.watch_prop.proofs.States.{Keeps, Differs, kept_leads, moved_upholds, watch_here, watch_there}
+use Rattle.watch_prop.specs.States.{Settles, Leads}
+use Rattle.watch_prop.proofs.States.{Differs, kept_leads, moved_upholds, watch_here, watch_there}
 use Rattle.watch_prop.proofs.Demands.{Called, stands_there, other_literal, moves, may_move, Forces}
-use Rattle.watch_prop.proofs.Linking.{IsMove, moved_linked, moved_rest, moved_shorter}
+use Rattle.watch_prop.proofs.Linking.{moved_linked, moved_rest, moved_shorter}
 
 pub place_in_watches : (clauses : List NumberedClause) (path : Path) (s : State) (place : ℕ) (l : ℤ) (at : ℕ) → Called clauses path s place l at → place < length s.watches.items
 place_in_watches clauses path s place l at called = let i = stands_there clauses path s place l at called in omega (arith, i.within, called.state.known.linked.places)

@@ -1,137 +1,31 @@
 -- A literal that is assigned where nothing is forced.
-use Rattle.std.proofs.Common.{◌≡◌, ◌≢◌, ◌∙◌, ℕ, suc, ◌+◌, ◌<◌, ◌≤◌, ◌==◌, ◌++◌, ◌∷◌, [], Bool, true, false, not, cond, ◌&&◌, ◌||◌, List, ℤ, pos, negsuc, Some, None, Option, is_some, IsNone, unwrap_or, option_map, find, length, length-append, take, filter, refl, sym, ap, subst, arith, inl, inr, append_assoc, Vec, vec_capacity}
+use Rattle.std.proofs.Common.{◌≡◌, ◌∙◌, ℕ, ◌+◌, ◌<◌, ◌≤◌, ◌==◌, ◌++◌, ◌∷◌, [], Bool, true, false, not, ◌&&◌, List, ℤ, Some, None, Option, is_some, length, length-append, take, refl, sym, ap, subst, arith, inl, inr, Vec, vec_capacity}
 use Rattle.std.specs.declared.alloc.Global.{Global}
 use Rattle.std.specs.Option.{option_map_or}
 use Rattle.std.specs.List.{list_all}
-use Rattle.std.specs.Ordering.{int_eq}
-use Rattle.std.proofs.lemmas.Bool.{cases_Bool, cases_eq, eq-eqb, false_from_ne_true, not-true}
+use Rattle.std.proofs.lemmas.Bool.{cases_eq, not-true}
 use Rattle.std.proofs.lemmas.List.{append-nil, take-append-le, take_all, get_or_append_left, get_or_push}
 use Rattle.lk_model.specs.Lists.{is_empty}
-use Rattle.lk_model.specs.Formulas.Literal.{variable, complement, contains, is_literal, is_clause, is_distinct, is_positive}
-use Rattle.lk_model.specs.Formulas.Assignment.{Assignment, makes_true, satisfies}
-use Rattle.lk_model.proofs.Booleans.{and_true, or_true, or_left, or_right}
-use Rattle.lk_model.proofs.ListTests.{passes_each}
-use Rattle.lk_model.proofs.Ranks.{literal_bounds}
-use Rattle.lk_model.proofs.Literals.{variable_complement, same_int}
+use Rattle.lk_model.specs.Formulas.Literal.{variable, is_literal, is_clause}
+use Rattle.lk_model.proofs.Booleans.{and_true}
 use Rattle.watch_prop.specs.declared.entry.Entry.{Entry}
 use Rattle.watch_prop.specs.declared.entry.NumberedClause.{NumberedClause}
 use Rattle.watch_prop.specs.declared.entry.Propagated.{Propagated}
 use Rattle.watch_prop.specs.declared.entry.Propagated.TheVariants.{Quiet, Conflict}
 use Rattle.watch_prop.specs.declared.state.State.{State}
-use Rattle.watch_prop.specs.Trail.{Path, literals_of, false_in, entry_of, assignment_along, present_level, up_to_level, clause_numbered, forces, has_reason, may_come, may_follow, is_path, is_trail}
+use Rattle.watch_prop.specs.Trail.{Path, entry_of, present_level, up_to_level, clause_numbered, forces, has_reason, may_come, may_follow, is_path, is_trail}
 use Rattle.watch_prop.specs.declared.watch.Watch.{Watch}
 use Rattle.watch_prop.specs.Watchers.{Watchers}
 use Rattle.watch_prop.specs.Linked.{IsLinked}
-use Rattle.watch_prop.specs.Propagation.{Propagation, IsPropagation, GoesOn, assigned, is_false, is_unit, is_unset, is_quiet}
+use Rattle.watch_prop.specs.Propagation.{Propagation, IsPropagation, GoesOn, assigned, is_false, is_unit, is_quiet}
 use Rattle.watch_prop.specs.States.{IsState, IsKnown, IsKnownBelow, AreUpheld, Leads, Passes, propagation_of, mark_at, unseen}
 use Rattle.watch_prop.proofs.Paths.{comes, last_level, back_there, same_path}
-use Rattle.watch_prop.proofs.Truths.{same_true, no_sign_twice}
-use Rattle.watch_prop.proofs.Trails.{trail_path, trail_more, propagation_more}
-use Rattle.watch_prop.proofs.States.{level_more, more_upheld, same_upheld}
-use Rattle.watch_prop.proofs.Passing.{makes_true_along}
+use Rattle.watch_prop.proofs.Trails.{trail_path, propagation_more, may_open, first_follows}
+use Rattle.watch_prop.proofs.States.{more_upheld, same_upheld}
+use Rattle.watch_prop.proofs.Levels.{level_more}
+use Rattle.watch_prop.proofs.Units.{each_numbered, forces_unit}
 
 -- NOTHING IS FORCED WHERE ALL IS QUIET
-
-none_pass : (p : ℤ → Bool) (c : List ℤ) → ((k : ℤ) → contains c k ≡ true → p k ≡ false) → length (filter p c) ≡ 0
-none_pass p [] h = refl
-none_pass p (l ∷ c) h =
-    rw (h l (or_left (int_eq l l) (contains c l) (same_true l l refl))) (none_pass p c (λ k there. h k (or_right (int_eq k l) (contains c k) there)))
-
--- just one literal of a clause passes
-one_passes : (p : ℤ → Bool) (c : List ℤ) (l : ℤ) → is_distinct c ≡ true → contains c l ≡ true → p l ≡ true → ((k : ℤ) → contains c k ≡ true → k ≢ l → p k ≡ false)
-    → length (filter p c) ≡ 1
-one_passes p [] l d there pl h = absurd (let f : ⊥ = cc in f)
-one_passes p (m ∷ c) l d there pl h =
-    let both = and_true (not (contains c m)) (is_distinct c) d in
-    elim (cases_Bool (int_eq l m)) [
-      | inl y ↦
-          let same = same_int l m y in
-          let pm : p m ≡ true = subst (λ (k : ℤ). p k ≡ true) same pl in
-          let rest : length (filter p c) ≡ 0 = none_pass p c (λ k in_c. h k (or_right (int_eq k m) (contains c k) in_c)
-          (λ e. (let f : true ≡ false = sym (subst (λ (x : ℤ). contains c x ≡ true) (e ∙ same) in_c) ∙ not-true (contains c m) both.0 in let z : ⊥ = cc in z))) in
-          rw pm (omega (arith, rest))
-      | inr y ↦
-          let in_c : contains c l ≡ true = elim (or_true (int_eq l m) (contains c l) there) [
-            | inl z ↦ absurd (let f : true ≡ false = sym z ∙ y in let q : ⊥ = cc in q)
-            | inr z ↦ z
-          ] in
-          let pm : p m ≡ false = h m (or_left (int_eq m m) (contains c m) (same_true m m refl))
-          (λ e. (let f : true ≡ false = sym (same_true l m (sym e)) ∙ y in let z : ⊥ = cc in z)) in
-          rw pm (one_passes p c l both.1 in_c pl (λ k there. h k (or_right (int_eq k m) (contains c k) there)))
-    ]
-
-unset_false : (φ : Assignment) (k : ℤ) → makes_true φ k ≡ true → is_unset φ k ≡ false
-unset_false φ (pos v) h = at (φ v) h
-  where
-    at : (o : Option Bool) → unwrap_or o false ≡ true → not (is_some o) ≡ false
-    at None h = absurd (let f : ⊥ = cc in f)
-    at (Some b) h = refl
-unset_false φ (negsuc k) h = at (φ (suc k)) h
-  where
-    at : (o : Option Bool) → not (unwrap_or o true) ≡ true → not (is_some o) ≡ false
-    at None h = absurd (let f : ⊥ = cc in f)
-    at (Some b) h = refl
-
-none_true : (φ : Assignment) (c : List ℤ) → ((k : ℤ) → contains c k ≡ true → makes_true φ k ≡ false) → satisfies φ c ≡ false
-none_true φ [] h = refl
-none_true φ (l ∷ c) h = rw (h l (or_left (int_eq l l) (contains c l) (same_true l l refl))) (none_true φ c (λ k there. h k (or_right (int_eq k l) (contains c k) there)))
-
-unset_by_entry : (trail : List Entry) (v : ℕ) → entry_of trail v ≡ None → not (is_some (assignment_along trail v)) ≡ true
-unset_by_entry trail v e = ap (λ (o : Option Entry). not (is_some (option_map (λ (e : Entry). is_positive e.lit) o))) e
-
-not_true_unset : (φ : Assignment) (k : ℤ) → is_unset φ k ≡ true → makes_true φ k ≡ false
-not_true_unset φ k h = false_from_ne_true (makes_true φ k) (λ t. (let f : true ≡ false = sym h ∙ unset_false φ k t in let z : ⊥ = cc in z))
-
--- a clause that forces an unset literal has one unset literal and no true one
-forces_unit : (vars : ℕ) (trail : List Entry) (c : List ℤ) (l : ℤ) → is_path vars trail ≡ true → is_clause vars c ≡ true → forces c trail l ≡ true → entry_of trail (variable l) ≡ None
-    → is_unit (assignment_along trail) c ≡ true
-forces_unit vars trail c l path is_clause f absent =
-    let φ = assignment_along trail in
-    let both = and_true (contains c l) (list_all (λ k. int_eq k l || contains (literals_of trail) (complement k)) c) f in
-    let clause = and_true (list_all (is_literal vars) c) (is_distinct c) is_clause in
-    let unset : is_unset φ l ≡ true = unset_by_entry trail (variable l) absent in
-    let literal : (k : ℤ) → contains c k ≡ true → is_literal vars k ≡ true = λ k there. passes_each (is_literal vars) c k clause.0 there in
-    let other : (k : ℤ) → contains c k ≡ true → k ≢ l → false_in trail k ≡ true = λ k there n. elim (or_true (int_eq k l) (false_in trail k) (passes_each (λ k. int_eq k l || contains (literals_of trail) (complement k)) c k both.1 there)) [
-      | inl y ↦ absurd (n (same_int k l y))
-      | inr y ↦ y
-    ] in
-    let low : (k : ℤ) → contains c k ≡ true → 0 < variable k = λ k there. (let b = literal_bounds vars k (literal k there) in omega (arith, b.0)) in
-    let set_is : (k : ℤ) → contains c k ≡ true → k ≢ l → is_unset φ k ≡ false = λ k there n.
-    (let low_k = low k there in
-    let t : makes_true φ (complement k) ≡ true = makes_true_along vars trail (complement k) path (omega (arith, low_k, variable_complement k)) ∙ other k there n in
-    subst (λ (v : ℕ). not (is_some (φ v)) ≡ false) (variable_complement k) (unset_false φ (complement k) t)) in
-    let none : (k : ℤ) → contains c k ≡ true → makes_true φ k ≡ false = λ k there. elim (cases_Bool (int_eq k l)) [
-      | inl y ↦ subst (λ (x : ℤ). makes_true φ x ≡ false) (sym (same_int k l y)) (not_true_unset φ l unset)
-      | inr y ↦
-          let n : k ≢ l = λ e. (let g : true ≡ false = sym (same_true k l e) ∙ y in let z : ⊥ = cc in z) in
-          makes_true_along vars trail k path (low k there) ∙ no_sign_twice vars trail k path (low k there) (other k there n)
-    ] in
-    let one : length (filter (is_unset φ) c) ≡ 1 = one_passes (is_unset φ) c l clause.1 both.0 unset set_is in
-    rw (none_true φ c none, eq-eqb (length (filter (is_unset φ) c)) 1 one) refl
-
--- what holds of each clause holds of the one of a number
-each_numbered : (q : List ℤ → Bool) (clauses : List NumberedClause) (k : ℕ) (c : List ℤ) → list_all (λ (h : NumberedClause). q h.lits) clauses ≡ true → clause_numbered clauses k ≡ Some c → q c ≡ true
-each_numbered q [] k c h found = absurd (let f : ⊥ = cc in f)
-each_numbered q (d ∷ clauses) k c h found =
-    let both = and_true (q d.lits) (list_all (λ (h : NumberedClause). q h.lits) clauses) h in
-    elim (cases_Bool (d.number == k)) [
-      | inl y ↦
-          let same : Some d.lits ≡ Some c = sym (ap (λ (b : Bool). option_map (λ (c : NumberedClause). c.lits) (cond b (Some d) (find (λ (c : NumberedClause). c.number == k) clauses))) y) ∙ found in
-          let lits : d.lits ≡ c = cc same in subst (λ (x : List ℤ). q x ≡ true) lits both.0
-      | inr y ↦ each_numbered q clauses k c both.1
-          (sym (ap (λ (b : Bool). option_map (λ (c : NumberedClause). c.lits) (cond b (Some d) (find (λ (c : NumberedClause). c.number == k) clauses))) y) ∙ found)
-    ]
-
-pub trail_prefix : (vars : ℕ) (clauses : List NumberedClause) (trail more : List Entry) → is_trail vars clauses (trail ++ more) ≡ true → is_trail vars clauses trail ≡ true
-trail_prefix vars clauses trail [] h = subst (λ (t : List Entry). is_trail vars clauses t ≡ true) (append-nil trail) h
-trail_prefix vars clauses trail (e ∷ more) h =
-    let longer = trail_prefix vars clauses (trail ++ e ∷ []) more (subst (λ (t : List Entry). is_trail vars clauses t ≡ true) (sym (append_assoc trail (e ∷ []) more)) h) in
-    (and_true (is_trail vars clauses trail) (may_follow vars clauses trail e) (sym (trail_more vars clauses trail e) ∙ longer)).0
-
-first_follows : (vars : ℕ) (clauses : List NumberedClause) (trail : List Entry) (e : Entry) (more : List Entry) → is_trail vars clauses (trail ++ e ∷ more) ≡ true → may_follow vars clauses trail e ≡ true
-first_follows vars clauses trail e more h =
-    let longer = trail_prefix vars clauses (trail ++ e ∷ []) more (subst (λ (t : List Entry). is_trail vars clauses t ≡ true) (sym (append_assoc trail (e ∷ []) more)) h) in
-    (and_true (is_trail vars clauses trail) (may_follow vars clauses trail e) (sym (trail_more vars clauses trail e) ∙ longer)).1
 
 quiet_forces_none : (p : Propagation) (e : Entry) → IsPropagation p → is_quiet (assigned p) p.clauses ≡ true → may_follow p.vars p.clauses p.trail e ≡ true → is_some e.reason ≡ true → ⊥
 quiet_forces_none p e h quiet may forced = at e.reason forced reason
@@ -302,11 +196,6 @@ opened_state clauses path path' s s' e o made =
       };
     })
 
--- an unset literal may open a level
-pub may_open : (vars : ℕ) (clauses : List NumberedClause) (trail : List Entry) (e : Entry) → is_literal vars e.lit ≡ true → entry_of trail (variable e.lit) ≡ None
-    → e.level ≡ present_level trail + 1 → e.reason ≡ None → may_follow vars clauses trail e ≡ true
-may_open vars clauses trail e lit none n reason = rw (lit, none, reason, eq-eqb e.level (present_level trail + 1) n) refl
-
 -- what is known where a literal is assigned: nothing was forced, and all was passed on
 pub record IsReady (clauses : List NumberedClause) (path path' : Path) (s' : State) (e : Entry) : Type 0 where
   pub same : path' ≡ path
@@ -332,7 +221,3 @@ ready clauses path path' s s' result e h leads done quiet lit none level reason 
       may = may_open path'.vars clauses path'.entries e (subst (λ (q : Path). is_literal q.vars e.lit ≡ true) (sym same) lit)
           (subst (λ (q : Path). entry_of q.entries (variable e.lit) ≡ None) (sym same) none) level reason;
     }
-
-pub unset_none : (o : Option Entry) → IsNone (option_map (λ (e : Entry). is_positive e.lit) o) → o ≡ None
-unset_none None h = refl
-unset_none (Some e) h = absurd (let f : ⊥ = cc in f)

@@ -1,5 +1,5 @@
 -- What a propagator holds at the start.
-use Rattle.std.proofs.Common.{◌≡◌, ℕ, ◌<◌, ◌≤◌, Bool, true, false, not, cond, ◌&&◌, ◌==◌, List, [], ◌∷◌, ◌++◌, ◌∙◌, sym, refl, arith, length, map, filter, nat_le, nat_lt}
+use Rattle.std.proofs.Common.{◌≡◌, ℕ, ◌<◌, ◌≤◌, Bool, true, false, not, cond, ◌&&◌, ◌==◌, List, [], ◌∷◌, ◌++◌, ◌∙◌, sym, refl, arith, length, map, filter, nat_le, nat_lt, ap, subst}
 use Rattle.std.specs.List.{list_all}
 use Rattle.std.proofs.lemmas.Bool.{le-leb, leb-true, eqb-true, eq-eqb, ltb-true, false_from_ne_true, not-true}
 use Rattle.lk_model.specs.Lists.{among, is_empty, rises_within}
@@ -11,7 +11,8 @@ use Rattle.lk_model.proofs.Booleans.{and_true, or_left, or_right}
 use Rattle.lk_model.proofs.Clauses.{form_at}
 use Rattle.lk_model.proofs.Crossings.{clause_crossed}
 use Rattle.watch_prop.specs.declared.entry.NumberedClause.{NumberedClause}
-use Rattle.watch_prop.specs.Propagation.{IsPropagation, numbers_of, are_distinct}
+use Rattle.watch_prop.specs.declared.entry.Entry.{Entry}
+use Rattle.watch_prop.specs.Propagation.{Propagation, IsPropagation, numbers_of, are_distinct}
 use Rattle.watch_prop.specs.Trail.{is_trail}
 
 -- CROSSED CLAUSES
@@ -83,6 +84,15 @@ propagation_at_start F blocked ps form few part = record {
   numbers = crossed_are_distinct F blocked 0 (length F.clauses) ps part;
   trail = refl;
 }
+
+-- what has the same parts keeps the same
+pub held_as_seen : (p : Propagation) (vars : ℕ) (clauses : List NumberedClause) → p.vars ≡ vars → p.clauses ≡ clauses → p.trail ≡ []
+    → IsPropagation (record { vars = vars; clauses = clauses; trail = [] }) → IsPropagation p
+held_as_seen p vars clauses v c t h = subst IsPropagation (sym same) h
+  where
+    same : p ≡ record { vars = vars; clauses = clauses; trail = [] }
+    same = ap (λ (n : ℕ). record p { vars = n }) v ∙ ap (λ (cs : List NumberedClause). record p { vars = vars; clauses = cs }) c
+        ∙ ap (λ (es : List Entry). record { vars = vars; clauses = clauses; trail = es }) t
 
 -- ONE CLAUSE AFTER ANOTHER
 

@@ -20,7 +20,7 @@ use Rattle.watch_prop.specs.Linked.{clause_at_place, watch_at}
 use Rattle.watch_prop.specs.States.{IsState, Leads, IsAtHead}
 use Rattle.watch_prop.proofs.Truths.{same_true, false_apart, no_sign_twice}
 use Rattle.watch_prop.proofs.Lists.{among_at}
-use Rattle.watch_prop.proofs.Trails.{may_force, trail_path}
+use Rattle.watch_prop.proofs.Trails.{may_come_of, may_force, trail_path}
 use Rattle.watch_prop.proofs.States.{MayMove, stays_leads, forced_leads}
 use Rattle.watch_prop.proofs.Settling.{head_false}
 use Rattle.watch_prop.proofs.Linking.{IsMove, InList, in_list}
@@ -112,9 +112,6 @@ may_move clauses path s place l r n at c d =
     }
 
 -- A LITERAL FORCED
-
-pub may_come_of : (vars : ℕ) (clauses : List NumberedClause) (trail : List Entry) (e : Entry) → may_follow vars clauses trail e ≡ true → may_come vars trail e ≡ true
-may_come_of vars clauses trail e h = (and_true (may_come vars trail e) _ h).0
 
 -- a clause that has a literal which is not false, where each other one is
 pub record Forces (clauses : List NumberedClause) (path : Path) (place : ℕ) (l : ℤ) : Type 0 where

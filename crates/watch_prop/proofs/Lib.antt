@@ -1,7 +1,10 @@
-mod Paths
-mod Truths
+pub mod Paths
+pub mod Truths
 mod Lists
 pub mod Trails
+pub mod Along
+pub mod Units
+pub mod Levels
 mod Upheld
 mod States
 mod Settling

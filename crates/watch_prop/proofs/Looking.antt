@@ -1,24 +1,20 @@
 -- A clause that waits and is looked at.
-use Rattle.std.proofs.Common.{◌≡◌, ◌∙◌, ℕ, ◌+◌, ◌-◌, ◌<◌, ◌≤◌, ◌++◌, ◌∷◌, [], true, false, not, List, ℤ, pos, Some, length, get_or, set, refl, sym, ap, subst, arith}
-use Rattle.std.specs.List.{list_any, list_all, swap_remove}
-use Rattle.std.specs.Ordering.{int_eq}
+use Rattle.std.proofs.Common.{◌≡◌, ◌∙◌, ℕ, ◌+◌, ◌<◌, true, List, ℤ, length, get_or, refl, ap, subst, arith}
+use Rattle.std.specs.List.{list_all}
 use Rattle.std.proofs.lemmas.List.{get_or_read}
 use Rattle.std.proofs.lemmas.Bool.{not-true}
-use Rattle.lk_model.specs.Lists.{among}
-use Rattle.lk_model.specs.Formulas.Literal.{contains, is_literal}
+use Rattle.lk_model.specs.Formulas.Literal.{is_literal}
 use Rattle.lk_model.proofs.ListTests.{passes_one}
 use Rattle.watch_prop.specs.declared.entry.NumberedClause.{NumberedClause}
 use Rattle.watch_prop.specs.declared.watch.Watch.{Watch}
 use Rattle.watch_prop.specs.declared.watch.Found.{Found}
 use Rattle.watch_prop.specs.declared.watch.Found.TheVariants.{One, Two}
 use Rattle.watch_prop.specs.declared.state.State.{State}
-use Rattle.watch_prop.specs.Trail.{Path, true_in, false_in}
+use Rattle.watch_prop.specs.Trail.{Path, true_in}
 use Rattle.watch_prop.specs.Watch.{IsFound}
-use Rattle.watch_prop.specs.Watchers.{Watchers}
 use Rattle.watch_prop.specs.Linked.{clause_at_place}
-use Rattle.watch_prop.specs.States.{IsState, Leads, next_waiting, unseen}
-use Rattle.watch_prop.proofs.Truths.{false_apart}
-use Rattle.watch_prop.proofs.States.{Keeps, ListsNext, kept_leads, listed_upholds, one_satisfied}
+use Rattle.watch_prop.specs.States.{IsState, Leads, next_waiting}
+use Rattle.watch_prop.proofs.States.{ListsNext, kept_leads, listed_upholds, one_satisfied}
 use Rattle.watch_prop.proofs.Lists.{among_at, length-swap_remove}
 use Rattle.watch_prop.proofs.Demands.{clause_of, literals_of_clause, Forces, IsForced}
 use Rattle.watch_prop.proofs.Listing.{IsListing, listed_linked}

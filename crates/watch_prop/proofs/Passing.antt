@@ -1,5 +1,5 @@
 -- The literal at the head of the trail, passed on to the clauses that watch its complement.
-use Rattle.std.proofs.Common.{◌≡◌, ◌≢◌, ◌∙◌, ℕ, zero, suc, ◌+◌, ◌-◌, ◌<◌, ◌≤◌, ◌==◌, ◌++◌, ◌∷◌, [], true, false, not, List, ℤ, pos, negsuc, Some, None, Option, unwrap_or, option_map, length, length-append, drop, take, get_or, refl, sym, ap, subst, arith, inl, inr, ◌⊎◌, Vec}
+use Rattle.std.proofs.Common.{◌≡◌, ◌≢◌, ◌∙◌, ℕ, zero, suc, ◌+◌, ◌-◌, ◌<◌, ◌≤◌, ◌==◌, ◌++◌, ◌∷◌, [], true, false, not, List, ℤ, pos, Some, length, length-append, drop, take, get_or, refl, sym, ap, subst, arith, inl, inr, ◌⊎◌, Vec}
 use Rattle.std.specs.declared.alloc.Global.{Global}
 use Rattle.std.specs.Option.{option_map_or}
 use Rattle.std.specs.List.{list_all}
@@ -7,26 +7,25 @@ use Rattle.std.specs.Ordering.{int_eq}
 use Rattle.std.proofs.lemmas.Bool.{cases_Bool, cases_eq, eqb-true, false_from_ne_true}
 use Rattle.std.proofs.lemmas.List.{take-append-le}
 use Rattle.lk_model.specs.Lists.{among}
-use Rattle.lk_model.specs.Formulas.Literal.{variable, complement, is_literal, is_positive}
-use Rattle.lk_model.specs.Formulas.Assignment.{makes_true}
-use Rattle.lk_model.proofs.Booleans.{and_true, or_true, or_false}
+use Rattle.lk_model.specs.Formulas.Literal.{complement, is_literal}
+use Rattle.lk_model.proofs.Booleans.{or_true, or_false}
 use Rattle.lk_model.proofs.Ranks.{literal_bounds}
-use Rattle.lk_model.proofs.Flags.{same_false}
-use Rattle.lk_model.proofs.Literals.{complement_twice, variable_complement, same_int, complement_literal}
+use Rattle.lk_model.proofs.Literals.{complement_twice, same_int, complement_literal}
 use Rattle.watch_prop.specs.declared.entry.Entry.{Entry}
 use Rattle.watch_prop.specs.declared.entry.NumberedClause.{NumberedClause}
 use Rattle.watch_prop.specs.declared.watch.Watch.{Watch}
 use Rattle.watch_prop.specs.declared.state.State.{State}
 use Rattle.watch_prop.specs.declared.state.Settled.{Settled}
 use Rattle.watch_prop.specs.declared.state.Settled.TheVariants.{Stays, Moves}
-use Rattle.watch_prop.specs.Trail.{Path, literals_of, true_in, false_in, entry_of, assignment_along, clause_numbered, may_come, is_path}
+use Rattle.watch_prop.specs.Trail.{Path, literals_of, true_in, false_in, clause_numbered}
 use Rattle.watch_prop.specs.Watch.{is_upheld}
 use Rattle.watch_prop.specs.Watchers.{watchers}
 use Rattle.watch_prop.specs.Linked.{clause_at_place, watch_at, watches_it}
 use Rattle.watch_prop.specs.Propagation.{assigned, is_false}
 use Rattle.watch_prop.specs.States.{IsState, IsAtHead, Settles, Leads, propagation_of, unseen}
-use Rattle.watch_prop.proofs.Truths.{ComeAfter, true_by_entry, same_true}
-use Rattle.watch_prop.proofs.Trails.{trail_path, entry_there, found_by_number}
+use Rattle.watch_prop.proofs.Truths.{same_true}
+use Rattle.watch_prop.proofs.Along.{false_along, literal_on_path}
+use Rattle.watch_prop.proofs.Trails.{trail_path, found_by_number}
 use Rattle.watch_prop.proofs.Upheld.{free, upheld_first, upheld_second, upheld_free, upheld_more}
 use Rattle.watch_prop.proofs.States.{leads_then, stays_leads}
 use Rattle.watch_prop.proofs.Linking.{InList, in_list}
@@ -35,39 +34,6 @@ use Rattle.watch_prop.proofs.Demands.{clause_of, literals_of_clause}
 use Rattle.watch_prop.proofs.Lists.{among_at}
 
 -- A FALSE CLAUSE
-
-pub makes_true_along : (vars : ℕ) (trail : List Entry) (l : ℤ) → is_path vars trail ≡ true → 0 < variable l → makes_true (assignment_along trail) l ≡ true_in trail l
-makes_true_along vars trail l h low = same l low ∙ true_by_entry vars trail l h low
-  where
-    at_pos : (v : ℕ) (o : Option Entry) → entry_of trail v ≡ o → unwrap_or (option_map (λ (e : Entry). is_positive e.lit) o) false ≡ option_map_or (λ (e : Entry). int_eq e.lit (pos v)) o false
-    at_pos v None f = refl
-    at_pos v (Some e) f = sign e.lit (entry_there trail v e f).on
-      where
-        sign : (k : ℤ) → variable k ≡ v → is_positive k ≡ int_eq k (pos v)
-        sign (pos a) s = sym (same_true (pos a) (pos v) (ap pos s))
-        sign (negsuc a) s = sym (same_false (negsuc a) (pos v) (λ t. (let f : ⊥ = cc in f)))
-
-    at_neg : (k : ℕ) (o : Option Entry) → entry_of trail (suc k) ≡ o → not (unwrap_or (option_map (λ (e : Entry). is_positive e.lit) o) true) ≡ option_map_or (λ (e : Entry). int_eq e.lit (negsuc k)) o false
-    at_neg k None f = refl
-    at_neg k (Some e) f = sign e.lit (entry_there trail (suc k) e f).on
-      where
-        sign : (x : ℤ) → variable x ≡ suc k → not (is_positive x) ≡ int_eq x (negsuc k)
-        sign (pos a) s = sym (same_false (pos a) (negsuc k) (λ t. (let f : ⊥ = cc in f)))
-        sign (negsuc a) s = sym (same_true (negsuc a) (negsuc k) (ap negsuc (let n : a ≡ k = omega (arith, s) in n)))
-
-    same : (l : ℤ) → 0 < variable l → makes_true (assignment_along trail) l ≡ option_map_or (λ (e : Entry). int_eq e.lit l) (entry_of trail (variable l)) false
-    same (pos v) low = at_pos v (entry_of trail v) refl
-    same (negsuc k) low = at_neg k (entry_of trail (suc k)) refl
-
-pub false_along : (vars : ℕ) (trail : List Entry) (c : List ℤ) → is_path vars trail ≡ true → list_all (is_literal vars) c ≡ true → list_all (false_in trail) c ≡ true
-    → is_false (assignment_along trail) c ≡ true
-false_along vars trail [] h lits all = refl
-false_along vars trail (l ∷ c) h lits all =
-    let lit = and_true (is_literal vars l) (list_all (is_literal vars) c) lits in
-    let here = and_true (false_in trail l) (list_all (false_in trail) c) all in
-    let bounds = literal_bounds vars l lit.0 in
-    let low : 0 < variable (complement l) = omega (arith, bounds.0, variable_complement l) in
-    rw (makes_true_along vars trail (complement l) h low, here.0) (false_along vars trail c h lit.1 here.1)
 
 -- the clause of the number is false
 pub conflict_named : (clauses : List NumberedClause) (path : Path) (s : State) (place number : ℕ) → IsState clauses path s → place < length clauses → number ≡ (clause_at_place clauses place).number
@@ -80,19 +46,6 @@ conflict_named clauses path s place number h lt same all =
     rw found (false_along path.vars path.entries c (trail_path path.vars clauses path.entries h.propagation.trail) is_clause all)
 
 -- LITERALS OF A PATH
-
-literals_come : (vars : ℕ) (earlier rest : List Entry) (k : ℤ) → ComeAfter vars earlier rest → true_in rest k ≡ true → is_literal vars k ≡ true
-literals_come vars earlier [] k h there = absurd (let f : ⊥ = cc in f)
-literals_come vars earlier (e ∷ rest) k h there =
-    let both = and_true (may_come vars earlier e) _ h in
-    elim (or_true (int_eq k e.lit) (true_in rest k) there) [
-      | inl y ↦ (let c = and_true _ _ both.0 in subst (λ (x : ℤ). is_literal vars x ≡ true) (sym (same_int k e.lit y)) (and_true (is_literal vars e.lit) _ c.0).0)
-      | inr y ↦ literals_come vars (earlier ++ e ∷ []) rest k both.1 y
-    ]
-
-pub literal_on_path : (vars : ℕ) (trail : List Entry) (k : ℤ) → is_path vars trail ≡ true → true_in trail k ≡ true → is_literal vars k ≡ true
-unfolding is_path
-literal_on_path vars trail k h there = literals_come vars [] trail k h there
 
 -- PASSING ON
 

@@ -1,15 +1,14 @@
 -- When no clause is left to be looked at and the whole trail was passed on, nothing is false and nothing is forced.
-use Rattle.std.proofs.Common.{◌≡◌, ◌≢◌, ◌∙◌, ℕ, ◌<◌, ◌==◌, ◌∷◌, [], Bool, true, false, not, ◌&&◌, List, ℤ, Option, is_some, option_map, length, filter, refl, sym, ap, subst, arith, inl, inr}
+use Rattle.std.proofs.Common.{◌≡◌, ◌≢◌, ◌∙◌, ℕ, ◌<◌, ◌==◌, [], Bool, true, false, not, ◌&&◌, List, ℤ, Option, is_some, option_map, length, filter, refl, sym, ap, subst, arith, inl, inr}
 use Rattle.std.specs.Ordering.{int_eq}
 use Rattle.std.proofs.lemmas.Bool.{cases_Bool, eqb-true, false_from_ne_true, not-true}
 use Rattle.lk_model.specs.Formulas.Literal.{variable, complement, contains, is_clause, is_positive}
 use Rattle.lk_model.specs.Formulas.Assignment.{makes_true, satisfies}
 use Rattle.lk_model.specs.Lists.{among}
-use Rattle.lk_model.proofs.Booleans.{or_true}
 use Rattle.lk_model.proofs.Variables.{literal_passing}
 use Rattle.lk_model.proofs.ListTests.{passes_one, passes_each}
 use Rattle.lk_model.proofs.Ranks.{literal_bounds}
-use Rattle.lk_model.proofs.Literals.{variable_complement, same_int}
+use Rattle.lk_model.proofs.Literals.{variable_complement}
 use Rattle.watch_prop.specs.declared.entry.Entry.{Entry}
 use Rattle.watch_prop.specs.declared.entry.NumberedClause.{NumberedClause}
 use Rattle.watch_prop.specs.declared.watch.Watch.{Watch}
@@ -27,38 +26,8 @@ use Rattle.watch_prop.proofs.Trails.{trail_path, unset_entry_of}
 use Rattle.watch_prop.proofs.Lists.{place_of}
 use Rattle.watch_prop.proofs.Upheld.{free}
 use Rattle.watch_prop.proofs.Demands.{all_from, clause_of, literal_of_clause}
-use Rattle.watch_prop.proofs.Passing.{makes_true_along}
-
-some_pass : (p : ℤ → Bool) (c : List ℤ) (a : ℤ) → contains c a ≡ true → p a ≡ true → 0 < length (filter p c)
-some_pass p [] a there h = absurd (let f : ⊥ = cc in f)
-some_pass p (l ∷ c) a there h = elim (cases_Bool (p l)) [
-  | inl y ↦ rw y (omega arith)
-  | inr y ↦ elim (or_true (int_eq a l) (contains c a) there) [
-    | inl z ↦ absurd (let f : true ≡ false = sym (subst (λ (k : ℤ). p k ≡ true) (same_int a l z) h) ∙ y in let q : ⊥ = cc in q)
-    | inr z ↦ rw y (some_pass p c a z h)
-  ]
-]
-
--- two different ones that pass are more than one
-two_pass : (p : ℤ → Bool) (c : List ℤ) (a b : ℤ) → contains c a ≡ true → contains c b ≡ true → a ≢ b → p a ≡ true → p b ≡ true → 1 < length (filter p c)
-two_pass p [] a b in_a in_b n pa pb = absurd (let f : ⊥ = cc in f)
-two_pass p (l ∷ c) a b in_a in_b n pa pb = elim (cases_Bool (p l)) [
-  | inl y ↦
-      let some : 0 < length (filter p c) = elim (or_true (int_eq a l) (contains c a) in_a) [
-        | inl z ↦ elim (or_true (int_eq b l) (contains c b) in_b) [
-          | inl x ↦ absurd (n (same_int a l z ∙ sym (same_int b l x)))
-          | inr x ↦ some_pass p c b x pb
-        ]
-        | inr z ↦ some_pass p c a z pa
-      ] in
-      rw y (omega (arith, some))
-  | inr y ↦
-      let later : (k : ℤ) → p k ≡ true → contains (l ∷ c) k ≡ true → contains c k ≡ true = λ k pk there. elim (or_true (int_eq k l) (contains c k) there) [
-        | inl z ↦ absurd (let f : true ≡ false = sym (subst (λ (x : ℤ). p x ≡ true) (same_int k l z) pk) ∙ y in let q : ⊥ = cc in q)
-        | inr z ↦ z
-      ] in
-      rw y (two_pass p c a b (later a pa in_a) (later b pb in_b) n pa pb)
-]
+use Rattle.watch_prop.proofs.Along.{makes_true_along}
+use Rattle.watch_prop.proofs.Units.{two_pass}
 
 -- A CLAUSE WITH A TRUE LITERAL, OR WITH TWO THAT ARE UNSET
 

@@ -1,8 +1,8 @@
 -- States of propagation, and what leads from one to the next.
-use Rattle.std.proofs.Common.{◌≡◌, ◌≢◌, ℕ, ◌+◌, ◌<◌, ◌≤◌, true, false, cond, not, List, [], ◌∷◌, ◌++◌, refl, sym, ◌∙◌, ap, subst, arith, ℤ, Some, length, length-append, take, set, get_or-set_other, get_or-set_same, nat_le, inl, inr, Vec, vec_capacity}
+use Rattle.std.proofs.Common.{◌≡◌, ◌≢◌, ℕ, ◌+◌, ◌<◌, ◌≤◌, true, false, not, List, [], ◌∷◌, ◌++◌, refl, sym, ◌∙◌, ap, subst, arith, ℤ, Some, length, length-append, take, set, get_or-set_other, get_or-set_same, inl, inr, Vec, vec_capacity}
 use Rattle.std.specs.declared.alloc.Global.{Global}
 use Rattle.std.specs.List.{swap_remove}
-use Rattle.std.proofs.lemmas.Bool.{cases_eq, not-true, lt-leb}
+use Rattle.std.proofs.lemmas.Bool.{cases_eq, not-true}
 use Rattle.std.proofs.lemmas.List.{take-append-le}
 use Rattle.lk_model.specs.Lists.{among}
 use Rattle.lk_model.specs.Formulas.Literal.{complement}
@@ -18,13 +18,10 @@ use Rattle.watch_prop.specs.Propagation.{are_distinct}
 use Rattle.watch_prop.specs.Linked.{IsLinked, clause_at_place, watch_at, watches_it, moved}
 use Rattle.watch_prop.specs.States.{IsState, IsKnown, IsKnownBelow, AreUpheld, Leads, propagation_of, mark_at, waiting_at, next_waiting, has_true}
 use Rattle.watch_prop.proofs.Paths.{last_level}
+use Rattle.watch_prop.proofs.Levels.{level_more}
 use Rattle.watch_prop.proofs.Trails.{propagation_more, goes_on_one, goes_on_start, goes_on_then}
 use Rattle.watch_prop.proofs.Upheld.{upheld_more, upheld_free, moved_upheld, not_there, part_whole, part_take, part_level, part_more, IsPart}
 use Rattle.watch_prop.proofs.Lists.{AreLeft, are_left, swap_remove_before}
-
-pub level_more : (level : ℕ) (trail : List Entry) (e : Entry) → level < e.level → up_to_level level (trail ++ e ∷ []) ≡ up_to_level level trail
-level_more level [] e lt = rw (lt-leb e.level level lt) refl
-level_more level (d ∷ trail) e lt = ap (λ (t : List Entry). cond (nat_le d.level level) (d ∷ t) t) (level_more level trail e lt)
 
 -- LONGER TRAILS
 

@@ -1,5 +1,6 @@
 -- Trails over clauses: with one more entry, and with one more clause.
-use Rattle.std.proofs.Common.{◌≡◌, ℕ, zero, suc, ◌<◌, ◌≤◌, Bool, true, false, cond, not, ◌&&◌, ◌||◌, ◌==◌, List, [], ◌∷◌, ◌++◌, refl, sym, ◌∙◌, ap, subst, arith, ℤ, Option, Some, None, is_some, find, length, option_map, nat_le, append_assoc, inl, inr}
+use Rattle.std.proofs.Common.{◌≡◌, ℕ, zero, suc, ◌<◌, ◌≤◌, Bool, true, false, cond, not, ◌&&◌, ◌||◌, ◌==◌, List, [], ◌∷◌, ◌++◌, refl, sym, ◌∙◌, ap, subst, arith, ℤ, Option, Some, None, is_some, find, length, option_map, nat_le, append_assoc, inl, inr, ◌+◌, IsNone, IfSome, IsSome}
+use Rattle.std.specs.Prelude.{option_and_then}
 use Rattle.std.specs.Option.{option_map_or}
 use Rattle.std.specs.List.{list_all}
 use Rattle.std.specs.Ordering.{int_eq}
@@ -7,12 +8,12 @@ use Rattle.std.proofs.lemmas.Bool.{leb-true, eqb-true, eq-eqb, cases_Bool, false
 use Rattle.std.proofs.lemmas.List.{append-nil}
 use Rattle.std.proofs.lemmas.List.Folds.{list_all-append}
 use Rattle.lk_model.specs.Lists.{with_earlier, among, is_empty}
-use Rattle.lk_model.specs.Formulas.Literal.{variable, contains, is_literal, is_clause}
+use Rattle.lk_model.specs.Formulas.Literal.{variable, contains, is_literal, is_clause, is_positive}
 use Rattle.lk_model.proofs.Booleans.{and_true, or_left, or_right}
 use Rattle.lk_model.proofs.ListTests.{all_weaker, all_more}
 use Rattle.watch_prop.specs.declared.entry.Entry.{Entry}
 use Rattle.watch_prop.specs.declared.entry.NumberedClause.{NumberedClause}
-use Rattle.watch_prop.specs.Trail.{literals_of, true_in, false_in, entry_of, level_of, present_level, clause_numbered, forces, has_reason, may_come, may_follow, is_path, is_trail}
+use Rattle.watch_prop.specs.Trail.{literals_of, reason_of, true_in, false_in, entry_of, level_of, present_level, clause_numbered, forces, has_reason, may_come, may_follow, is_path, is_trail, reason_of}
 use Rattle.watch_prop.specs.Propagation.{Propagation, IsPropagation, GoesOn, numbers_of, are_distinct}
 use Rattle.watch_prop.specs.Linked.{clause_at_place}
 use Rattle.watch_prop.proofs.Paths.{with_earlier_more, last_level, path_levels}
@@ -212,3 +213,62 @@ goes_on_then p q r g h =
       levels = list_all-append (λ (e : Entry). e.level == present_level p.trail && is_some e.reason) g.forced h.forced
           ∙ rw (g.levels) (subst (λ (n : ℕ). list_all (λ (e : Entry). e.level == n && is_some e.reason) h.forced ≡ true) level h.levels);
     }
+
+-- FIRST PARTS, AND ASSIGNED LITERALS
+
+-- what may follow may come
+pub may_come_of : (vars : ℕ) (clauses : List NumberedClause) (trail : List Entry) (e : Entry) → may_follow vars clauses trail e ≡ true → may_come vars trail e ≡ true
+may_come_of vars clauses trail e h = (and_true (may_come vars trail e) _ h).0
+
+-- a first part of a trail is one
+pub trail_prefix : (vars : ℕ) (clauses : List NumberedClause) (trail more : List Entry) → is_trail vars clauses (trail ++ more) ≡ true → is_trail vars clauses trail ≡ true
+trail_prefix vars clauses trail [] h = subst (λ (t : List Entry). is_trail vars clauses t ≡ true) (append-nil trail) h
+trail_prefix vars clauses trail (e ∷ more) h =
+    let longer = trail_prefix vars clauses (trail ++ e ∷ []) more (subst (λ (t : List Entry). is_trail vars clauses t ≡ true) (sym (append_assoc trail (e ∷ []) more)) h) in
+    (and_true (is_trail vars clauses trail) (may_follow vars clauses trail e) (sym (trail_more vars clauses trail e) ∙ longer)).0
+
+-- what comes next may follow it
+pub first_follows : (vars : ℕ) (clauses : List NumberedClause) (trail : List Entry) (e : Entry) (more : List Entry) → is_trail vars clauses (trail ++ e ∷ more) ≡ true → may_follow vars clauses trail e ≡ true
+first_follows vars clauses trail e more h =
+    let longer = trail_prefix vars clauses (trail ++ e ∷ []) more (subst (λ (t : List Entry). is_trail vars clauses t ≡ true) (sym (append_assoc trail (e ∷ []) more)) h) in
+    (and_true (is_trail vars clauses trail) (may_follow vars clauses trail e) (sym (trail_more vars clauses trail e) ∙ longer)).1
+
+-- an unset literal may open a level
+pub may_open : (vars : ℕ) (clauses : List NumberedClause) (trail : List Entry) (e : Entry) → is_literal vars e.lit ≡ true → entry_of trail (variable e.lit) ≡ None
+    → e.level ≡ present_level trail + 1 → e.reason ≡ None → may_follow vars clauses trail e ≡ true
+may_open vars clauses trail e lit none n reason = rw (lit, none, reason, eq-eqb e.level (present_level trail + 1) n) refl
+
+-- a variable without a value has no entry
+pub unset_none : (o : Option Entry) → IsNone (option_map (λ (e : Entry). is_positive e.lit) o) → o ≡ None
+unset_none None h = refl
+unset_none (Some e) h = absurd (let f : ⊥ = cc in f)
+
+-- THE CLAUSE OF A REASON
+
+reason_among : (vars : ℕ) (clauses : List NumberedClause) (earlier rest : List Entry) (v : ℕ) (r : Option ℕ)
+    → list_all (λ (before, e). may_follow vars clauses before e) (with_earlier earlier rest) ≡ true → r ≡ reason_of rest v
+    → IfSome r (λ k. IsSome (clause_numbered clauses k))
+reason_among vars clauses earlier [] v r h e = subst (λ (o : Option ℕ). IfSome o (λ k. IsSome (clause_numbered clauses k))) (sym e) tt
+reason_among vars clauses earlier (d ∷ rest) v r h e =
+    let both = and_true (may_follow vars clauses earlier d) _ h in
+    at (variable d.lit == v) e (and_true (may_come vars earlier d) (has_reason clauses earlier d) both.0).1
+    (reason_among vars clauses (earlier ++ d ∷ []) rest v r both.1)
+  where
+    held : (k : ℕ) (o : Option (List ℤ)) → option_map_or (λ c. forces c earlier d.lit) o false ≡ true → IsSome o
+    held k None h = absurd (let z : ⊥ = cc in z)
+    held k (Some c) h = refl
+
+    its : (o : Option ℕ) → option_map_or (λ k. option_map_or (λ c. forces c earlier d.lit) (clause_numbered clauses k) false) o true ≡ true
+        → IfSome o (λ k. IsSome (clause_numbered clauses k))
+    its None h = tt
+    its (Some k) h = held k (clause_numbered clauses k) h
+
+    at : (b : Bool) → r ≡ option_and_then (λ (x : Entry). x.reason) (cond b (Some d) (entry_of rest v)) → has_reason clauses earlier d ≡ true
+        → (r ≡ reason_of rest v → IfSome r (λ k. IsSome (clause_numbered clauses k))) → IfSome r (λ k. IsSome (clause_numbered clauses k))
+    at true e has later = subst (λ (o : Option ℕ). IfSome o (λ k. IsSome (clause_numbered clauses k))) (sym e) (its d.reason has)
+    at false e has later = later e
+
+-- a clause that is a reason is held
+pub reason_held : (p : Propagation) (v : ℕ) (r : Option ℕ) → IsPropagation p → r ≡ reason_of p.trail v → IfSome r (λ k. IsSome (clause_numbered p.clauses k))
+unfolding is_trail
+reason_held p v r h e = reason_among p.vars p.clauses [] p.trail v r h.trail e

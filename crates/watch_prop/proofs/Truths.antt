@@ -44,7 +44,7 @@ absent_or None p e = refl
 absent_or (Some d) p e = absurd (let f : ⊥ = cc in f)
 
 -- a literal that comes later has a variable that is unset before
-absent_before : (vars : ℕ) (earlier rest : List Entry) (l : ℤ) → ComeAfter vars earlier rest → contains (literals_of rest) l ≡ true → entry_of earlier (variable l) ≡ None
+pub absent_before : (vars : ℕ) (earlier rest : List Entry) (l : ℤ) → ComeAfter vars earlier rest → contains (literals_of rest) l ≡ true → entry_of earlier (variable l) ≡ None
 absent_before vars earlier [] l h there = absurd (let f : ⊥ = cc in f)
 absent_before vars earlier (e ∷ rest) l h there =
     let both = and_true (may_come vars earlier e) _ h in
@@ -61,7 +61,7 @@ here_not_none earlier e v s n = at (entry_of earlier v) (sym (entry_more earlier
     at (Some d) m = let g : ⊥ = cc in g
 
 -- no later literal is on the variable of an entry
-none_later : (vars : ℕ) (earlier rest : List Entry) (e : Entry) (l : ℤ) → ComeAfter vars (earlier ++ e ∷ []) rest → (variable e.lit == variable l) ≡ true → contains (literals_of rest) l ≡ false
+pub none_later : (vars : ℕ) (earlier rest : List Entry) (e : Entry) (l : ℤ) → ComeAfter vars (earlier ++ e ∷ []) rest → (variable e.lit == variable l) ≡ true → contains (literals_of rest) l ≡ false
 none_later vars earlier rest e l h s =
     false_from_ne_true (contains (literals_of rest) l) (λ t. here_not_none earlier e (variable l) s (absent_before vars (earlier ++ e ∷ []) rest l h t))
 

@@ -2,6 +2,7 @@
 #![tactic(auto)]
 
 mod entry;
+mod places;
 mod propagator;
 mod state;
 mod trail;

@@ -1,12 +1,13 @@
 //! Propagators.
-ghost use Rattle.std.specs.Prelude.{◌≡◌, ◌<◌, ◌≤◌, [], length, not, ◌&&◌, IfOk, OnOk, OnErr, IsTrue, IsNone};
+ghost use Rattle.std.specs.Prelude.{◌≡◌, ◌<◌, ◌≤◌, [], length, not, ◌&&◌, Some, IfOk, OnOk, OnErr, IsTrue, IfSome, IsNone, IsSome};
 ghost use Rattle.lk_model.specs.Lists.{among, is_empty};
 ghost use Rattle.lk_model.specs.Formulas.Literal.{variable, is_literal, is_clause};
 ghost use Rattle.lk_model.specs.Held.VariableSets.{IsCrossed};
-ghost use Rattle.watch_prop.specs.Trail.{literals_of, level_of, reason_of, present_level};
+ghost use Rattle.watch_prop.specs.Trail.{literals_of, level_of, reason_of, present_level, clause_numbered};
 ghost use Rattle.watch_prop.specs.Propagation.{Propagation, IsPropagation, assigned, numbers_of, crossed_clauses, is_quiet, IsAnswered, GoesOn, with_held, with_assigned, back_at, may_be_held};
 
 use crate::entry::{NumberedClause, Propagated};
+use crate::places::place_of;
 use crate::state::{State, propagate};
 use crate::trail::Trail;
 use crate::watch::Watch;
@@ -46,6 +47,7 @@ impl Propagator {
         ensures vars { IfOk result (λ p. p.vars ≡ over.now.formula.now.vars) }
         ensures clauses { IfOk result (λ p. p.clauses ≡ crossed_clauses over.now) }
         ensures trail { IfOk result (λ p. p.trail ≡ []) }
+        ensures held { IfOk result (λ p. IsPropagation p) }
     {
         let clauses = clauses_of(alloc, over)?;
         let mut propagator = Propagator::without_clauses(alloc, over.formula.vars())?;
@@ -86,6 +88,7 @@ impl Propagator {
     pub fn propagate(&mut self) -> Propagated
         ensures goes_on { GoesOn self.old self.new }
         ensures answer { IsAnswered self.new result }
+        ensures held { IsPropagation self.new }
     {
         propagate(&self.clauses, &mut self.trail, &mut self.state)
     }
@@ -134,9 +137,28 @@ impl Propagator {
     pub fn reason(&self, v: u32) -> Option<u64>
         requires first { 0 < v }
         requires last { v ≤ self.now.vars }
-        ensures { result ≡ reason_of self.now.trail v }
+        ensures value { result ≡ reason_of self.now.trail v }
+        ensures held { IfSome result (λ k. IsSome (clause_numbered self.now.clauses k)) }
     {
         self.trail.entry(v).and_then(|entry| entry.reason)
+    }
+
+    /// The level of the last true literal, 0 before the first.
+    pub fn present_level(&self) -> u32
+        ensures value { result ≡ present_level self.now.trail }
+        ensures most { result ≤ self.now.vars }
+    {
+        self.trail.level()
+    }
+
+    /// The literals of the clause of a number, as they were given. There must be such a clause.
+    pub fn clause(&self, number: u64) -> &[Lit]
+        requires { IsSome (clause_numbered self.now.clauses number) }
+        ensures { clause_numbered self.now.clauses number ≡ Some result.now }
+    {
+        self.clauses[place_of(&self.clauses, number)]
+            .lits
+            .as_slice()
     }
 
     // The propagator without a clause.

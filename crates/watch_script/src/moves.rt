@@ -5,7 +5,7 @@ ghost use Rattle.lk_model.specs.Formulas.Literal.{variable, is_literal};
 ghost use Rattle.watch_prop.specs.Propagation.{assigned, is_quiet, numbers_of};
 
 use crate::scans::Wanted;
-use crate::starts::{last_level, may_hold};
+use crate::starts::may_hold;
 use lk_model::Lit;
 use std::alloc::Global;
 use std::test::Fail;
@@ -123,7 +123,7 @@ pub(crate) fn retract(p: &mut Propagator, wanted: &mut Wanted, vars: u32, level:
     ensures vars { p.new.vars ≡ vars }
     ensures clauses { p.new.clauses ≡ p.old.clauses }
 {
-    let is_there = level <= last_level(p, vars);
+    let is_there = level <= p.present_level();
     if is_there {
         p.retract(level);
         wanted.chosen.truncate(level as usize);

@@ -4,7 +4,6 @@ ghost use Rattle.std.specs.List.{list_any};
 ghost use Rattle.lk_model.specs.Formulas.Literal.{complement, contains};
 ghost use Rattle.lk_model.specs.Formulas.Lean.{are_positions};
 ghost use Rattle.lk_model.specs.Lists.{among};
-ghost use Rattle.watch_prop.specs.Trail.{present_level};
 ghost use Rattle.watch_prop.specs.Propagation.{numbers_of, may_be_held};
 
 use lk_model::{Crossed, Formula, Lit, OutOfMemory, VarSet};
@@ -94,15 +93,4 @@ pub(crate) fn start_part(
         return Err(Fail::from("no part"));
     }
     Ok(start(alloc, f, part.as_slice(), &set)?)
-}
-
-/// The level of the last literal.
-pub(crate) fn last_level(p: &Propagator, vars: u32) -> u32
-    requires { p.now.vars ≡ vars }
-    ensures { result ≤ present_level p.now.trail }
-{
-    match p.trail().last() {
-        Some(l) if l.var() <= vars => p.level(l.var()).unwrap_or(0),
-        _ => 0,
-    }
 }

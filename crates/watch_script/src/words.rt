@@ -9,14 +9,16 @@
 //! | `retract N` | takes back what came above a level: whether there is so high a level |
 //! | `trail` | the true literals |
 //! | `end` | how many literals are true, and the level of the last one |
+//! | `level` | the present level |
 //! | `told V..` | of each of the variables its value, its level and its reason |
+//! | `why V` | the clause that forced a variable |
+//! | `clash` | propagates: `quiet`, or the clause that is false |
 ghost use Rattle.std.specs.Prelude.{◌≡◌, ◌<◌, ◌≤◌, ℕ, not, IsTrue};
 ghost use Rattle.lk_model.specs.Lists.{among};
 ghost use Rattle.watch_prop.specs.Propagation.{numbers_of};
 
 use crate::moves::{add, assign, assign_behind, retract};
 use crate::scans::Wanted;
-use crate::starts::last_level;
 use lk_model::Lit;
 use lk_samples::literals_of_text;
 use std::alloc::{AllocError, Global};
@@ -28,9 +30,9 @@ fn put(is_so: bool, out: &mut String) -> Result<(), AllocError> {
     writeln!(out, "{is_so}")
 }
 
-/// Writes the trail.
-fn put_trail(trail: &[Lit], out: &mut String) -> Result<(), AllocError> {
-    for l in trail {
+/// Writes literals.
+fn put_literals(lits: &[Lit], out: &mut String) -> Result<(), AllocError> {
+    for l in lits {
         write!(out, " {}", l.get())?;
     }
     writeln!(out)
@@ -72,6 +74,30 @@ fn put_told(p: &Propagator, vars: u32, text: &str, out: &mut String) -> Result<(
     Ok(())
 }
 
+/// Writes the clause that forced a variable.
+fn put_reason(p: &Propagator, vars: u32, v: u32, out: &mut String) -> Result<(), AllocError>
+    requires { p.now.vars ≡ vars }
+{
+    if v == 0 || v > vars {
+        return writeln!(out, "no variable");
+    }
+    match p.reason(v) {
+        Some(number) => put_literals(p.clause(number), out),
+        None => writeln!(out, "no reason"),
+    }
+}
+
+/// Propagates, and writes the clause that is false.
+fn put_clash(p: &mut Propagator, out: &mut String) -> Result<(), AllocError>
+    ensures vars { p.new.vars ≡ p.old.vars }
+    ensures clauses { p.new.clauses ≡ p.old.clauses }
+{
+    match p.propagate() {
+        Propagated::Quiet => writeln!(out, "quiet"),
+        Propagated::Conflict(number) => put_literals(p.clause(number), out),
+    }
+}
+
 /// Whether a text has the number.
 fn has(text: &str, number: u64) -> bool {
     for word in text.split_whitespace() {
@@ -109,9 +135,11 @@ fn put_seen(
     requires { p.now.vars ≡ vars }
 {
     match word {
-        "trail" => put_trail(p.trail(), out),
-        "end" => put_end(p.trail().len(), last_level(p, vars), out),
+        "trail" => put_literals(p.trail(), out),
+        "end" => put_end(p.trail().len(), p.present_level(), out),
+        "level" => writeln!(out, " {}", p.present_level()),
         "told" => put_told(p, vars, rest, out),
+        "why" => put_reason(p, vars, rest.parse().unwrap_or(0), out),
         _ => writeln!(out, "no move"),
     }
 }
@@ -175,6 +203,7 @@ fn put_moved(
 {
     match word {
         "propagate" => put_ending(p.propagate(), rest, out),
+        "clash" => put_clash(p, out),
         "retract" => put(retract(p, wanted, vars, rest.parse().unwrap_or(0)), out),
         _ => put_seen(p, vars, word, rest, out),
     }

@@ -12,10 +12,16 @@ pub mod KernelSizes
 pub mod Counted
 pub mod OwnLiterals
 pub mod Founds
+pub mod SignTables
+pub mod LinearEndings
 pub mod Protecting
 pub mod InputLaws
 pub mod EndingLaws
 pub mod Agreement
+pub mod ModelReads
+pub mod Extensions
 pub mod Outcomes
+pub mod ExtendOutcomes
+pub mod LinearOutcomes
 pub mod Streams
 pub mod InputStops

@@ -79,12 +79,12 @@ result_at words shelf r s written said asked is h = subst (λ (o : Option Reques
     by Memory is h = absurd (let f : ⊥ = cc is in f)
 
 -- of an ending with this number, where it is that of a result
-result_of : (words : List Word) (shelf : Shelved) (out say : Sunk) (r : Request) (n : ℕ) (e : Ends words shelf out say n) → request_of words ≡ Some r → IsTrue (is_result (numbered n)) → HasResult r shelf.told (numbered n) e.written e.said
+pub result_of : (words : List Word) (shelf : Shelved) (out say : Sunk) (r : Request) (n : ℕ) (e : Ends words shelf out say n) → request_of words ≡ Some r → IsTrue (is_result (numbered n)) → HasResult r shelf.told (numbered n) e.written e.said
 result_of words shelf out say r n e asked is =
     result_at words shelf r (numbered n) e.written e.said asked is (subst (λ (s : Status). Allows words shelf s e.written e.said) (one_status e.status n e.answer_is) e.allowed)
 
 -- a status is that of a result that may come, or one of a stop
-only : (words : List Word) (shelf : Shelved) (r : Request) (s : Status) (written said : List ℕ) (may : List ℕ) → request_of words ≡ Some r → Allows words shelf s written said
+pub only : (words : List Word) (shelf : Shelved) (r : Request) (s : Status) (written said : List ℕ) (may : List ℕ) → request_of words ≡ Some r → Allows words shelf s written said
     → (IsTrue (is_result s) → HasResult r shelf.told s written said → IsTrue (list_any (nat_eq (code s)) may)) → IsTrue (list_any (nat_eq 2) may) → IsTrue (list_any (nat_eq 3) may) → IsTrue (list_any (nat_eq 9) may)
     → IsTrue (list_any (nat_eq (code s)) may)
 only words shelf r s written said may asked h result two three nine = by s h result
@@ -103,7 +103,7 @@ only words shelf r s written said may asked h result two three nine = by s h res
 
 -- REDUCE
 
-reduces_to : (told : Option (List ℕ)) (class : Class) (F : Cnf) (options : Options) (text : List ℕ) → IfSome told (λ bytes. Spells bytes F) → WritesReduction F class options.protect options.pivots text → IfSome told (λ bytes. ReducesTo bytes class options.protect options.pivots text)
+pub reduces_to : (told : Option (List ℕ)) (class : Class) (F : Cnf) (options : Options) (text : List ℕ) → IfSome told (λ bytes. Spells bytes F) → WritesReduction F class options.protect options.pivots text → IfSome told (λ bytes. ReducesTo bytes class options.protect options.pivots text)
 reduces_to None class F options text s w = tt
 reduces_to (Some bytes) class F options text s w = record { formula = F; spells = s; writes = w }
 
@@ -112,7 +112,7 @@ spelled : (told : Option (List ℕ)) → IsFormulaText told → (F : Cnf) × IsS
 spelled None h = absurd h
 spelled (Some bytes) h = let s = (fault_law.none bytes).0 h in (s.0, refl, s.1)
 
-not_spelled : (told : Option (List ℕ)) → IsNoFormulaText told → IsSomeAnd told (λ bytes. (F : Cnf) → Spells bytes F → ⊥)
+pub not_spelled : (told : Option (List ℕ)) → IsNoFormulaText told → IsSomeAnd told (λ bytes. (F : Cnf) → Spells bytes F → ⊥)
 not_spelled None h = h
 not_spelled (Some bytes) h = λ F s. h (faultless bytes F s)
 
@@ -199,7 +199,7 @@ checked_status verdict.Accepted = refl
 checked_status (verdict.Unfinished learned) = refl
 checked_status (verdict.No why) = refl
 
-refuses_some : (formula document : Option (List ℕ)) → IsFormulaText formula × IsNoDocumentText document → (F : Cnf) × IsSomeAnd formula (λ bytes. Spells bytes F)
+pub refuses_some : (formula document : Option (List ℕ)) → IsFormulaText formula × IsNoDocumentText document → (F : Cnf) × IsSomeAnd formula (λ bytes. Spells bytes F)
 refuses_some None document h = absurd h.0
 refuses_some (Some bytes) document h = (fault_law.none bytes).0 h.0
 

@@ -42,7 +42,7 @@ own_placed F own i d form all lt =
 -- THE SET LINE
 
 -- what a list holds place by place is chosen from these places
-chosen : (h : ℕ → Option ℤ) (table : List (Option ℤ)) (a : ℕ) → ((i : ℕ) → i < length table → get_or table i None ≡ h (a + i)) → filter_map (λ o. o) table ≡ filter_map h (range_with_len a (length table))
+pub chosen : (h : ℕ → Option ℤ) (table : List (Option ℤ)) (a : ℕ) → ((i : ℕ) → i < length table → get_or table i None ≡ h (a + i)) → filter_map (λ o. o) table ≡ filter_map h (range_with_len a (length table))
 chosen h [] a told = refl
 chosen h (o ∷ table) a told =
     let start : a + 0 ≡ a = omega arith in

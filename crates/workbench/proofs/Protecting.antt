@@ -9,7 +9,7 @@ use Rattle.lk_model.specs.declared.document.Document.TheVariants.{Done as Finish
 use Rattle.lk_model.specs.declared.document.DoneDocument.{DoneDocument}
 use Rattle.lk_model.specs.Lists.{among, is_between, rises_within}
 use Rattle.lk_model.specs.Formulas.Formula.{Cnf, is_formula, IsWithinLimits, variables_to}
-use Rattle.lk_model.specs.Formulas.Crossed.{protected_by}
+use Rattle.lk_model.specs.Formulas.Crossed.{formula_without, protected_by}
 use Rattle.lk_model.specs.Formulas.Lean.{are_positions}
 use Rattle.lk_model.specs.Documents.Form.{is_protect_line}
 use Rattle.lk_model.specs.Documents.Text.{text_of}
@@ -22,7 +22,7 @@ use Rattle.lk_model.proofs.Counting.{among-range}
 use Rattle.lk_model.proofs.Founds.{filtered_rise}
 use Rattle.kernel_laws.proofs.Protected.Crossing.{same_count}
 use Rattle.kernel_laws.proofs.Protected.EmptyLaws.{formula_same}
-use Rattle.workbench.specs.Founds.{document_of, IsFoundFor}
+use Rattle.workbench.specs.Founds.{document_of, TellsReduction}
 use Rattle.workbench.specs.Protecting.{variable_named, variables_named, line_of, left_of, IsProblem}
 use Rattle.workbench.specs.Settings.{parts_of, listed}
 use Rattle.workbench.specs.declared.document.Found.{Found}
@@ -124,6 +124,10 @@ line_form F (Some numbers) = filtered_rise F.vars (among numbers)
 pub none_protected : (F : Cnf) → IsProblem F None (record { formula = F; protection = None })
 none_protected F = record { formula = refl; line = refl; left = sym (formula_same F) }
 
+-- what is left is the formula without the listed variables
+pub left_without : (F : Cnf) (o : Option (List ℕ)) (p : Problem) → IsProblem F o p → left_of p ≡ formula_without F (protected_by (protect_line_of F o))
+left_without F o p is = is.left ∙ ap (λ (l : Option (List ℕ)). formula_without F (protected_by l)) is.line
+
 -- positions of what is left are those of the formula
 pub positions_left : (F : Cnf) (o : Option (List ℕ)) (p : Problem) (kept : List ℕ) → IsProblem F o p → IsTrue (are_positions (left_of p) kept) → IsTrue (are_positions p.formula kept)
 positions_left F o p kept is e =
@@ -132,7 +136,7 @@ positions_left F o p kept is e =
 
 -- the document of what was found in what is left reduces the formula
 pub problem_writes : (F : Cnf) (class : Class) (o : Option (List ℕ)) (p : Problem) (found : Found) (pivots : ℕ) (d : DoneDocument) (written : List ℕ) → IsProblem F o p → IsTrue (is_formula p.formula) → IsWithinLimits p.formula
-    → IsFoundFor class (left_of p) found → d ≡ document_of p.formula (line_of p) found → written ≡ text_of (Finished d) → WritesReduction F class o pivots written
+    → TellsReduction class pivots (left_of p) found → d ≡ document_of p.formula (line_of p) found → written ≡ text_of (Finished d) → WritesReduction F class o pivots written
 problem_writes F class o p found pivots d written is form limits h told text =
     writes_found F class o (line_of p) (left_of p) found pivots d written
     (subst (λ (G : Cnf). IsTrue (is_formula G)) is.formula form) (subst (λ (G : Cnf). IsWithinLimits G) is.formula limits)

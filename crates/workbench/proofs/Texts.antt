@@ -16,7 +16,7 @@ one_more xs i h = drop-map (λ w. w.now) i xs ∙ ap texts (drop_more xs i _ h) 
 pub no_more : (xs : List (Bor Word)) (i : ℕ) → length xs ≤ i → drop i (texts xs) ≡ []
 no_more xs i h = drop_of_length-le (texts xs) (omega (arith, h, length-map xs (λ w. w.now)))
 
--- one name, and two
+-- one name, and two, and three
 pub one_name : (xs : List (Bor Word)) → length xs ≡ 1 → texts xs ≡ text_at xs 0 ∷ []
 one_name xs h = one_more xs 0 (omega (arith, h)) ∙ ap (λ (ws : List Word). text_at xs 0 ∷ ws) (no_more xs 1 (omega (arith, h)))
 
@@ -24,3 +24,10 @@ pub two_names : (xs : List (Bor Word)) → length xs ≡ 2 → texts xs ≡ text
 two_names xs h =
     one_more xs 0 (omega (arith, h))
     ∙ ap (λ (ws : List Word). text_at xs 0 ∷ ws) (one_more xs 1 (omega (arith, h)) ∙ ap (λ (ws : List Word). text_at xs 1 ∷ ws) (no_more xs 2 (omega (arith, h))))
+
+pub three_names : (xs : List (Bor Word)) → length xs ≡ 3 → texts xs ≡ text_at xs 0 ∷ text_at xs 1 ∷ text_at xs 2 ∷ []
+three_names xs h =
+    one_more xs 0 (omega (arith, h))
+    ∙ ap (λ (ws : List Word). text_at xs 0 ∷ ws)
+    (one_more xs 1 (omega (arith, h))
+    ∙ ap (λ (ws : List Word). text_at xs 1 ∷ ws) (one_more xs 2 (omega (arith, h)) ∙ ap (λ (ws : List Word). text_at xs 2 ∷ ws) (no_more xs 3 (omega (arith, h)))))

@@ -21,9 +21,13 @@ document_of F protect found = record {
   texts = clauses_at F found.kept;
 }
 
--- Found in a formula: told as a document it reduces each formula of which this is what is left without the protected
--- variables, and so the formula itself where none is protected.
+-- Told as a document it reduces each formula of which this is what is left without the protected variables, and so the
+-- formula itself where none is protected.
+abbrev pub TellsReduction : Class → ℕ → Cnf → Found → Type 0
+TellsReduction class pivots rest found = (F : Cnf) (protect : Option (List ℕ)) → IsTrue (is_formula F) → IsWithinLimits F → IsTrue (is_protect_line F.vars protect)
+    → rest_of F protect ≡ rest → Reduces F class pivots (document_of F protect found)
+
+-- found in a formula, whatever the number of pivots
 pub record IsFoundFor (class : Class) (rest : Cnf) (found : Found) : Type 0 where
   pub positions : IsTrue (are_positions rest found.kept)
-  pub reduces : (F : Cnf) (protect : Option (List ℕ)) (pivots : ℕ) → IsTrue (is_formula F) → IsWithinLimits F → IsTrue (is_protect_line F.vars protect)
-      → rest_of F protect ≡ rest → Reduces F class pivots (document_of F protect found)
+  pub reduces : (pivots : ℕ) → TellsReduction class pivots rest found

@@ -1,7 +1,9 @@
 -- What the texts of a command's inputs are read as, and where one is outside its grammar.
-use Rattle.std.specs.Prelude.{◌≡◌, ◌⊎◌, ℕ, List, [], ◌∷◌, Bool, ℤ, Some, Ok, Err, IfSome, IsSome, IsSomeAnd, IsTrue, ⊤}
+use Rattle.std.specs.Prelude.{◌≡◌, ◌⊎◌, ℕ, List, [], ◌∷◌, length, Bool, ℤ, Some, Ok, Err, IfSome, IsSome, IsSomeAnd, IsTrue, ⊤}
 use Rattle.std.specs.declared.option.Option.{Option}
 use Rattle.lk_model.specs.Formulas.Formula.{Cnf}
+use Rattle.lk_model.specs.Formulas.Assignment.{assignment_of}
+use Rattle.lk_model.specs.Held.PartialValues.{assignment_by}
 use Rattle.lk_model.specs.Texts.Lines.{Word}
 use Rattle.lk_model.specs.Texts.Dimacs.{Spells}
 use Rattle.lk_model.specs.Texts.ModelText.{model_of}
@@ -56,6 +58,13 @@ AreRead told n _ _ values = ⊥
 abbrev pub AreTold : Told → List Word → Type 0
 AreTold told [] = ⊤
 AreTold told (name ∷ names) = IsSome (told name) × AreTold told names
+
+-- the text of a model, where it is told, gives literals, and the values of the variables from 1 to n make these alone true
+pub record IsModelRead (told : Option (List ℕ)) (n : ℕ) (values : List (Option Bool)) : Type 0 where
+  pub literals : List ℤ
+  pub text : IfSome told (IsTextOf Model n literals)
+  pub vars : length values ≡ n
+  pub values_are : assignment_by values ≡ assignment_of literals
 
 -- WHAT IS OUTSIDE ITS GRAMMAR
 

@@ -6,6 +6,8 @@ pub mod Inputs
 pub mod Commands
 pub mod Counting
 pub mod Founds
+pub mod SignTables
+pub mod LinearStops
 pub mod Protecting
 pub mod Lawful
 pub mod Requests
@@ -13,3 +15,4 @@ pub mod Stops
 pub mod Endings
 pub mod Agreement
 pub mod Outcomes
+pub mod LinearOutcomes

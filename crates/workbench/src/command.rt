@@ -9,6 +9,7 @@ ghost use Rattle.workbench.specs.OptionKeys.{named};
 ghost use Rattle.workbench.specs.Requests.{asked};
 
 mod check;
+mod extend;
 mod reduce;
 mod report;
 
@@ -25,15 +26,19 @@ use std::thread::Threads;
 pub(crate) enum Command {
     ReducePure,
     ReduceMatching,
+    ReduceLinear,
     Check,
+    Extend,
     Report,
 }
 
 /// The commands.
-pub(crate) const COMMANDS: [Command; 4] = [
+pub(crate) const COMMANDS: [Command; 6] = [
     Command::ReducePure,
     Command::ReduceMatching,
+    Command::ReduceLinear,
     Command::Check,
+    Command::Extend,
     Command::Report,
 ];
 
@@ -45,7 +50,9 @@ impl Command {
         match self {
             Command::ReducePure => &["reduce", "pure"],
             Command::ReduceMatching => &["reduce", "matching"],
+            Command::ReduceLinear => &["reduce", "linear"],
             Command::Check => &["check"],
+            Command::Extend => &["extend"],
             Command::Report => &["report"],
         }
     }
@@ -56,7 +63,9 @@ impl Command {
     {
         match self {
             Command::ReducePure | Command::ReduceMatching | Command::Report => 1,
+            Command::ReduceLinear => 1,
             Command::Check => 2,
+            Command::Extend => 3,
         }
     }
 
@@ -67,10 +76,12 @@ impl Command {
         match self {
             Command::ReducePure => true,
             Command::ReduceMatching => true,
+            Command::ReduceLinear => true,
             Command::Check => match key {
                 Key::Workers => true,
                 Key::Conflicts | Key::Pivots | Key::Protect => false,
             },
+            Command::Extend => false,
             Command::Report => false,
         }
     }
@@ -99,7 +110,9 @@ pub(crate) fn perform<R: Threads + Sync, H: Shelf, G: Gate>(
         Command::ReduceMatching => {
             reduce::perform_matching(rt, alloc, gate, shelf, names, options)
         }
+        Command::ReduceLinear => reduce::perform_linear(alloc, shelf, names, options),
         Command::Check => check::perform(rt, alloc, gate, shelf, names, options),
+        Command::Extend => extend::perform(alloc, shelf, names, options),
         Command::Report => report::perform(alloc, shelf, names, options),
     }
 }

@@ -1,10 +1,16 @@
 //! What the reducers of the classes find in a formula.
-ghost use Rattle.std.specs.Prelude.{◌≡◌, ◌≤◌, IfOk};
-ghost use Rattle.lk_model.specs.declared.class.Class.TheVariants.{Pure, Matching};
-ghost use Rattle.workbench.specs.Founds.{IsFoundFor};
+ghost use Rattle.std.specs.Prelude.{◌≡◌, ◌≤◌, Err, IfOk, IfErr, IsTrue};
+ghost use Rattle.lk_model.specs.Formulas.Lean.{are_positions};
+ghost use Rattle.lk_model.specs.Linear.LinearRun.{is_too_large, linear_run};
+ghost use Rattle.lk_model.specs.declared.class.Class.TheVariants.{Pure, Matching, Linear};
+ghost use Rattle.linear_kernel.specs.Answers.{AnswersRun};
+ghost use Rattle.workbench.specs.Commands.LinearReducing.{status_by};
+ghost use Rattle.workbench.specs.Founds.{IsFoundFor, TellsReduction};
+ghost use Rattle.workbench.specs.declared.status.Status.TheVariants.{Done};
 
 use crate::document::Found;
-use crate::set_line::{set_of_order, set_of_own};
+use crate::set_line::{set_of_order, set_of_own, set_of_stages};
+use linear_kernel::{LinearStop, linear_kernel};
 use lk_model::{Body, Formula, OutOfMemory};
 use lk_outside::Gate;
 use part_kernels::matching_by_parts;
@@ -49,4 +55,27 @@ pub(crate) fn find_matching<R: Threads + Sync, G: Gate>(
             rows: found.rows,
         },
     })
+}
+
+/// The linear kernel, with the stages, duals and units of the linear run with at most so many pivots; or why
+/// there is none.
+pub(crate) fn find_linear(alloc: Global, f: &Formula, pivots: u64) -> Result<Found, LinearStop>
+    ensures done { IfOk result (λ _. status_by (is_too_large f.now) (linear_run f.now pivots) ≡ Done) }
+    ensures positions { IfOk result (λ found. IsTrue (are_positions f.now found.kept)) }
+    ensures reduces { IfOk result (TellsReduction Linear pivots f.now) }
+    ensures stop { IfErr result (λ stop. AnswersRun f.now pivots (Err stop)) }
+{
+    let found = linear_kernel(alloc, f, pivots)?;
+    match set_of_stages(alloc, f.vars(), found.stages.as_slice()) {
+        Ok(set) => Ok(Found {
+            kept: found.kept,
+            set,
+            body: Body::Linear {
+                stages: found.stages,
+                dual: found.dual,
+                units: found.units,
+            },
+        }),
+        Err(OutOfMemory) => Err(LinearStop::OutOfMemory),
+    }
 }

@@ -5,13 +5,14 @@ ghost use Rattle.lk_model.specs.Documents.Reading.{IsTextOf};
 ghost use Rattle.lk_model.specs.Texts.Dimacs.{Spells};
 ghost use Rattle.lk_outside.specs.Reads.{ReadTakes};
 ghost use Rattle.lk_outside.specs.Causes.{HasCause, TellsTheSame};
-ghost use Rattle.workbench.specs.Inputs.{Formula as FormulaText, Document as DocumentText, AreRead, StopsReading, StopsText, StopsOn};
+ghost use Rattle.workbench.specs.Inputs.{Formula as FormulaText, Document as DocumentText, Model as ModelText, AreRead, IsModelRead, StopsReading, StopsText, StopsOn};
 
 use crate::stop::Stop;
-use cert_text::read;
+use cert_text::{read, read_model};
 use dimacs_reader::Reader;
 use lk_model::{Document, Formula};
 use lk_outside::Shelf;
+use partial_assign::Partial;
 use std::alloc::Global;
 
 /// How many bytes are asked for at a time.
@@ -124,6 +125,27 @@ pub(crate) fn read_document<H: Shelf>(
 {
     let text = read_text(alloc, shelf, name)?;
     Ok(read(alloc, text.as_slice())?)
+}
+
+/// Reads the model under a name, for the variables from 1 to n.
+pub(crate) fn read_values<H: Shelf>(
+    alloc: Global,
+    shelf: &mut H,
+    name: &str,
+    n: u32,
+) -> Result<Partial, Stop>
+    requires few { n ≤ 1000000 }
+    ensures told { TellsTheSame (H.told shelf.old) (H.told shelf.new) }
+    ensures model { IfOk result (IsModelRead (H.told shelf.old name.now) n) }
+    ensures stop { IfErr result (StopsReading ModelText n (H.told shelf.old name.now) (H.ailing shelf.new)) }
+    ensures current { IsErrAnd result (λ s. s ≡ Stop.Read) → H.current shelf.new ≡ Some name.now }
+    ensures cause { HasCause (H.faults shelf.old) (H.faults shelf.new) (IsErrAnd result (λ s. s ≡ Stop.Read)) }
+{
+    let text = read_text(alloc, shelf, name)?;
+    match read_model(alloc, text.as_slice(), n) {
+        Ok(model) => Ok(model),
+        Err(stop) => Err(Stop::of_model(stop)),
+    }
 }
 
 /// Reads the bytes under a name, up to their end.

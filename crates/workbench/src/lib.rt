@@ -19,5 +19,5 @@ mod status;
 mod stop;
 mod words;
 
-pub use laws::{check_law, reduce_law, report_law, written_law};
+pub use laws::{check_law, extend_law, reduce_law, report_law, written_law};
 pub use program::run;

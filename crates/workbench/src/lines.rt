@@ -1,10 +1,11 @@
 //! The lines that the program says.
-ghost use Rattle.std.specs.Prelude.{◌≡◌, ◌++◌, codes, decimal, IfOk};
+ghost use Rattle.std.specs.Prelude.{◌≡◌, ◌++◌, codes, decimal, IfOk, OnOk};
+ghost use Rattle.workbench.specs.Commands.LinearReducing.{budget_line, op_word, operands, too_large_line, too_wide_line};
 ghost use Rattle.workbench.specs.Stops.{line_of, formula_line, refusal_line};
 
 use crate::stop::Stop;
 use dimacs_reader::Refused;
-use lk_model::OutOfMemory;
+use lk_model::{Op, OutOfMemory, Wide};
 use lk_text::put_i128;
 use std::alloc::Global;
 
@@ -52,6 +53,56 @@ fn formula_line(alloc: Global, line: u64, text: &[u8]) -> Result<Vec<u8>, OutOfM
     ensures { IfOk result (λ told. told.items ≡ formula_line line text.now) }
 {
     numbered(alloc, b"leank: formula line ", line, text)
+}
+
+/// The line that tells that the rows of a linear run are too large, for so many variables and clauses.
+pub(crate) fn too_large_line(alloc: Global, vars: u32, clauses: u32) -> Result<Vec<u8>, OutOfMemory>
+    ensures { IfOk result (λ line. line.items ≡ too_large_line vars clauses) }
+{
+    let before = b"leank: too large: ";
+    let mut line = numbered(alloc, before, u64::from(vars), b" variables, ")?;
+    put_i128(&mut line, i128::from(clauses))?;
+    line.extend_from_slice(b" clauses\n")?;
+    Ok(line)
+}
+
+/// The line that tells that a linear run wants a pivot more than these.
+pub(crate) fn budget_line(alloc: Global, pivots: u64) -> Result<Vec<u8>, OutOfMemory>
+    ensures { IfOk result (λ line. line.items ≡ budget_line pivots) }
+{
+    numbered(alloc, b"leank: budget of ", pivots, b" pivots used\n")
+}
+
+/// The line that tells that a result of a linear run is too wide, after so many pivots.
+pub(crate) fn too_wide_line(alloc: Global, pivots: u64, wide: Wide) -> Result<Vec<u8>, OutOfMemory>
+    ensures { IfOk result (λ line. line.items ≡ too_wide_line pivots wide) }
+{
+    let mut line = numbered(alloc, b"leank: too wide after ", pivots, b" pivots: ")?;
+    put_operands(&mut line, wide)?;
+    line.push(b'\n')?;
+    Ok(line)
+}
+
+/// Appends an operation and its operands.
+fn put_operands(line: &mut Vec<u8>, wide: Wide) -> Result<(), OutOfMemory>
+    ensures { OnOk result (line.new.items ≡ line.old.items ++ operands wide) }
+{
+    line.extend_from_slice(op_word(wide.op).as_bytes())?;
+    line.extend_from_slice(b" of ")?;
+    put_i128(line, wide.left)?;
+    line.extend_from_slice(b" and ")?;
+    put_i128(line, wide.right)
+}
+
+/// The word of an operation.
+fn op_word(op: Op) -> &'static str
+    ensures { result.now ≡ op_word op }
+{
+    match op {
+        Op::Product => "product",
+        Op::Sum => "sum",
+        Op::Difference => "difference",
+    }
 }
 
 /// A number between two texts.

@@ -22,14 +22,19 @@ use std::thread::Threads;
 ///
 /// - 0: the result stands on `out`. Of `reduce` it is the document of the kernel of the input's formula for
 ///   the class that the words name, which the checks accept; of `check` it says that the document is
-///   accepted for the formula; of `report` it is nine numbers of the formula, a line for each.
+///   accepted for the formula; of `extend` it is the line of a model of the formula; of `report` it is nine
+///   numbers of the formula, a line for each.
 /// - 1: the words are not lawful. `say` has the number of the refused word.
 /// - 2: the text of an input is outside its grammar. `say` has the line, and of a formula the kind.
 /// - 3: a call on the shelf failed.
 /// - 4: a call on `out` or `say` failed. A part of a text may stand there.
 /// - 5: the document that is checked is unfinished, and no check of it fails. `out` has how many clauses it
-///   learned.
-/// - 8: a check of the document fails. `out` has the kind and the place of the first one.
+///   learned. Or the one by which a model is to be extended is unfinished, and `say` tells this. Or, of
+///   `reduce linear`, the linear run wants a pivot more than it may make. `say` has their number.
+/// - 6: a number of the linear run is too wide. `say` has its operands, and the number of pivots before.
+/// - 7: the rows of the linear run would be too large. `say` has the numbers of variables and clauses.
+/// - 8: a check of the document fails. `out` has the kind and the place of the first one, and of `extend`
+///   `say`.
 /// - 9: there was no memory. `say` has this, and `out` nothing.
 ///
 /// Both texts are made before the first byte is written.

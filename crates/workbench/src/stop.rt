@@ -1,11 +1,11 @@
 //! Why a command ends without its result.
 ghost use Rattle.std.specs.Prelude.{◌≡◌};
 ghost use Rattle.workbench.specs.declared.stop.Stop.TheVariants.{Memory as MemoryStop, Read as ReadStop};
-ghost use Rattle.workbench.specs.Stops.{stop_of, start_stop_of, read_stop_of, status_of};
+ghost use Rattle.workbench.specs.Stops.{stop_of, start_stop_of, read_stop_of, model_stop_of, status_of};
 
 use crate::status::Status;
 use dimacs_reader::Refused;
-use lk_model::{OutOfMemory, ReadStop as DocumentStop};
+use lk_model::{OutOfMemory, ReadStop as DocumentStop, ReadStop as ModelStop};
 use lk_outside::{Failed, StartStop};
 use std::alloc::AllocError;
 
@@ -84,6 +84,16 @@ impl From<AllocError> for Stop {
 }
 
 impl Stop {
+    /// The stop that a text makes that is no model's.
+    pub(crate) fn of_model(stop: ModelStop) -> Stop
+        ensures { result ≡ model_stop_of stop }
+    {
+        match stop {
+            ModelStop::Line(line) => Stop::Model(line),
+            ModelStop::OutOfMemory => Stop::Memory,
+        }
+    }
+
     /// The status with which the program ends.
     pub(crate) fn status(self) -> Status
         ensures { result ≡ status_of self }

@@ -1,4 +1,4 @@
--- The command `reduce`.
+-- The command `reduce` for the classes that end with status 0 alone.
 use Rattle.std.specs.Prelude.{◌≡◌, ℕ, List, [], ◌∷◌, codes}
 use Rattle.lk_model.specs.Formulas.Formula.{Cnf}
 use Rattle.lk_model.specs.Texts.Lines.{Word}

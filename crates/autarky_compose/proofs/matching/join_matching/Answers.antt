@@ -2,7 +2,8 @@ use Rattle.std.proofs.Common.{ℕ, ◌^◌, ◌<◌, ◌≤◌, List, map, All, 
 use Rattle.lk_model.specs.declared.document.Own.{Own}
 use Rattle.lk_model.specs.declared.document.MatchRow.{MatchRow}
 use Rattle.lk_model.specs.declared.result.MatchingResult.{MatchingResult}
-use Rattle.autarky_compose.specs.JoinedMatching.{AreInOrder, all_kept, all_own, all_rows}
+use Rattle.autarky_compose.specs.JoinedMatching.{all_kept, all_own, all_rows}
+use Rattle.autarky_compose.specs.Ordered.{AreInOrder}
 use Rattle.autarky_compose.specs.Tables.{AreDistinct}
 use Rattle.autarky_compose.proofs.Orders.{rises_to}
 use Rattle.autarky_compose.proofs.PartItems.{kept_positive, kept_within, own_positive, own_within, own_distinct, rows_positive, rows_distinct}
@@ -39,14 +40,14 @@ in_order-requires-3-clause-distinct c =
 pub returns : goal.returns
 returns c =
     let m = c.args.m in
-    let rows = subst (λ (fs : List MatchingResult). AreInOrder (λ (w : MatchRow). w.var) c.greatest_variable-most.result (all_rows fs) c.in_ok-in_order-3.field-0)
+    let rows = subst (λ (fs : List MatchingResult). AreInOrder (λ (w : MatchRow). w.var) c.greatest_key-most.result (all_rows fs) c.in_ok-in_order-3.field-0)
     c.as_slice-results.ensures c.in_ok-in_order-3.ensures in
-    let fits : c.greatest_variable-most.result ≤ 2 ^ 32 = (let a = c.greatest_variable-most.auto in omega (arith, a)) in
+    let fits : c.greatest_key-most.result ≤ 2 ^ 32 = omega arith in
     record {
       kept = subst (λ (fs : List MatchingResult). AreInOrder (λ (p : ℕ). p) m (all_kept fs) c.in_ok-in_order.field-0) c.as_slice-results.ensures c.in_ok-in_order.ensures;
       own = subst (λ (fs : List MatchingResult). AreInOrder (λ (o : Own). o.pos) m (all_own fs) c.in_ok-in_order-2.field-0) c.as_slice-results.ensures c.in_ok-in_order-2.ensures;
       rows = record {
-        rising = rises_to 0 c.greatest_variable-most.result (2 ^ 32) (map (λ (w : MatchRow). w.var) c.in_ok-in_order-3.field-0) fits rows.rising;
+        rising = rises_to 0 c.greatest_key-most.result (2 ^ 32) (map (λ (w : MatchRow). w.var) c.in_ok-in_order-3.field-0) fits rows.rising;
         only = rows.only;
         every = rows.every;
       };

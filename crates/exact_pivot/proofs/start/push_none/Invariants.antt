@@ -1,9 +1,5 @@
 use Rattle.std.proofs.Common.{◌≡◌, ◌++◌, replicate, pos}
-use Rattle.exact_rows.specs.Made.{AreInRange}
 use Rattle.exact_pivot.proofs.start.push_none.Given as goal
 
 abbrev pub invariant-loop-k : goal.invariant-loop-k
-invariant-loop-k l = record {
-  value : l.cost.items ≡ l.initial.cost.items ++ replicate l.k (pos 0);
-  range : AreInRange l.cost.items;
-}
+invariant-loop-k l = l.cost.items ≡ l.initial.cost.items ++ replicate l.k (pos 0)

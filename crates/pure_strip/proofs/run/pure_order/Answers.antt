@@ -1,22 +1,21 @@
-use Rattle.std.proofs.Common.{refl, ◌<◌, ◌∙◌, ◌++◌, [], List, ℤ, length, sym, subst, arith}
+use Rattle.std.proofs.Common.{◌<◌, ◌∙◌, ◌++◌, [], List, ℤ, length, sym, subst, arith}
 use Rattle.lk_model.proofs.Ranks.{rank_small}
 use Rattle.lk_model.specs.Formulas.PureRun.{untouched, RunsOn}
 use Rattle.kernel_laws.proofs.Pure.PureLiterals.{least_literal}
 use Rattle.pure_strip.specs.Live.{AreUntouched}
-use Rattle.pure_strip.proofs.PairLemmas.{listed, read_at}
+use Rattle.pure_strip.proofs.PairLemmas.{listed}
 use Rattle.pure_strip.proofs.Runs.{least_is, listed_within, Untouched-more, fewer_untouched, runs_more, runs_end}
 use Rattle.pure_strip.proofs.run.pure_order.Goals as goal
 
-pub index-requires : goal.index-requires
-index-requires c =
+pub positions-requires : goal.positions-requires
+positions-requires c =
     let e = sym (least_is _ _ _ _ c.loop-l.invariant.counted c.loop-l.invariant.untouched) ∙ sym c.least_lone.ensures ∙ c.in-Some.is in
     omega (arith, c.requires.holders.size, rank_small c.args.f.now.vars c.in-Some.l (least_literal c.args.f.now (untouched c.args.f.now c.loop-l.order) c.in-Some.l e))
 
 pub touch_all-requires-clause-within : goal.touch_all-requires-clause-within
 touch_all-requires-clause-within c =
     let e = sym (least_is _ _ _ _ c.loop-l.invariant.counted c.loop-l.invariant.untouched) ∙ sym c.least_lone.ensures ∙ c.in-Some.is in
-    let read = read_at c.args.holders.now c.in-Some.l c.in-Some.l c.as_slice.result.now c.index.result.now refl c.index.ensures c.as_slice.ensures in
-    listed_within c.args.f.now c.in-Some.l _ (listed c.args.f.now c.args.holders.now c.in-Some.l _ c.requires.holders (least_literal c.args.f.now (untouched c.args.f.now c.loop-l.order) c.in-Some.l e) read)
+    listed_within c.args.f.now c.in-Some.l _ (listed c.args.f.now c.args.holders.now c.in-Some.l _ c.requires.holders (least_literal c.args.f.now (untouched c.args.f.now c.loop-l.order) c.in-Some.l e) c.positions.ensures)
 
 pub loop-l-smaller : goal.loop-l-smaller
 loop-l-smaller c =
@@ -26,8 +25,7 @@ loop-l-smaller c =
 pub loop-l-preserved : goal.loop-l-preserved
 loop-l-preserved c =
     let e = sym (least_is _ _ _ _ c.loop-l.invariant.counted c.loop-l.invariant.untouched) ∙ sym c.least_lone.ensures ∙ c.in-Some.is in
-    let read = read_at c.args.holders.now c.in-Some.l c.in-Some.l c.as_slice.result.now c.index.result.now refl c.index.ensures c.as_slice.ensures in
-    let list = listed c.args.f.now c.args.holders.now c.in-Some.l _ c.requires.holders (least_literal c.args.f.now (untouched c.args.f.now c.loop-l.order) c.in-Some.l e) read in
+    let list = listed c.args.f.now c.args.holders.now c.in-Some.l _ c.requires.holders (least_literal c.args.f.now (untouched c.args.f.now c.loop-l.order) c.in-Some.l e) c.positions.ensures in
     record {
       counted = c.in_ok-touch_all.ensures.counted;
       untouched = subst (λ (ls : List ℤ). AreUntouched c.args.f.now ls c.touch_all.new.live.items) (sym c.in_ok-push.ensures.ok)

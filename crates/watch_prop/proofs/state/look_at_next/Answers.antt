@@ -1,4 +1,4 @@
-use Rattle.std.proofs.Common.{◌≡◌, ◌∙◌, ◌<◌, ◌+◌, ℕ, List, ℤ, true, length, refl, sym, ap, subst, arith}
+use Rattle.std.proofs.Common.{◌≡◌, ◌∙◌, ◌<◌, ℕ, List, ℤ, true, length, sym, ap, subst}
 use Rattle.std.specs.List.{list_all}
 use Rattle.std.proofs.lemmas.List.{get_or_read}
 use Rattle.lk_model.specs.Formulas.Literal.{is_literal}
@@ -8,7 +8,7 @@ use Rattle.watch_prop.specs.States.{next_waiting}
 use Rattle.watch_prop.proofs.Passing.{conflict_named}
 use Rattle.watch_prop.proofs.Demands.{forced, may_be_forced}
 use Rattle.watch_prop.proofs.Listing.{is_free}
-use Rattle.watch_prop.proofs.Looking.{IsNext, next_within, next_literals, Seen, seen, lists, listed_leads, only_one, only_leads}
+use Rattle.watch_prop.proofs.Looking.{IsNext, next_within, next_literals, seen, lists, listed_leads, only_one, only_leads}
 use Rattle.watch_prop.proofs.state.look_at_next.Goals as goal
 
 pub clause_at-clause-requires : goal.clause_at-clause-requires

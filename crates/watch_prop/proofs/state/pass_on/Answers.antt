@@ -1,4 +1,4 @@
-use Rattle.std.proofs.Common.{◌≡◌, ◌∙◌, ◌<◌, List, length, get_or, refl, ap, arith, ℤ, pos}
+use Rattle.std.proofs.Common.{◌≡◌, ◌∙◌, ◌<◌, List, length, get_or, ap, arith, ℤ, pos}
 use Rattle.watch_prop.specs.declared.entry.NumberedClause.{NumberedClause}
 use Rattle.watch_prop.specs.declared.state.Settled.TheVariants.{Stays, Moves}
 use Rattle.watch_prop.proofs.Passing.{passing_start, passing_stays, passing_moves, passing_end, picked, settled_once, conflict_named}

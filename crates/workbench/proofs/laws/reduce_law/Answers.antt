@@ -1,3 +1,4 @@
+use Rattle.workbench.proofs.LinearOutcomes.{linear_outcomes}
 use Rattle.workbench.proofs.Outcomes.{pure_outcomes, matching_outcomes}
 use Rattle.workbench.proofs.laws.reduce_law.Goals as goal
 
@@ -6,3 +7,6 @@ returns-clause-pure c = pure_outcomes
 
 pub returns-clause-matching : goal.returns-clause-matching
 returns-clause-matching c = matching_outcomes
+
+pub returns-clause-linear : goal.returns-clause-linear
+returns-clause-linear c = linear_outcomes

@@ -1,9 +1,8 @@
-use Rattle.std.proofs.Common.{◌≡◌, ◌∙◌, ◌+◌, ◌<◌, ◌-◌, ◌^◌, ◌++◌, ◌∷◌, [], length, Some, IsSome, subst, sym, arith}
+use Rattle.std.proofs.Common.{◌≡◌, ◌∙◌, ◌+◌, ◌<◌, ◌-◌, ◌^◌, ◌++◌, ◌∷◌, [], length, IsSome, subst, sym, arith}
 use Rattle.std.proofs.lemmas.List.{length_push}
 use Rattle.lk_model.specs.Held.VariableSets.{premises_of}
 use Rattle.lk_model.specs.Chains.Chain.{chain_clause}
-use Rattle.refutation_log.specs.SameClause.{IsSameClause}
-use Rattle.refutation_log.specs.Derivation.{Derivation, IsDerivation, Extends, step_of}
+use Rattle.refutation_log.specs.Derivation.{Derivation, IsDerivation, IsLog, Extends, step_of}
 use Rattle.refutation_log.proofs.Chains.{pushed}
 use Rattle.refutation_log.proofs.log.Log.push_chain.Goals as goal
 
@@ -23,14 +22,21 @@ both c =
     c.in_ok-copy_of-2.ensures
     (c.in_ok-copy_of.ensures ∙ c.as_slice.ensures.value)
     (rw (← c.as_slice.ensures.value) c.as_slice.ensures.order)
-    (subst (λ (v : Derivation). IsSameClause (Some c.in_ok-clause.clause) (chain_clause (premises_of over v.steps) c.args.first c.args.turns.now)) back c.in_ok-clause.ensures) in
+    c.in_ok-clause.ensures in
     (got.0, subst (λ (v : Derivation). Extends over v c.args.first c.args.turns.now (record { first = d.first; steps = d.steps ++ step_of (c.self.inside.first + c.len.result) c.in_ok-copy_of.field-0 c.args.first c.in_ok-copy_of-2.field-0 ∷ [] })) c.self.view_is got.1)
 
-pub invariant_of-self-2 : goal.invariant_of-self-2
-invariant_of-self-2 c =
+-- the log with the step is one
+kept : (c : goal.Joined-clause-4) → IsLog c.self.inside.first c.push.new.self.items
+kept c =
     let steps = c.self.inside.steps.items in
     let room : c.self.inside.first + length steps < 2 ^ 64 - 1 = subst (λ (v : Derivation). v.first + length v.steps < 2 ^ 64 - 1) (sym c.self.view_is) c.requires.room in
     rw (c.in_ok-push.ensures.items) (record { derivation = (both c).0; room = omega (arith, room, length_push steps (step_of (c.self.inside.first + c.len.result) c.in_ok-copy_of.field-0 c.args.first c.in_ok-copy_of-2.field-0)) })
 
+pub invariant_of-self-4 : goal.invariant_of-self-4
+invariant_of-self-4 c = kept c
+
 pub returns-clause-ok : goal.returns-clause-ok
 returns-clause-ok c = rw (c.in_ok-push.ensures.items) (both c).1
+
+pub returns-clause-log : goal.returns-clause-log
+returns-clause-log c = kept c

@@ -6,9 +6,8 @@ use Rattle.watch_prop.specs.Propagation.{Propagation, assigned, is_quiet, with_a
 use Rattle.watch_prop.specs.declared.entry.NumberedClause.{NumberedClause}
 use Rattle.watch_prop.specs.States.{Leads, Passes, propagation_of, unseen}
 use Rattle.watch_prop.proofs.Paths.{present_le}
-use Rattle.watch_prop.proofs.Trails.{trail_path}
-use Rattle.watch_prop.proofs.Demands.{may_come_of}
-use Rattle.watch_prop.proofs.Assigning.{ready, unset_none, opened_state}
+use Rattle.watch_prop.proofs.Trails.{trail_path, may_come_of, unset_none}
+use Rattle.watch_prop.proofs.Assigning.{ready, opened_state}
 use Rattle.watch_prop.proofs.propagator.Propagator.assign.Goals as goal
 
 pub put-requires : goal.put-requires

@@ -7,7 +7,7 @@ use Rattle.lk_model.specs.Lists.{among, is_empty}
 use Rattle.lk_model.specs.Formulas.Literal.{is_clause}
 use Rattle.watch_prop.specs.declared.entry.NumberedClause.{NumberedClause}
 use Rattle.watch_prop.specs.Propagation.{Propagation, numbers_of, crossed_clauses, with_held, are_distinct}
-use Rattle.watch_prop.proofs.Beginnings.{propagation_at_start, all_middle, distinct_middle}
+use Rattle.watch_prop.proofs.Beginnings.{propagation_at_start, all_middle, distinct_middle, held_as_seen}
 use Rattle.watch_prop.proofs.propagator.Propagator.new.Goals as goal
 
 pub loop-clause-init : goal.loop-clause-init
@@ -70,3 +70,10 @@ returns-clause-clauses c =
 
 pub returns-clause-trail : goal.returns-clause-trail
 returns-clause-trail c = c.loop-clause.invariant.trail
+
+pub returns-clause-held : goal.returns-clause-held
+returns-clause-held c =
+    let over = c.args.over.now in
+    let F = over.formula.now in
+    held_as_seen c.loop-clause.propagator F.vars (crossed_clauses over) c.loop-clause.invariant.vars (returns-clause-clauses c) c.loop-clause.invariant.trail
+    (propagation_at_start F (is_in over.blocked.now) over.part.now c.vars.ensures.formula c.vars.ensures.limits.vars c.requires.part)

@@ -19,7 +19,7 @@ returns-clause-ok g c = record {
     status_is = c.in_ok-written.ensures.status;
     writes = problem_writes c.in_ok-formula.formula Pure (values_of c.args.options).protect c.in_ok-problem.problem c.in_ok-found.found c.args.options.pivots c.in_ok-document.document c.in_ok-written.field-0.written.items
         c.in_ok-problem.ensures c.in_ok-document.ensures.formula c.in_ok-document.ensures.limits
-        (subst (λ (G : Cnf). IsFoundFor Pure G c.in_ok-found.found) c.left.ensures c.in_ok-found.ensures) c.in_ok-document.ensures.document c.in_ok-written.ensures.written;
+        ((subst (λ (G : Cnf). IsFoundFor Pure G c.in_ok-found.found) c.left.ensures c.in_ok-found.ensures).reduces c.args.options.pivots) c.in_ok-document.ensures.document c.in_ok-written.ensures.written;
     silent = c.in_ok-written.ensures.said;
   };
 }

@@ -1,0 +1,105 @@
+#!/usr/bin/env python3
+"""Measures `check`, `extend` and `report` beside reading the same files.
+
+    bench/commands.py LEANK [KIND ...]
+
+LEANK is the built program (crates/leank/out holds it after `bin/leank` ran once). Needs python3. Reading
+is measured by leank itself, which reads its inputs in their order and stops at one that is bad. Each
+figure is the least wall time of some runs. Nothing fails by time.
+"""
+import os
+import random
+import subprocess
+import sys
+import tempfile
+import time
+
+SEED = 1
+RUNS = 5
+
+
+def planted(draw, variables, clauses, width):
+    """Clauses of which each holds a literal that the drawn model makes true."""
+    model = [None] + [draw.random() < 0.5 for _ in range(variables)]
+    drawn = []
+    while len(drawn) < clauses:
+        chosen = draw.sample(range(1, variables + 1), width)
+        clause = [v if draw.random() < 0.5 else -v for v in chosen]
+        if any((l > 0) == model[abs(l)] for l in clause):
+            drawn.append(clause)
+    return model, drawn
+
+
+def few(draw):
+    """300,000 variables, and 250,000 clauses of three literals: most of them go."""
+    return planted(draw, 300000, 250000, 3)
+
+
+def many(draw):
+    """200,000 variables, and 800,000 clauses of three literals: nearly all are kept."""
+    return planted(draw, 200000, 800000, 3)
+
+
+def chain(draw):
+    """Implications along 1,000,000 variables."""
+    return [None] + [True] * 1000000, [[-v, v + 1] for v in range(1, 1000000)]
+
+
+KINDS = {"few": few, "many": many, "chain": chain}
+
+
+def write(kind, formula, model):
+    """Writes a formula, and a model of it as a solver prints one."""
+    values, clauses = KINDS[kind](random.Random(SEED))
+    with open(formula, "w") as out:
+        out.write(f"p cnf {len(values) - 1} {len(clauses)}\n")
+        for clause in clauses:
+            out.write(" ".join(map(str, clause)) + " 0\n")
+    with open(model, "w") as out:
+        out.write("s SATISFIABLE\n")
+        for v in range(1, len(values)):
+            out.write(f"v {v if values[v] else -v}\n")
+        out.write("v 0\n")
+
+
+def least_seconds(words, output=os.devnull, status=0):
+    """The least wall seconds of some runs of a command that ends with this status."""
+    least = float("inf")
+    for _ in range(RUNS):
+        with open(output, "w") as out:
+            begin = time.monotonic()
+            ended = subprocess.run(words, stdout=out, stderr=subprocess.DEVNULL).returncode
+            least = min(least, time.monotonic() - begin)
+        if ended != status:
+            sys.exit(f"{' '.join(words)}: status {ended}")
+    return least
+
+
+def main():
+    if len(sys.argv) < 2:
+        sys.exit(__doc__)
+    leank, kinds = os.path.abspath(sys.argv[1]), sys.argv[2:] or list(KINDS)
+    with tempfile.TemporaryDirectory() as folder:
+        formula, model, document, bad = (os.path.join(folder, name) for name in ("formula", "model", "document", "bad"))
+        with open(bad, "w") as out:
+            out.write("v x\n")
+        for kind in kinds:
+            write(kind, formula, model)
+            print(f"{kind}: {KINDS[kind].__doc__} {os.path.getsize(formula)} bytes")
+            one = least_seconds([leank, "check", formula, bad], status=2)
+            print(f"  reading the formula {one:.2f} s")
+            for words in (["reduce", "pure", formula], ["reduce", "matching", formula], ["report", formula]):
+                seconds = least_seconds([leank] + words)
+                print(f"  {' '.join(words[:-1]):16} {seconds:6.2f} s  ratio {seconds / one:.2f}")
+            for class_word in ("pure", "matching"):
+                with open(document, "w") as out:
+                    subprocess.run([leank, "reduce", class_word, formula], stdout=out, check=True)
+                two = least_seconds([leank, "extend", formula, document, bad], status=2)
+                checked = least_seconds([leank, "check", formula, document])
+                extended = least_seconds([leank, "extend", formula, document, model])
+                print(f"  {class_word} document: reading both {two:.2f} s  check {checked:.2f} s, ratio {checked / two:.2f}"
+                      f"  extend {extended:.2f} s, ratio {extended / two:.2f}")
+
+
+if __name__ == "__main__":
+    main()

@@ -1,0 +1,211 @@
+-- How far the variables are set, in their order.
+use Rattle.std.proofs.Common.{◌≡◌, ◌≢◌, ◌∙◌, ℕ, zero, suc, ◌+◌, ◌<◌, ◌≤◌, ◌==◌, ◌++◌, ◌∷◌, [], Bool, true, false, cond, filter, not, ◌&&◌, List, ℤ, Option, Some, None, is_some, option_map, length, length-append, take, take_all, get_or, nat_le, refl, sym, ap, subst, arith, inl, inr}
+use Rattle.std.specs.Prelude.{nat_lt}
+use Rattle.std.specs.List.{list_all, list_any}
+use Rattle.std.proofs.lemmas.Bool.{cases_Bool, eqb-true, eq-eqb, and_from, not-true, leb-true, ltb-true, le-leb, lt-ltb}
+use Rattle.std.proofs.lemmas.List.{get_or_append_left, get_or-take, length-take-le}
+use Rattle.std.proofs.lemmas.List.Folds.{list_all_more}
+use Rattle.lk_model.specs.Lists.{among, up_to}
+use Rattle.lk_model.specs.Formulas.Literal.{variable, contains, mentions, is_positive}
+use Rattle.lk_model.specs.Formulas.Formula.{is_formula, clause_at}
+use Rattle.lk_model.specs.Held.VariableSets.{is_in}
+use Rattle.lk_model.specs.declared.crossed.Crossed.{Crossed}
+use Rattle.lk_model.proofs.Booleans.{and_true, or_left, or_right}
+use Rattle.lk_model.proofs.ListTests.{passing, passes_among}
+use Rattle.lk_model.proofs.Founds.{in_range}
+use Rattle.lk_model.proofs.Counting.{in_filter, among-range}
+use Rattle.lk_model.proofs.Crossings.{contains_crossed}
+use Rattle.lk_model.proofs.Variables.{literal_passing, variable_bound}
+use Rattle.kernel_laws.proofs.Clauses.{mentions_of}
+use Rattle.kernel_laws.proofs.General.Numbering.{found_before}
+use Rattle.watch_prop.specs.declared.entry.Entry.{Entry}
+use Rattle.watch_prop.specs.Trail.{entry_of, present_level, up_to_level, assignment_along}
+use Rattle.watch_prop.specs.Propagation.{Propagation, IsPropagation, GoesOn, with_assigned, back_at}
+use Rattle.learning_laws.specs.ModelLaw.{clause_over}
+use Rattle.learning_laws.proofs.TrailLaws.{trail_law}
+use Rattle.learning_laws.proofs.Tests.{never_both}
+use Rattle.cdcl_core.specs.declared.order.Order.{Order}
+use Rattle.cdcl_core.specs.Orders.{may_decide, AreVariablesOver, are_within, are_set, IsSetTo, place_at, IsPlacedAt}
+
+-- a variable that is set stays so on a longer trail
+set_longer : (trail more : List Entry) (v : ℕ) → is_some (assignment_along trail v) ≡ true → is_some (assignment_along (trail ++ more) v) ≡ true
+set_longer trail more v s = at_entry (entry_of trail v) refl s
+  where
+    at_entry : (o : Option Entry) → entry_of trail v ≡ o → is_some (option_map (λ (e : Entry). is_positive e.lit) o) ≡ true → is_some (assignment_along (trail ++ more) v) ≡ true
+    at_entry None f g = absurd (let z : ⊥ = cc in z)
+    at_entry (Some e) f g = ap (λ (o : Option Entry). is_some (option_map (λ (e : Entry). is_positive e.lit) o)) (found_before (λ (e : Entry). variable e.lit == v) trail more e f)
+
+all_longer : (trail more : List Entry) (vars : List ℕ) → are_set trail vars ≡ true → are_set (trail ++ more) vars ≡ true
+all_longer trail more [] h = refl
+all_longer trail more (v ∷ vars) h =
+    let both = and_true (is_some (assignment_along trail v)) (are_set trail vars) h in
+    and_from (is_some (assignment_along (trail ++ more) v)) (are_set (trail ++ more) vars) (set_longer trail more v both.0) (all_longer trail more vars both.1)
+
+set_to_longer : (trail more : List Entry) (vars : List ℕ) (place : ℕ) → IsSetTo trail vars place → IsSetTo (trail ++ more) vars place
+set_to_longer trail more vars place h = record { within = h.within; set = all_longer trail more (take place vars) h.set }
+
+-- AT EACH STEP
+
+-- where nothing is set
+pub placed_first : (trail : List Entry) (order : Order) → trail ≡ [] → order.place ≡ 0 → order.opened.items ≡ [] → IsPlacedAt trail order
+placed_first trail order none first closed = record {
+  here = record {
+    within = omega (arith, first);
+    set = ap (λ (n : ℕ). are_set trail (take n order.vars.items)) first;
+  };
+  levels = ap (λ (xs : List ℕ). length xs) closed ∙ sym (ap present_level none);
+  below = λ level lt. (let zero_level : present_level trail ≡ 0 = ap present_level none in absurd (omega (arith, lt, zero_level)));
+}
+
+-- a variable that is set is passed
+pub placed_next : (trail : List Entry) (order order' : Order) (v : ℕ) → IsPlacedAt trail order → order.place < length order.vars.items
+    → v ≡ get_or order.vars.items order.place v → is_some (assignment_along trail v) ≡ true
+    → order'.vars ≡ order.vars → order'.place ≡ order.place + 1 → order'.opened ≡ order.opened → IsPlacedAt trail order'
+placed_next trail order order' v h lt read s vars place opened = record {
+  here = record {
+    within = (let same : length order'.vars.items ≡ length order.vars.items = ap (λ vs. length vs.items) vars in omega (arith, place, lt, same));
+    set = ap (λ vs. are_set trail (take order'.place vs.items)) vars ∙ ap (λ (n : ℕ). are_set trail (take n order.vars.items)) place
+        ∙ list_all_more (λ v. is_some (assignment_along trail v)) order.vars.items order.place v lt
+        ∙ and_from (are_set trail (take order.place order.vars.items)) (is_some (assignment_along trail (get_or order.vars.items order.place v))) h.here.set
+        (subst (λ (u : ℕ). is_some (assignment_along trail u) ≡ true) read s);
+  };
+  levels = ap (λ vs. length vs.items) opened ∙ h.levels;
+  below = λ level below. subst (λ os. IsSetTo (up_to_level level trail) order'.vars.items (place_at os.items level)) (sym opened)
+      (subst (λ vs. IsSetTo (up_to_level level trail) vs.items (place_at order.opened.items level)) (sym vars) (h.below level below));
+}
+
+-- where the place is at the end all are set
+pub placed_last : (trail : List Entry) (order : Order) → IsPlacedAt trail order → length order.vars.items ≤ order.place → are_set trail order.vars.items ≡ true
+placed_last trail order h past =
+    subst (λ (vs : List ℕ). are_set trail vs ≡ true) (take_all order.place order.vars.items past) h.here.set
+
+-- what is forced leaves the places
+pub placed_forced : (p q : Propagation) (order : Order) → GoesOn p q → IsPlacedAt p.trail order → IsPlacedAt q.trail order
+placed_forced p q order g h =
+    let present = trail_law.forced_level p q g in
+    record {
+      here = subst (λ (t : List Entry). IsSetTo t order.vars.items order.place) (sym g.trail) (set_to_longer p.trail g.forced order.vars.items order.place h.here);
+      levels = h.levels ∙ sym present;
+      below = λ level lt.
+          (let under : level < present_level p.trail = omega (arith, lt, present) in
+          subst (λ (t : List Entry). IsSetTo t order.vars.items (place_at order.opened.items level)) (sym (trail_law.forced_below p q level g under)) (h.below level under));
+    }
+
+-- the place is noted where a level is opened
+pub placed_opened : (p : Propagation) (l : ℤ) (order order' : Order) → IsPropagation p → IsPlacedAt p.trail order
+    → order'.vars ≡ order.vars → order'.place ≡ order.place → order'.opened.items ≡ order.opened.items ++ order.place ∷ [] → IsPlacedAt (with_assigned p l).trail order'
+placed_opened p l order order' held h vars place opened =
+    let q = with_assigned p l in
+    let old = order.opened.items in
+    let present : present_level q.trail ≡ present_level p.trail + 1 = trail_law.assigned_level p l in
+    let levels = h.levels in
+    let long : length order'.opened.items ≡ length old + 1 = ap (λ (xs : List ℕ). length xs) opened ∙ length-append old (order.place ∷ []) in
+    record {
+      here = subst (λ vs. IsSetTo q.trail vs.items order'.place) (sym vars)
+          (subst (λ (n : ℕ). IsSetTo q.trail order.vars.items n) (sym place) (set_to_longer p.trail _ order.vars.items order.place h.here));
+      levels = omega (arith, long, present, levels);
+      below = λ level lt.
+          (let under : level ≤ present_level p.trail = omega (arith, lt, present) in
+          subst (λ (t : List Entry). IsSetTo t order'.vars.items (place_at order'.opened.items level)) (sym (trail_law.assigned_below p l level under))
+          (subst (λ vs. IsSetTo (up_to_level level p.trail) vs.items (place_at order'.opened.items level)) (sym vars)
+          (subst (λ (xs : List ℕ). IsSetTo (up_to_level level p.trail) order.vars.items (place_at xs level)) (sym opened)
+          (elim (cases_Bool (level == present_level p.trail)) [
+            | inl y ↦
+                let same = eqb-true level (present_level p.trail) y in
+                let last : get_or (old ++ order.place ∷ []) level 0 ≡ order.place = last_place old order.place level (omega (arith, same, levels)) in
+                let whole : up_to_level level p.trail ≡ p.trail = trail_law.all p level held (omega (arith, same)) in
+                subst (λ (n : ℕ). IsSetTo (up_to_level level p.trail) order.vars.items n) (sym last)
+                (subst (λ (t : List Entry). IsSetTo t order.vars.items order.place) (sym whole) h.here)
+            | inr y ↦
+                let apart : level ≢ present_level p.trail = (λ e. never_both (level == present_level p.trail) (eq-eqb level (present_level p.trail) e) y) in
+                let below : level < present_level p.trail = omega (arith, under, apart) in
+                let first : get_or (old ++ order.place ∷ []) level 0 ≡ get_or old level 0 = get_or_append_left old (order.place ∷ []) 0 level (omega (arith, below, levels)) in
+                subst (λ (n : ℕ). IsSetTo (up_to_level level p.trail) order.vars.items n) (sym first) (h.below level below)
+          ]))));
+    }
+  where
+    last_place : (xs : List ℕ) (x level : ℕ) → level ≡ length xs → get_or (xs ++ x ∷ []) level 0 ≡ x
+    last_place [] x zero e = refl
+    last_place [] x (suc level) e = absurd (omega (arith, e))
+    last_place (y ∷ xs) x zero e = absurd (omega (arith, e))
+    last_place (y ∷ xs) x (suc level) e = last_place xs x level (omega (arith, e))
+
+-- and comes back with the level
+pub placed_back : (p : Propagation) (level : ℕ) (order order' : Order) → IsPropagation p → level < present_level p.trail → IsPlacedAt p.trail order
+    → order'.vars ≡ order.vars → order'.place ≡ place_at order.opened.items level → order'.opened.items ≡ take level order.opened.items
+    → IsPlacedAt (back_at p level).trail order'
+placed_back p level order order' held lt h vars place opened =
+    let levels = h.levels in
+    let present : present_level (up_to_level level p.trail) ≡ level = trail_law.reached p level held (omega (arith, lt)) in
+    record {
+      here = subst (λ vs. IsSetTo (up_to_level level p.trail) vs.items order'.place) (sym vars)
+          (subst (λ (n : ℕ). IsSetTo (up_to_level level p.trail) order.vars.items n) (sym place) (h.below level lt));
+      levels = ap (λ (xs : List ℕ). length xs) opened ∙ length-take-le level order.opened.items (omega (arith, lt, levels)) ∙ sym present;
+      below = λ low under.
+          (let lower : low < level = omega (arith, under, present) in
+          let same : place_at order'.opened.items low ≡ place_at order.opened.items low =
+          ap (λ (xs : List ℕ). get_or xs low 0) opened ∙ get_or-take level order.opened.items low 0 lower in
+          subst (λ (t : List Entry). IsSetTo t order'.vars.items (place_at order'.opened.items low)) (sym (trail_law.twice low level p.trail (omega (arith, lower))))
+          (subst (λ (n : ℕ). IsSetTo (up_to_level low p.trail) order'.vars.items n) (sym same)
+          (subst (λ vs. IsSetTo (up_to_level low p.trail) vs.items (place_at order.opened.items low)) (sym vars) (h.below low (omega (arith, lower, lt))))));
+    }
+
+-- THE VARIABLES OF A PART
+
+-- marked variables are those of the crossed clauses
+pub variables_over : (over : Crossed) (marks : List Bool) → is_formula over.formula.now ≡ true
+    → ((u : ℕ) → is_in marks u ≡ list_any (λ p. mentions (clause_over over p) u) over.part.now)
+    → AreVariablesOver over (filter (is_in marks) (up_to over.formula.now.vars))
+variables_over over marks form h = record {
+  within = all_decided (up_to over.formula.now.vars) (λ v m. m);
+  all = λ position l part there.
+      (let occurs = passes_among (λ p. mentions (clause_over over p) (variable l)) over.part.now position part (mentions_of (clause_over over position) l there) in
+      let here = and_true (not (is_in over.blocked.now (variable l))) (contains (clause_at over.formula.now position) l)
+      (sym (contains_crossed (is_in over.blocked.now) (clause_at over.formula.now position) l) ∙ there) in
+      let bounds = variable_bound over.formula.now position (variable l) form (mentions_of (clause_at over.formula.now position) l here.1) in
+      in_filter (is_in marks) (up_to over.formula.now.vars) (variable l) (h (variable l) ∙ occurs)
+      (among-range 1 over.formula.now.vars (variable l) (omega (arith, bounds.0)) (omega (arith, bounds.1))));
+}
+  where
+    -- a marked one is not blocked
+    unblocked : (v : ℕ) → is_in marks v ≡ true → is_in over.blocked.now v ≡ false
+    unblocked v m =
+        let x = passing (λ p. mentions (clause_over over p) v) over.part.now (sym (h v) ∙ m) in
+        let l = literal_passing (λ k. variable k == v) (clause_over over x.0) x.2 in
+        let here = and_true (not (is_in over.blocked.now (variable l.0))) (contains (clause_at over.formula.now x.0) l.0)
+        (sym (contains_crossed (is_in over.blocked.now) (clause_at over.formula.now x.0) l.0) ∙ l.1) in
+        not-true (is_in over.blocked.now v) (subst (λ (n : ℕ). not (is_in over.blocked.now n) ≡ true) (eqb-true (variable l.0) v l.2) here.0)
+
+    all_decided : (vs : List ℕ) → ((v : ℕ) → among vs v ≡ true → among (up_to over.formula.now.vars) v ≡ true)
+        → list_all (may_decide over) (filter (is_in marks) vs) ≡ true
+    all_decided [] inside = refl
+    all_decided (v ∷ vs) inside = at_mark (is_in marks v) refl (all_decided vs (λ u m. inside u (or_right (v == u) (among vs u) m)))
+      where
+        at_mark : (b : Bool) → is_in marks v ≡ b → list_all (may_decide over) (filter (is_in marks) vs) ≡ true
+            → list_all (may_decide over) (cond b (v ∷ filter (is_in marks) vs) (filter (is_in marks) vs)) ≡ true
+        at_mark false f rest = rest
+        at_mark true f rest =
+            let bounds = in_range 1 over.formula.now.vars v (inside v (or_left (v == v) (among vs v) (eq-eqb v v refl))) in
+            let low : nat_lt 0 v ≡ true = lt-ltb 0 v (omega (arith, bounds.0)) in
+            let high : nat_le v over.formula.now.vars ≡ true = le-leb v over.formula.now.vars (omega (arith, bounds.1)) in
+            and_from (may_decide over v) (list_all (may_decide over) (filter (is_in marks) vs))
+            (and_from (nat_lt 0 v && nat_le v over.formula.now.vars) (not (is_in over.blocked.now v)) (and_from (nat_lt 0 v) (nat_le v over.formula.now.vars) low high) (ap not (unblocked v f)))
+            rest
+
+-- the bounds of a variable that is read
+pub variable_read : (n : ℕ) (vars : List ℕ) (i v : ℕ) → are_within n vars ≡ true → i < length vars → v ≡ get_or vars i v → (0 < v) × (v ≤ n)
+variable_read n [] i v h lt read = absurd (omega (arith, lt))
+variable_read n (u ∷ vars) zero v h lt read =
+    let both = and_true (nat_lt 0 u && nat_le u n) (are_within n vars) h in
+    let parts = and_true (nat_lt 0 u) (nat_le u n) both.0 in
+    let low = ltb-true 0 u parts.0 in
+    let high = leb-true u n parts.1 in
+    ((let a : 0 < v = omega (arith, low, read) in a), (let b : v ≤ n = omega (arith, high, read) in b))
+variable_read n (u ∷ vars) (suc i) v h lt read =
+    variable_read n vars i v (and_true (nat_lt 0 u && nat_le u n) (are_within n vars) h).1 (omega (arith, lt)) read
+
+-- it is one of them
+pub among_read : (vars : List ℕ) (i v : ℕ) → i < length vars → v ≡ get_or vars i v → among vars v ≡ true
+among_read [] i v lt read = absurd (omega (arith, lt))
+among_read (u ∷ vars) zero v lt read = or_left (u == v) (among vars v) (eq-eqb u v (sym read))
+among_read (u ∷ vars) (suc i) v lt read = or_right (u == v) (among vars v) (among_read vars i v (omega (arith, lt)) read)

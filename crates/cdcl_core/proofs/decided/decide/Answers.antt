@@ -1,0 +1,31 @@
+use Rattle.std.proofs.Common.{◌≡◌, ◌∙◌, ◌<◌, ◌^◌, ℕ, List, length, sym, ap, subst}
+use Rattle.lk_model.specs.declared.document.Step.{Step}
+use Rattle.learning_laws.proofs.Solving.{solve_law}
+use Rattle.cdcl_core.proofs.Searches.{search_forced, less_assigned}
+use Rattle.cdcl_core.proofs.decided.decide.Goals as goal
+
+pub assign_least-requires-clause-search : goal.assign_least-requires-clause-search
+assign_least-requires-clause-search c = search_forced c.args.over.now c.turns.search c.propagate.new.self c.turns.invariant.search c.propagate.ensures.goes_on c.propagate.ensures.held
+
+pub turns-smaller-else-not-branch : goal.turns-smaller-else-not-branch
+turns-smaller-else-not-branch c =
+    less_assigned c.args.over.now c.args.left c.turns.search c.assign_least.new.self c.propagate.new.self c.propagate.ensures.goes_on c.in_ok-assign_least-in-Quiet.ensures.search
+    c.assign_least.ensures.log c.in_ok-assign_least-in-Quiet.ensures.vars (c.in_ok-assign_least-in-Quiet.ensures.more c.if-not-branch.false)
+
+pub refute-requires-clause-search : goal.refute-requires-clause-search
+refute-requires-clause-search c = search_forced c.args.over.now c.turns.search c.propagate.new.self c.turns.invariant.search c.propagate.ensures.goes_on c.propagate.ensures.held
+
+pub returns-then-steps-left : goal.returns-then-steps-left
+returns-then-steps-left c =
+    let h = c.turns.invariant.search in
+    let all : length c.turns.search.log.steps ≡ c.args.left = sym (ap (λ (xs : List Step). length xs) c.steps.ensures) ∙ c.if-steps-left.true in
+    record {
+      numbered = c.turns.invariant.first;
+      round = h.solving.round;
+      filled = h.solving.filled;
+      all = all;
+      few = subst (λ (n : ℕ). n < 3 ^ c.args.over.now.formula.now.vars) all (solve_law.few c.args.over.now c.turns.search.log c.turns.search.propagator h.formula h.solving);
+    }
+
+pub learn-requires-clause-search : goal.learn-requires-clause-search
+learn-requires-clause-search c = search_forced c.args.over.now c.turns.search c.propagate.new.self c.turns.invariant.search c.propagate.ensures.goes_on c.propagate.ensures.held

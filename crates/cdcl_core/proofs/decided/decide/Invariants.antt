@@ -1,0 +1,14 @@
+use Rattle.std.proofs.Common.{◌≡◌, ◌≤◌, length}
+use Rattle.cdcl_core.specs.Searching.{IsSearch, remaining}
+use Rattle.cdcl_core.proofs.decided.decide.Given as goal
+
+-- a search that has learned at most so many clauses
+abbrev pub invariant-turns : goal.invariant-turns
+invariant-turns l = record {
+  search : IsSearch l.over l.search;
+  first : l.search.log.first ≡ l.next;
+  most : length l.search.log.steps ≤ l.left;
+}
+
+abbrev pub decreases-turns : goal.decreases-turns
+decreases-turns l = remaining l.left l.search

@@ -1,0 +1,142 @@
+//! A search for a model.
+ghost use Rattle.std.specs.Prelude.{◌≡◌, ◌+◌, ◌-◌, ◌<◌, ◌^◌, ◌≤◌, [], ℕ, None, true, false, slice_index_or, length, IfOk, OnOk, IsTrue};
+ghost use Rattle.lk_model.specs.Held.VariableSets.{IsCrossed};
+ghost use Rattle.lk_model.specs.Chains.Rounds.{is_refutation};
+ghost use Rattle.refutation_log.specs.Derivation.{next_number};
+ghost use Rattle.watch_prop.specs.declared.entry.Propagated.TheVariants.{Conflict};
+ghost use Rattle.watch_prop.specs.Trail.{present_level};
+ghost use Rattle.watch_prop.specs.Propagation.{assigned, is_quiet, IsAnswered};
+ghost use Rattle.learning_laws.specs.SolveLaw.{IsRoundOver};
+ghost use Rattle.cdcl_core.specs.Decision.{IsModelOver};
+ghost use Rattle.refutation_log.specs.Trimmed.{are_filled_before_last};
+ghost use Rattle.cdcl_core.specs.Orders.{are_set};
+ghost use Rattle.cdcl_core.specs.Searching.{IsSearch};
+
+use crate::analysis::{level_below, turns_back};
+use crate::marks::Marks;
+use crate::order::Order;
+use lk_model::{Crossed, Lit, OutOfMemory};
+use partial_assign::Partial;
+use refutation_log::Log;
+use std::alloc::Global;
+use watch_prop::Propagator;
+
+/// The clauses and the trail, the steps that learned clauses, the order of the variables, and marks that are clean
+/// between two conflicts.
+#[derive(Drop)]
+pub(crate) struct Search {
+    pub propagator: Propagator,
+    pub log: Log,
+    pub order: Order,
+    pub marks: Marks,
+}
+
+impl Search {
+    /// Where nothing is set and nothing is learned.
+    pub fn new(alloc: Global, over: &Crossed, next: u64) -> Result<Search, OutOfMemory>
+        requires crossed { IsCrossed over.now }
+        requires past { length over.now.formula.now.clauses < next }
+        ensures search { IfOk result (IsSearch over.now) }
+        ensures first { IfOk result (λ s. s.log.first ≡ next) }
+        ensures steps { IfOk result (λ s. s.log.steps ≡ []) }
+    {
+        Ok(Search {
+            propagator: Propagator::new(alloc, over)?,
+            log: Log::new(alloc, next),
+            order: Order::new(alloc, over)?,
+            marks: Marks::new(alloc, over.formula.vars())?,
+        })
+    }
+
+    /// Makes the least unset variable true at a new level, and answers whether there was one.
+    pub fn assign_least(&mut self, over: &Crossed) -> Result<bool, OutOfMemory>
+        requires search { IsSearch over.now self.old }
+        requires quiet { IsTrue (is_quiet (assigned self.old.propagator) self.old.propagator.clauses) }
+        ensures search { OnOk result (IsSearch over.now self.new) }
+        ensures log { self.new.log ≡ self.old.log }
+        ensures vars { OnOk result (self.new.propagator.vars ≡ self.old.propagator.vars) }
+        ensures more { IfOk result (λ b. b ≡ true → length self.new.propagator.trail ≡ length self.old.propagator.trail + 1) }
+        ensures none { IfOk result (λ b. b ≡ false → (self.new.propagator ≡ self.old.propagator) × IsTrue (are_set self.new.propagator.trail self.new.order.vars.items)) }
+    {
+        match self.order.next(&self.propagator) {
+            Some(v) => {
+                self.order.open()?;
+                self.propagator.assign(Lit::from_var(v, true));
+                Ok(true)
+            }
+            None => Ok(false),
+        }
+    }
+
+    /// Learns a clause from a false one, and goes back to the highest level of its other literals.
+    pub fn learn(&mut self, alloc: Global, over: &Crossed, conflict: u64) -> Result<(), OutOfMemory>
+        requires crossed { IsCrossed over.now }
+        requires search { IsSearch over.now self.old }
+        requires conflict { IsAnswered self.old.propagator (Conflict conflict) }
+        requires above { 0 < present_level self.old.propagator.trail }
+        requires room { next_number self.old.log < 2 ^ 64 - 1 }
+        ensures search { OnOk result (IsSearch over.now self.new) }
+        ensures first { OnOk result (self.new.log.first ≡ self.old.log.first) }
+        ensures steps { OnOk result (length self.new.log.steps ≡ length self.old.log.steps + 1) }
+        ensures vars { OnOk result (self.new.propagator.vars ≡ self.old.propagator.vars) }
+    {
+        let turns = turns_back(alloc, &self.propagator, conflict, &mut self.marks)?;
+        let number = self.log.push_chain(over, conflict, &turns)?;
+        let clause = self.log.last_clause();
+        self.marks.remove_all(clause);
+        let level = level_below(&self.propagator, clause);
+        self.propagator.retract(level);
+        self.order.back(level);
+        self.propagator.add(number, clause)?;
+        Ok(())
+    }
+
+    /// The log with the empty clause, from a clause that is false at level 0.
+    pub fn refute(self, alloc: Global, over: &Crossed, conflict: u64) -> Result<Log, OutOfMemory>
+        requires crossed { IsCrossed over.now }
+        requires search { IsSearch over.now self }
+        requires conflict { IsAnswered self.propagator (Conflict conflict) }
+        requires level { present_level self.propagator.trail ≡ 0 }
+        requires room { next_number self.log < 2 ^ 64 - 1 }
+        ensures round { IfOk result (IsRoundOver over.now) }
+        ensures refutes { IfOk result (λ log. IsTrue (is_refutation log.steps)) }
+        ensures filled { IfOk result (λ log. IsTrue (are_filled_before_last log.steps)) }
+        ensures first { IfOk result (λ log. log.first ≡ self.log.first) }
+        ensures steps { IfOk result (λ log. length log.steps ≡ length self.log.steps + 1) }
+    {
+        let Search {
+            propagator,
+            mut log,
+            mut marks,
+            ..
+        } = self;
+        let turns = turns_back(alloc, &propagator, conflict, &mut marks)?;
+        log.push_chain(over, conflict, &turns)?;
+        Ok(log)
+    }
+
+    /// The assignment of the trail.
+    pub fn model(&self, alloc: Global, over: &Crossed) -> Result<Partial, OutOfMemory>
+        requires crossed { IsCrossed over.now }
+        requires search { IsSearch over.now self.now }
+        requires quiet { IsTrue (is_quiet (assigned self.now.propagator) self.now.propagator.clauses) }
+        requires set { IsTrue (are_set self.now.propagator.trail self.now.order.vars.items) }
+        ensures { IfOk result (IsModelOver over.now) }
+    {
+        Ok(values_of(alloc, over.formula.vars(), &self.propagator)?)
+    }
+}
+
+// The values along the trail.
+fn values_of(alloc: Global, n: u32, p: &Propagator) -> Result<Partial, OutOfMemory>
+    requires vars { n ≡ p.now.vars }
+    requires small { n ≤ 1000000 }
+    ensures vars { IfOk result (λ values. length values ≡ n) }
+    ensures values { IfOk result (λ values. (v : ℕ) → v < n → slice_index_or values v None ≡ assigned p.now (v + 1)) }
+{
+    let mut values = Partial::new(alloc, n)?;
+    for l in p.trail() {
+        values.put(*l);
+    }
+    Ok(values)
+}

@@ -1,0 +1,102 @@
+//! The kernel of the class general.
+//!
+//! A clause that a refutation uses has no variable that an autarky sets, and a model of the clauses without the variables
+//! of such clauses is an autarky that satisfies the rest (Kullmann, "Investigations on Autark Assignments", 2000). So
+//! refutations in turn, each over the clauses without the variables of those before, end at the largest lean part.
+//!
+//! Here each refutation learns clauses from conflicts, and is kept with what it uses of it, so that the kernel can be
+//! checked without a search.
+ghost use Rattle.std.specs.Prelude.{◌≡◌, ◌<◌, ◌^◌, length, IfOk, IsTrue};
+ghost use Rattle.lk_model.specs.Formulas.Lean.{are_positions};
+ghost use Rattle.lk_model.specs.Formulas.Formula.{variable_occurs};
+ghost use Rattle.lk_model.specs.Held.PartialValues.{assignment_by};
+ghost use Rattle.general_kernel.specs.Found.{IsFound};
+ghost use Rattle.general_kernel.specs.SetLiterals.{literals_on};
+
+use crate::blocking::{add_variables, covered};
+use crate::rounds::Rounds;
+use crate::setting::literals_on;
+use cdcl_core::{Decided, decide};
+use lk_model::{Crossed, Formula, GeneralResult, List, Lit, OutOfMemory, Round, VarSet};
+use partial_assign::Partial;
+use std::alloc::Global;
+
+/// What is found of the general kernel in a part.
+#[derive(Drop)]
+pub enum General {
+    /// The kernel, with literals that satisfy the other clauses of the part, and trimmed rounds.
+    Done(GeneralResult),
+    /// Whole rounds and an open one, with as many learned clauses as were allowed.
+    Unfinished(List<Round>),
+}
+
+/// Looks for the general kernel in the part of a formula at some positions, which ascend and count from 1, by at most so
+/// many learned clauses, from 1 to 2^63 - 1. The steps are numbered from the formula's number of clauses plus 1. It ends
+/// unfinished only where conflicts is below n * 3^n for the n variables of the formula. The error is that there is no
+/// memory.
+pub fn general_kernel(
+    alloc: Global,
+    f: &Formula,
+    part: &[u32],
+    conflicts: u64,
+) -> Result<General, OutOfMemory>
+    requires part { IsTrue (are_positions f.now part.now) }
+    requires some { 0 < conflicts }
+    requires most { conflicts < 2 ^ 63 }
+    ensures { IfOk result (IsFound f.now part.now conflicts) }
+{
+    let mut rounds = Rounds::new(alloc, f, conflicts)?;
+    'rounds: loop {
+        let kept = covered(alloc, f, part, &rounds.blocked)?;
+        if kept.len() == part.len() {
+            return Ok(General::Done(GeneralResult {
+                kept,
+                set: List::new(alloc),
+                rounds: rounds.trimmed,
+            }));
+        }
+        if rounds.left == 0 {
+            return Ok(General::Unfinished(rounds.with_open(Round {
+                steps: List::new(alloc),
+            })?));
+        }
+        let over = Crossed {
+            formula: f,
+            part,
+            blocked: &rounds.blocked,
+        };
+        match decide(alloc, &over, rounds.next, rounds.left)? {
+            Decided::Sat(values) => {
+                return Ok(General::Done(GeneralResult {
+                    kept,
+                    set: set_of(alloc, f, part, &values)?,
+                    rounds: rounds.trimmed,
+                }));
+            }
+            Decided::Refuted(log) => {
+                let used = log.used(&over)?;
+                rounds.push(alloc, log)?;
+                add_variables(f, used.as_slice(), &mut rounds.blocked);
+            }
+            Decided::Stopped(log) => {
+                return Ok(General::Unfinished(rounds.with_open(log.into_round())?));
+            }
+        }
+    }
+}
+
+// The true literals on the variables of the part, ascending.
+fn set_of(
+    alloc: Global,
+    f: &Formula,
+    part: &[u32],
+    values: &Partial,
+) -> Result<List<Lit>, OutOfMemory>
+    requires part { IsTrue (are_positions f.now part.now) }
+    requires vars { length values.now ≡ f.now.vars }
+    ensures { IfOk result (λ ls. ls ≡ literals_on (variable_occurs f.now part.now) (assignment_by values.now) f.now.vars) }
+{
+    let mut vars = VarSet::new(alloc, f.vars())?;
+    add_variables(f, part, &mut vars);
+    literals_on(alloc, &vars, values)
+}

@@ -1,0 +1,9 @@
+//! The kernel of the class general in a part of a formula, by rounds of refutations.
+#![tactic(auto)]
+
+mod blocking;
+mod general;
+mod rounds;
+mod setting;
+
+pub use general::{General, general_kernel};

@@ -1,0 +1,15 @@
+pub mod Tests
+pub mod Levels
+pub mod News
+pub mod QuietLaws
+pub mod Splits
+pub mod Naming
+pub mod Conflicts
+pub mod Backwards
+pub mod TrailLaws
+pub mod Models
+pub mod Solving
+pub mod Places
+pub mod Counts
+pub mod Examples
+pub mod Walking

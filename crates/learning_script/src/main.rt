@@ -1,0 +1,140 @@
+//! Decides parts of formulas, and prints what is answered and whether it stands. A line of the input is one of
+//!
+//!     case | NAME | VARS | CLAUSES | PART | BLOCKED | NEXT | LEFT
+//!     budgets | NAME | VARS | CLAUSES
+//!     pigeons | HOLES | LEFT
+//!     chain | LENGTH
+//!     drawn | SEED | COUNT
+//!
+//! Commas stand between clauses. Of `budgets` each budget from 1 on is tried until one is enough. A chain is one of
+//! implications that cannot all hold. Drawn formulas are compared with a search through all assignments (`drawn`).
+//! Every log is gone through step by step (`logs`).
+#![tactic(auto)]
+
+mod answers;
+mod built;
+mod drawn;
+mod logs;
+
+use crate::answers::{Asked, put_answer};
+use crate::built::{implications, pigeons};
+use crate::drawn::put_drawn;
+use lk_model::Formula;
+use lk_samples::{formula_of_text, positions, set_of};
+use std::alloc::{AllocError, Global};
+use std::test::Fail;
+
+/// What stands before the next bar, and what stands behind it.
+fn part_of(text: &str) -> (&str, &str) {
+    text.split_once("|").unwrap_or((text, ""))
+}
+
+/// The number that a text has.
+fn number_of(text: &str) -> u32 {
+    text.trim().parse().unwrap_or(0)
+}
+
+/// The numbers that a text has.
+fn numbers_of(alloc: Global, text: &str) -> Result<Vec<u32>, AllocError> {
+    let mut numbers = Vec::new(alloc);
+    for word in text.split_whitespace() {
+        numbers.push(word.parse().unwrap_or(0))?;
+    }
+    Ok(numbers)
+}
+
+/// Decides a whole formula, with steps numbered from behind its positions.
+fn put_whole(alloc: Global, f: &Formula, left: u32, out: &mut String) -> Result<(), Fail> {
+    let part = positions(alloc, f)?;
+    let blocked = set_of(alloc, f.vars(), &[])?;
+    let asked = Asked {
+        formula: f,
+        part: part.as_slice(),
+        blocked: &blocked,
+    };
+    put_answer(alloc, &asked, u64::from(f.len()) + 1, u64::from(left), out)?;
+    Ok(())
+}
+
+/// Decides a part of a formula: `PART | BLOCKED | NEXT | LEFT`.
+fn put_part(alloc: Global, f: &Formula, text: &str, out: &mut String) -> Result<(), Fail> {
+    let (part, text) = part_of(text);
+    let (blocked, text) = part_of(text);
+    let (next, left) = part_of(text);
+    let part = numbers_of(alloc, part)?;
+    let blocked = numbers_of(alloc, blocked)?;
+    let blocked = set_of(alloc, f.vars(), blocked.as_slice())?;
+    let asked = Asked {
+        formula: f,
+        part: part.as_slice(),
+        blocked: &blocked,
+    };
+    let next = u64::from(number_of(next));
+    put_answer(alloc, &asked, next, u64::from(number_of(left)), out)?;
+    Ok(())
+}
+
+/// Decides the case `NAME | VARS | CLAUSES | ..`.
+fn put_case(alloc: Global, text: &str, out: &mut String) -> Result<(), Fail> {
+    let (name, text) = part_of(text);
+    let (vars, text) = part_of(text);
+    let (clauses, text) = part_of(text);
+    writeln!(out, "== {}", name.trim())?;
+    let f = formula_of_text(alloc, number_of(vars), clauses)?;
+    put_part(alloc, &f, text, out)
+}
+
+/// Decides a formula with each budget from 1 to 9.
+fn put_budgets(alloc: Global, text: &str, out: &mut String) -> Result<(), Fail> {
+    let (name, text) = part_of(text);
+    let (vars, clauses) = part_of(text);
+    writeln!(out, "== {}", name.trim())?;
+    let f = formula_of_text(alloc, number_of(vars), clauses)?;
+    for left in 1..10 {
+        put_whole(alloc, &f, left, out)?;
+    }
+    Ok(())
+}
+
+/// Decides a formula of pigeons: `HOLES | LEFT`.
+fn put_pigeons(alloc: Global, text: &str, out: &mut String) -> Result<(), Fail> {
+    let (holes, left) = part_of(text);
+    writeln!(out, "== one pigeon more than {} holes", holes.trim())?;
+    let f = pigeons(alloc, number_of(holes))?;
+    put_whole(alloc, &f, number_of(left), out)
+}
+
+/// Decides a chain of implications.
+fn put_chain(alloc: Global, text: &str, out: &mut String) -> Result<(), Fail> {
+    writeln!(out, "== a chain of {} implications", text.trim())?;
+    let f = implications(alloc, number_of(text))?;
+    put_whole(alloc, &f, 1, out)
+}
+
+/// Decides drawn formulas: `SEED | COUNT`.
+fn put_seed(alloc: Global, text: &str, out: &mut String) -> Result<(), Fail> {
+    let (seed, count) = part_of(text);
+    put_drawn(alloc, number_of(seed), number_of(count), out)
+}
+
+/// Prints what a line asks for.
+fn put_line(alloc: Global, line: &str, out: &mut String) -> Result<(), Fail> {
+    let (kind, text) = part_of(line);
+    match kind.trim() {
+        "case" => put_case(alloc, text, out),
+        "budgets" => put_budgets(alloc, text, out),
+        "pigeons" => put_pigeons(alloc, text, out),
+        "chain" => put_chain(alloc, text, out),
+        "drawn" => put_seed(alloc, text, out),
+        _ => Err(Fail::from("no such line")),
+    }
+}
+
+fn main(rt: HostRuntime) -> Result<(), Fail> {
+    for line in rt.lines(rt.alloc()) {
+        let mut out = String::new(rt.alloc());
+        put_line(rt.alloc(), line?.as_str(), &mut out)?;
+        print!(rt; "{out}")?;
+    }
+    Ok(())
+}

@@ -1,0 +1,4 @@
+pub mod Weightings
+pub mod Moments
+pub mod Leads
+pub mod Ends

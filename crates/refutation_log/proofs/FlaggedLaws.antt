@@ -1,0 +1,141 @@
+-- Clauses by flags of literals.
+use Rattle.std.proofs.Common.{◌≡◌, ◌≢◌, ◌<◌, Bool, true, false, cond, not, ◌&&◌, ◌||◌, List, [], ◌∷◌, ◌++◌, refl, sym, ◌∙◌, ap, subst, ℤ, length, filter, set}
+use Rattle.std.specs.Ordering.{int_eq}
+use Rattle.std.proofs.lemmas.Bool.Decides.{Decides-int_eq}
+use Rattle.std.proofs.lemmas.List.{get_or-set_same, get_or-set_other}
+use Rattle.lk_model.specs.Formulas.Literal.{contains, rank_of}
+use Rattle.lk_model.specs.Chains.Chain.{without}
+use Rattle.lk_model.proofs.Booleans.{and_true, or_left, or_right}
+use Rattle.lk_model.proofs.Literals.{same_int}
+use Rattle.lk_model.proofs.Ranks.{rank_apart}
+use Rattle.refutation_log.specs.Flagged.{is_flagged, flagged, HaveCome}
+use Rattle.refutation_log.specs.SameClause.{HaveSame}
+use Rattle.refutation_log.proofs.Clauses.{contains_append, contains_without}
+
+-- WHAT FLAGS SAY
+
+contains_filtered : (p : ℤ → Bool) (c : List ℤ) (k : ℤ) → contains (filter p c) k ≡ (p k && contains c k)
+contains_filtered p [] k = none (p k)
+  where
+    none : (b : Bool) → false ≡ (b && false)
+    none true = refl
+    none false = refl
+contains_filtered p (m ∷ c) k = at (p m) refl (int_eq k m) refl (contains_filtered p c k)
+  where
+    at : (b : Bool) → p m ≡ b → (d : Bool) → int_eq k m ≡ d → contains (filter p c) k ≡ (p k && contains c k)
+        → contains (cond b (m ∷ filter p c) (filter p c)) k ≡ (p k && (d || contains c k))
+    at true e true f h = let pk : p k ≡ true = ap p (same_int k m f) ∙ e in rw (f, pk) refl
+    at true e false f h = rw (f) h
+    at false e true f h =
+        let pk : p k ≡ false = ap p (same_int k m f) ∙ e in
+        h ∙ ap (λ (b : Bool). b && contains c k) pk ∙ sym (ap (λ (b : Bool). b && true) pk)
+    at false e false f h = h
+
+-- the clause has the literals whose flags are set
+pub flagged_holds : (flags : List Bool) (came : List ℤ) → HaveCome flags came → (k : ℤ) → contains (flagged flags came) k ≡ is_flagged flags k
+flagged_holds flags came h k = contains_filtered (is_flagged flags) came k ∙ at (is_flagged flags k) refl
+  where
+    at : (b : Bool) → is_flagged flags k ≡ b → (b && contains came k) ≡ b
+    at true e = h k e
+    at false e = refl
+
+-- a flag that is written
+pub flag_written : (flags : List Bool) (l : ℤ) (b : Bool) (k : ℤ) → rank_of l < length flags
+    → is_flagged (set flags (rank_of l) b) k ≡ cond (int_eq k l) b (is_flagged flags k)
+flag_written flags l b k lt = at (int_eq k l) refl
+  where
+    at : (t : Bool) → int_eq k l ≡ t → is_flagged (set flags (rank_of l) b) k ≡ cond t b (is_flagged flags k)
+    at true e = subst (λ (m : ℤ). is_flagged (set flags (rank_of l) b) m ≡ b) (sym (same_int k l e)) (get_or-set_same flags (rank_of l) b false lt)
+    at false e =
+        let apart : rank_of k ≢ rank_of l = λ same. (let f : true ≡ false = sym (int_self k l (rank_apart k l same)) ∙ e in let z : ⊥ = cc in z) in
+        get_or-set_other flags (rank_of l) (rank_of k) b false apart
+      where
+        int_self : (x y : ℤ) → x ≡ y → int_eq x y ≡ true
+        int_self x y s = (Decides-int_eq x y).1 s
+
+-- a literal that is taken out
+pub taken_out : (flags flags' : List Bool) (came : List ℤ) (l : ℤ) → HaveCome flags came
+    → ((k : ℤ) → is_flagged flags' k ≡ (is_flagged flags k && not (int_eq k l)))
+    → HaveCome flags' came × HaveSame (flagged flags' came) (without (flagged flags came) l)
+taken_out flags flags' came l h same = (
+  still,
+  record {
+    members = λ k. flagged_holds flags' came still k ∙ same k ∙ ap (λ (b : Bool). b && not (int_eq k l)) (sym (flagged_holds flags came h k))
+        ∙ sym (contains_without (flagged flags came) l k);
+  },
+)
+  where
+    still : HaveCome flags' came
+    still k set = h k (and_true (is_flagged flags k) (not (int_eq k l)) (sym (same k) ∙ set)).0
+
+-- none is left where each that came is taken back
+pub all_taken : (flags flags' : List Bool) (came : List ℤ) → HaveCome flags came
+    → ((k : ℤ) → is_flagged flags' k ≡ (is_flagged flags k && not (contains came k))) → HaveCome flags' []
+all_taken flags flags' came h same k set =
+    let both = and_true (is_flagged flags k) (not (contains came k)) (sym (same k) ∙ set) in
+    absurd (never (contains came k) (h k both.0) both.1)
+  where
+    never : (b : Bool) → b ≡ true → not b ≡ true → ⊥
+    never true t n = (let z : ⊥ = cc in z)
+    never false t n = (let z : ⊥ = cc in z)
+
+-- a literal that is put in, which came before or comes now
+pub put_in : (flags flags' : List Bool) (came came' : List ℤ) (l : ℤ) → HaveCome flags came
+    → ((k : ℤ) → is_flagged flags' k ≡ (int_eq k l || is_flagged flags k))
+    → ((k : ℤ) → contains came k ≡ true → contains came' k ≡ true) → contains came' l ≡ true
+    → HaveCome flags' came' × HaveSame (flagged flags' came') (l ∷ flagged flags came)
+put_in flags flags' came came' l h same more here = (
+  still,
+  record { members = λ k. flagged_holds flags' came' still k ∙ same k ∙ ap (λ (b : Bool). int_eq k l || b) (sym (flagged_holds flags came h k)) },
+)
+  where
+    still : HaveCome flags' came'
+    still k set = at (int_eq k l) refl (sym (same k) ∙ set)
+      where
+        at : (b : Bool) → int_eq k l ≡ b → (b || is_flagged flags k) ≡ true → contains came' k ≡ true
+        at true e f = subst (λ (m : ℤ). contains came' m ≡ true) (sym (same_int k l e)) here
+        at false e f = more k (h k f)
+
+-- the flags after each of two steps
+pub unflagged_more : (flags flags' flags'' : List Bool) (lits : List ℤ) (l : ℤ) (k : ℤ)
+    → is_flagged flags' k ≡ (is_flagged flags k && not (contains lits k)) → is_flagged flags'' k ≡ (is_flagged flags' k && not (int_eq k l))
+    → is_flagged flags'' k ≡ (is_flagged flags k && not (contains (lits ++ l ∷ []) k))
+unflagged_more flags flags' flags'' lits l k first second =
+    second ∙ ap (λ (b : Bool). b && not (int_eq k l)) first ∙ both (is_flagged flags k) (contains lits k) (int_eq k l)
+    ∙ ap (λ (b : Bool). is_flagged flags k && not b) (sym (contains_append lits (l ∷ []) k))
+  where
+    both : (a b c : Bool) → ((a && not b) && not c) ≡ (a && not (b || (c || false)))
+    both true true c = refl
+    both true false true = refl
+    both true false false = refl
+    both false b c = refl
+
+-- PUT IN
+
+-- its flag is set now
+pub put_new : (flags made : List Bool) (came : List ℤ) (l : ℤ) → HaveCome flags came → rank_of l < length made
+    → ((k : ℤ) → is_flagged made k ≡ is_flagged flags k) → HaveSame (flagged (set made (rank_of l) true) (came ++ l ∷ [])) (l ∷ flagged flags came)
+put_new flags made came l h room same = (put_in flags (set made (rank_of l) true) came (came ++ l ∷ []) l h set_now more here).1
+  where
+    set_now : (k : ℤ) → is_flagged (set made (rank_of l) true) k ≡ (int_eq k l || is_flagged flags k)
+    set_now k = flag_written made l true k room ∙ ap (cond (int_eq k l) true) (same k) ∙ either (int_eq k l) (is_flagged flags k)
+      where
+        either : (a b : Bool) → cond a true b ≡ (a || b)
+        either true b = refl
+        either false b = refl
+
+    more : (k : ℤ) → contains came k ≡ true → contains (came ++ l ∷ []) k ≡ true
+    more k m = contains_append came (l ∷ []) k ∙ or_left (contains came k) (contains (l ∷ []) k) m
+
+    here : contains (came ++ l ∷ []) l ≡ true
+    here = contains_append came (l ∷ []) l ∙ or_right (contains came l) (contains (l ∷ []) l) (or_left (int_eq l l) false ((Decides-int_eq l l).1 refl))
+
+-- its flag was set before
+pub put_there : (flags made : List Bool) (came : List ℤ) (l : ℤ) → HaveCome flags came → ((k : ℤ) → is_flagged made k ≡ is_flagged flags k)
+    → is_flagged made l ≡ true → HaveSame (flagged made came) (l ∷ flagged flags came)
+put_there flags made came l h same is =
+    (put_in flags made came came l h (λ k. same k ∙ already k (int_eq k l) refl) (λ k m. m) (h l (sym (same l) ∙ is))).1
+  where
+    already : (k : ℤ) (b : Bool) → int_eq k l ≡ b → is_flagged flags k ≡ (b || is_flagged flags k)
+    already k true e = ap (is_flagged flags) (same_int k l e) ∙ sym (same l) ∙ is
+    already k false e = refl
