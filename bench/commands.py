@@ -1,11 +1,12 @@
 #!/usr/bin/env python3
-"""Measures `check`, `extend` and `report` beside reading the same files.
+"""Measures `check`, `extend` and `report` beside reading the same files, and `report` beside a plain
+program in C++ that writes the same lines.
 
     bench/commands.py LEANK [KIND ...]
 
-LEANK is the built program (crates/leank/out holds it after `bin/leank` ran once). Needs python3. Reading
-is measured by leank itself, which reads its inputs in their order and stops at one that is bad. Each
-figure is the least wall time of some runs. Nothing fails by time.
+LEANK is the built program (crates/leank/out holds it after `bin/leank` ran once). Needs python3 and g++.
+Reading is measured by leank itself, which reads its inputs in their order and stops at one that is bad.
+Each figure is the least wall time of some runs. Nothing fails by time.
 """
 import os
 import random
@@ -75,6 +76,22 @@ def least_seconds(words, output=os.devnull, status=0):
     return least
 
 
+def built(folder, name):
+    """A program of this folder, built into the other one."""
+    program = os.path.join(folder, name)
+    source = os.path.join(os.path.dirname(os.path.abspath(__file__)), name + ".cpp")
+    subprocess.run(["g++", "-O2", "-std=c++17", "-o", program, source], check=True)
+    return program
+
+
+def report_beside(leank, plain, formula):
+    """Seconds of both programs that tell the numbers of a formula, which must be the same."""
+    ours, theirs = (subprocess.run(words, stdout=subprocess.PIPE, check=True).stdout for words in ([leank, "report", formula], [plain, formula]))
+    if ours != theirs:
+        sys.exit("the reports differ")
+    return least_seconds([leank, "report", formula]), least_seconds([plain, formula])
+
+
 def main():
     if len(sys.argv) < 2:
         sys.exit(__doc__)
@@ -83,14 +100,17 @@ def main():
         formula, model, document, bad = (os.path.join(folder, name) for name in ("formula", "model", "document", "bad"))
         with open(bad, "w") as out:
             out.write("v x\n")
+        plain = built(folder, "report")
         for kind in kinds:
             write(kind, formula, model)
             print(f"{kind}: {KINDS[kind].__doc__} {os.path.getsize(formula)} bytes")
             one = least_seconds([leank, "check", formula, bad], status=2)
             print(f"  reading the formula {one:.2f} s")
-            for words in (["reduce", "pure", formula], ["reduce", "matching", formula], ["report", formula]):
+            for words in (["reduce", "pure", formula], ["reduce", "matching", formula]):
                 seconds = least_seconds([leank] + words)
                 print(f"  {' '.join(words[:-1]):16} {seconds:6.2f} s  ratio {seconds / one:.2f}")
+            report, beside = report_beside(leank, plain, formula)
+            print(f"  report           {report:6.2f} s  ratio {report / one:.2f}, to the plain program {report / beside:.2f} ({beside:.2f} s)")
             for class_word in ("pure", "matching"):
                 with open(document, "w") as out:
                     subprocess.run([leank, "reduce", class_word, formula], stdout=out, check=True)

@@ -7,6 +7,7 @@
 //! - `shelf`, `out` or `say`, and then `chunk N`, how many bytes move at a time; `room N`, how many a sink
 //!   takes; or `fails N..`, the numbers of the calls that fail.
 //! - `run WORDS`: the commands run with these words.
+//! - `meet WORDS`: the same at a gate where halves of the work meet, which tells how often each entered.
 //! - `keep NAME`: what the last run wrote stands under that name.
 //! - `verdict WORDS`: the line that tells this verdict.
 #![tactic(auto)]
@@ -16,7 +17,7 @@ mod runs;
 mod script;
 mod verdicts;
 
-use crate::runs::print_run;
+use crate::runs::{print_meeting, print_run};
 use crate::script::Script;
 use crate::verdicts::print_verdict;
 use std::test::Fail;
@@ -31,6 +32,7 @@ fn take<R: Threads + Sync + AllocGlobal + Print>(
     let (word, rest) = line.split_once(" ").unwrap_or((line, ""));
     match word {
         "run" => print_run(rt, script, rest),
+        "meet" => print_meeting(rt, script, rest),
         "verdict" => print_verdict(rt, rest),
         _ => script.take(rt.alloc(), word, rest),
     }

@@ -8,9 +8,8 @@ use Rattle.lk_model.specs.Texts.Dimacs.{runs_of}
 use Rattle.lk_model.specs.Texts.Fault.{numbers_of, least}
 use Rattle.lk_model.specs.declared.text_fault.Fault.{Fault}
 use Rattle.lk_model.specs.declared.text_fault.FaultKind.TheVariants.{NoHeader, BadHeader, SecondHeader, TooFewClauses, Limit}
+use Rattle.dimacs_reader.specs.LineKinds.{LineKind, Skipped, EndMark, Problem, Numbers}
 use Rattle.dimacs_reader.specs.FirstFaults.{or_behind, fault_at_end, line_fault, fault_behind, problem_line_fault, first_line_fault, fault_from}
-use Rattle.dimacs_reader.specs.declared.kinds.LineKind.{LineKind}
-use Rattle.dimacs_reader.specs.declared.kinds.LineKind.TheVariants.{Skipped, EndMark, Problem, Numbers}
 use Rattle.dimacs_reader.proofs.Least.{Above, least_above}
 use Rattle.dimacs_reader.proofs.Placing.{AreLines, room, placed, lines_placed}
 use Rattle.dimacs_reader.proofs.LineSteps.{IsPlaced}

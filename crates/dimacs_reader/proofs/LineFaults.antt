@@ -9,10 +9,8 @@ use Rattle.lk_model.specs.Texts.Fault.{fault_if, first_of_line, numbers_of, prob
 use Rattle.lk_model.specs.declared.text_fault.Fault.{Fault}
 use Rattle.lk_model.specs.declared.text_fault.FaultKind.{FaultKind}
 use Rattle.lk_model.specs.declared.text_fault.FaultKind.TheVariants.{NoHeader, SecondHeader, TooFewClauses, Limit}
-use Rattle.dimacs_reader.specs.LineKinds.{kind_by}
+use Rattle.dimacs_reader.specs.LineKinds.{LineKind, Skipped, EndMark, Problem, Numbers, kind_by}
 use Rattle.dimacs_reader.specs.FirstFaults.{or_behind, fault_among, fault_at_end, line_fault, fault_behind, problem_line_fault, first_line_fault, fault_from}
-use Rattle.dimacs_reader.specs.declared.kinds.LineKind.{LineKind}
-use Rattle.dimacs_reader.specs.declared.kinds.LineKind.TheVariants.{Skipped, EndMark, Problem, Numbers}
 use Rattle.dimacs_reader.proofs.Least.{Above, above_append, above_less, above_at, at_fault_if, least_first}
 use Rattle.dimacs_reader.proofs.Placing.{AreLines, words_order}
 use Rattle.dimacs_reader.proofs.LineSteps.{counted_of, end_of, Adds, adds, IsPlaced, kind_placed}

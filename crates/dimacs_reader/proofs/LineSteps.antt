@@ -6,9 +6,7 @@ use Rattle.lk_model.specs.Lists.{is_empty}
 use Rattle.lk_model.specs.Texts.Lines.{Piece, first_place, words_of}
 use Rattle.lk_model.specs.Texts.Dimacs.{first_byte, is_blank_line, is_comment, is_problem, is_end_mark}
 use Rattle.lk_model.specs.Texts.Fault.{first_of_line}
-use Rattle.dimacs_reader.specs.LineKinds.{kind_by}
-use Rattle.dimacs_reader.specs.declared.kinds.LineKind.{LineKind}
-use Rattle.dimacs_reader.specs.declared.kinds.LineKind.TheVariants.{Skipped, EndMark, Problem, Numbers}
+use Rattle.dimacs_reader.specs.LineKinds.{LineKind, Skipped, EndMark, Problem, Numbers, kind_by}
 use Rattle.dimacs_reader.proofs.Placing.{AreWords, first_above, first_within}
 
 -- the lines that count

@@ -6,13 +6,12 @@ use Rattle.lk_model.specs.Lists.{is_empty}
 use Rattle.lk_model.specs.Texts.Lines.{Piece, is_blank, placed_after, words_of}
 use Rattle.lk_model.specs.Texts.Fault.{word_faults}
 use Rattle.lk_model.specs.declared.text_fault.Fault.{Fault}
-use Rattle.dimacs_reader.specs.LineKinds.{kind_by}
+use Rattle.dimacs_reader.specs.LineKinds.{LineKind, Skipped, EndMark, Problem, Numbers, kind_by}
 use Rattle.dimacs_reader.specs.FirstFaults.{first_or, fault_among}
-use Rattle.dimacs_reader.specs.declared.kinds.LineKind.TheVariants.{Skipped, EndMark, Problem, Numbers}
 use Rattle.dimacs_reader.proofs.Least.{At}
 use Rattle.dimacs_reader.proofs.Placing.{AreWords, room, room_split, placed, not_empty_words}
 use Rattle.dimacs_reader.proofs.WordFaults.{word_at}
-use Rattle.dimacs_reader.proofs.PieceLemmas.{piece, words_of_line}
+use Rattle.dimacs_reader.proofs.Cuts.{piece, words_of_line}
 use Rattle.dimacs_reader.proofs.NumberLemmas.{glue, split_part, split-append}
 use Rattle.dimacs_reader.proofs.LateFaults.{within, late_fault}
 

@@ -6,12 +6,11 @@ use Rattle.lk_model.specs.Texts.Lines.{Piece, is_newline, placed_after, words_of
 use Rattle.lk_model.specs.Texts.Dimacs.{stated_by}
 use Rattle.lk_model.specs.declared.text_fault.Fault.{Fault}
 use Rattle.lk_model.specs.declared.text_fault.FaultKind.TheVariants.{NoHeader, Limit}
-use Rattle.dimacs_reader.specs.LineKinds.{kind_by}
+use Rattle.dimacs_reader.specs.LineKinds.{LineKind, Skipped, EndMark, Problem, Numbers, kind_by}
 use Rattle.dimacs_reader.specs.FirstFaults.{or_behind, fault_among, fault_at_end, line_fault, fault_behind, problem_line_fault, first_line_fault, fault_from, text_fault}
-use Rattle.dimacs_reader.specs.declared.kinds.LineKind.{LineKind}
 use Rattle.dimacs_reader.proofs.Placing.{room, room_split}
 use Rattle.dimacs_reader.proofs.LineSteps.{kind_placed}
-use Rattle.dimacs_reader.proofs.PieceLemmas.{piece}
+use Rattle.dimacs_reader.proofs.Cuts.{piece}
 use Rattle.dimacs_reader.proofs.NumberLemmas.{glue, split_part, split-append}
 use Rattle.dimacs_reader.proofs.LateFaults.{late_fault, or_late, late_end, late_behind, late_from, late_problem_line, same_line, late_line, same_first, late_first}
 use Rattle.dimacs_reader.proofs.LongerLines.{GoesOn, line_goes_on}

@@ -1,37 +1,134 @@
 -- The refusal of a text is that of its first fault.
-use Rattle.std.proofs.Common.{◌≡◌, ℕ, ◌+◌, ◌-◌, ◌<◌, ◌≤◌, ◌∙◌, Bool, List, ◌++◌, length, refl, sym, ap, arith, inl, inr, Option, Some, None}
-use Rattle.std.specs.Prelude.{option_map, count_by}
+use Rattle.std.proofs.Common.{◌≡◌, ◌⊎◌, ℕ, ◌+◌, ◌-◌, ◌<◌, ◌≤◌, ◌∙◌, Bool, true, false, cond, ◌||◌, ◌&&◌, List, [], ◌∷◌, ◌++◌, length, take, drop, refl, sym, ap, subst, arith, inl, inr, Option, Some, None, append_assoc}
+use Rattle.std.specs.Prelude.{option_map, count_by, nat_le, nat_lt, Result, Ok, Err, OnOk, IfErr}
 use Rattle.std.proofs.lemmas.Bool.{le-ltb, lt-ltb, le-leb, lt-leb, cases_lt}
-use Rattle.std.proofs.lemmas.List.{take-append-le, length-append}
+use Rattle.std.proofs.lemmas.List.{take-append-le, length-append, take_all}
 use Rattle.lk_model.specs.Limits.{max_bytes}
 use Rattle.lk_model.specs.Texts.Lines.{is_newline, line_number}
 use Rattle.lk_model.specs.Texts.Dimacs.{content_lines}
-use Rattle.lk_model.specs.Texts.Fault.{fault_if, content_faults, stop, least, earlier_of}
+use Rattle.lk_model.specs.Texts.Fault.{fault_if, content_faults, stop as stop_of, faults, least, earlier_of, fault_of, IsSettled}
 use Rattle.lk_model.specs.declared.text_fault.Fault.{Fault}
 use Rattle.lk_model.specs.declared.text_fault.FaultKind.{FaultKind}
 use Rattle.lk_model.specs.declared.text_fault.FaultKind.TheVariants.{NoHeader, BadHeader, SecondHeader, BadToken, BeyondStated, TooManyClauses, TooFewClauses, Limit, TooLong}
 use Rattle.dimacs_reader.specs.FirstFaults.{text_fault}
-use Rattle.dimacs_reader.specs.Faults.{refusal_by, refusal_of, IsRefusalOf, IsSettledAs}
+use Rattle.dimacs_reader.specs.Outcomes.{Outcome, Faulty, Written, text_outcome, fault_in_outcome}
+use Rattle.dimacs_reader.specs.Faults.{refusal_by, refusal_at, refusal_of, IsRefusalOf, IsSettledAs, ForFault, first_fault_of, is_due, shows_at_once, HasNoneDue}
+use Rattle.dimacs_reader.specs.Stages.{Stands, IsMet, IsMetAtEnd}
+use Rattle.dimacs_reader.specs.Taken.{too_long, IsFirstOf, HasTaken}
+use Rattle.dimacs_reader.specs.declared.reading.Stage.{Stage}
 use Rattle.dimacs_reader.specs.declared.refusal.Refused.{Refused}
+use Rattle.dimacs_reader.specs.declared.stop.Stop.{Stop}
+use Rattle.dimacs_reader.specs.declared.stop.Stop.TheVariants as stop
 use Rattle.dimacs_reader.proofs.FirstFaultLaws.{first_fault}
+use Rattle.dimacs_reader.proofs.OutcomeLaws.{outcome_fault}
+use Rattle.dimacs_reader.proofs.HeadStands.{next_line}
 use Rattle.dimacs_reader.proofs.Prefixes.{within, same_within}
+use Rattle.dimacs_reader.proofs.Dues.{stands_late, NoneDue}
 
--- a fault with its line, as a refusal
-abbrev refused_at : List ℕ → Option Fault → Option Refused
-refused_at text found = option_map refusal_by (option_map (λ (f : Fault). (f.kind, line_number text f.place)) found)
+-- FIRST FAULTS
 
-abbrev too_long : Fault
-too_long = record { kind = TooLong; place = max_bytes + 1 }
-
-short : (text : List ℕ) → length text ≤ max_bytes → refusal_of text ≡ refused_at text (text_fault text)
+pub short : (text : List ℕ) → length text ≤ max_bytes → first_fault_of text ≡ text_fault text
 short text h =
-    ap (λ (b : Bool). refused_at text (least (fault_if b TooLong (max_bytes + 1) ++ content_faults (content_lines text) (stop text)))) (le-ltb max_bytes (length text) h)
-    ∙ ap (refused_at text) (first_fault text)
+    ap (λ (b : Bool). least (fault_if b TooLong (max_bytes + 1) ++ content_faults (content_lines text) (stop_of text))) (le-ltb max_bytes (length text) h) ∙ first_fault text
 
-long : (text : List ℕ) → max_bytes < length text → refusal_of text ≡ refused_at text (earlier_of too_long (text_fault text))
+pub long : (text : List ℕ) → max_bytes < length text → first_fault_of text ≡ earlier_of too_long (text_fault text)
 long text h =
-    ap (λ (b : Bool). refused_at text (least (fault_if b TooLong (max_bytes + 1) ++ content_faults (content_lines text) (stop text)))) (lt-ltb max_bytes (length text) h)
-    ∙ ap (λ (o : Option Fault). refused_at text (earlier_of too_long o)) (first_fault text)
+    ap (λ (b : Bool). least (fault_if b TooLong (max_bytes + 1) ++ content_faults (content_lines text) (stop_of text))) (lt-ltb max_bytes (length text) h)
+    ∙ ap (earlier_of too_long) (first_fault text)
+
+-- a fault among the bytes that are allowed
+early : (text : List ℕ) (f : Fault) → text_fault text ≡ Some f → f.place ≤ max_bytes → first_fault_of text ≡ Some f
+early text f e h = elim (cases_lt max_bytes (length text)) [
+  | inl over ↦ long text over ∙ ap (earlier_of too_long) e ∙ ap (λ (b : Bool). cond b (Some too_long) (Some f)) (lt-leb (max_bytes + 1) f.place (omega (arith, h)))
+  | inr fits ↦ short text fits ∙ e
+]
+
+-- none among them
+late : (text : List ℕ) → max_bytes < length text → within max_bytes (text_fault text) ≡ None → first_fault_of text ≡ Some too_long
+late text h e = long text h ∙ by_fault (text_fault text) e
+  where
+    by_fault : (o : Option Fault) → within max_bytes o ≡ None → earlier_of too_long o ≡ Some too_long
+    by_fault None w = refl
+    by_fault (Some f) w = elim (cases_lt max_bytes f.place) [
+      | inl high ↦ ap (λ (b : Bool). cond b (Some too_long) (Some f)) (le-leb (max_bytes + 1) f.place (omega (arith, high)))
+      | inr low ↦ absurd (let g : ⊥ = cc (w, ap (λ (b : Bool). cond b (Some f) None) (le-leb f.place max_bytes low)) in g)
+    ]
+
+-- the kind of the first fault and its line
+at_line : (text : List ℕ) (f : Fault) (line : ℕ) → first_fault_of text ≡ Some f → line_number text f.place ≡ line → fault_of text ≡ Some (f.kind, line)
+at_line text f line e l = ap (option_map (λ (g : Fault). (g.kind, line_number text g.place))) e ∙ ap (λ (n : ℕ). Some (f.kind, n)) l
+
+-- the line of a byte among the first ones
+line_stays : (text more : List ℕ) (place : ℕ) → place ≤ length text + 1 → line_number (text ++ more) place ≡ line_number text place
+line_stays text more place h =
+    let within_text : place - 1 ≤ length text = omega (arith, h) in
+    ap (λ (bytes : List ℕ). count_by is_newline bytes + 1) (take-append-le (place - 1) text more within_text)
+
+-- the fault of a text by its outcome
+faulty : (text : List ℕ) (f : Fault) → text_outcome text ≡ Faulty f → text_fault text ≡ Some f
+faulty text f e = sym (outcome_fault text) ∙ ap fault_in_outcome e
+
+-- WHAT IS SETTLED
+
+settled_met : (fed : List ℕ) (b line : ℕ) (f : Fault) → line ≡ count_by is_newline fed + 1 → f.place ≤ max_bytes → IsMet fed b f → IsSettled (fed ++ b ∷ []) (f.kind, line)
+settled_met fed b line f l h met more =
+    let text = (fed ++ b ∷ []) ++ more in
+    let joined : text ≡ fed ++ b ∷ more = append_assoc fed (b ∷ []) more in
+    at_line text f line (early text f (faulty text f (ap text_outcome joined ∙ met.outcome more)) h)
+    (ap (λ (bytes : List ℕ). line_number bytes f.place) joined ∙ line_stays fed (b ∷ more) f.place met.place ∙ met.line ∙ sym l)
+
+settled_long : (fed : List ℕ) (b line : ℕ) → line ≡ count_by is_newline fed + 1 → length fed ≡ max_bytes → within max_bytes (text_fault (fed ++ b ∷ [])) ≡ None → IsSettled (fed ++ b ∷ []) (TooLong, line)
+settled_long fed b line l size e more =
+    let text = (fed ++ b ∷ []) ++ more in
+    let joined : text ≡ fed ++ b ∷ more = append_assoc fed (b ∷ []) more in
+    let one = length-append fed (b ∷ []) in
+    let two = length-append (fed ++ b ∷ []) more in
+    let over : max_bytes < length text = omega (arith, one, two, size) in
+    let over_one : max_bytes < length (fed ++ b ∷ []) = omega (arith, one, size) in
+    at_line text too_long line (late text over (same_within max_bytes (fed ++ b ∷ []) more over_one ∙ e))
+    (ap (λ (bytes : List ℕ). line_number bytes (max_bytes + 1)) joined ∙ line_stays fed (b ∷ more) (max_bytes + 1) (omega (arith, size))
+    ∙ ap (λ (n : ℕ). line_number fed (n + 1)) (sym size) ∙ next_line fed ∙ sym l)
+
+-- no fault of an outcome that has none due, or one behind the bytes that are allowed
+late_due : (o : Outcome) (size : ℕ) → size ≡ max_bytes + 1 → NoneDue size o → within max_bytes (fault_in_outcome o) ≡ None
+late_due (Faulty f) size s due = elim (cases_lt max_bytes f.place) [
+  | inl high ↦ ap (λ (b : Bool). cond b (Some f) None) (lt-leb f.place max_bytes high)
+  | inr low ↦
+      let early_place : nat_lt f.place size ≡ true = lt-ltb f.place size (omega (arith, low, s)) in
+      absurd (let g : ⊥ = cc (due, ap (λ (b : Bool). b || (shows_at_once f.kind && nat_le f.place size)) early_place) in g)
+]
+late_due (Written vars clauses words) size s due = refl
+
+-- however the text goes on, a fault of its next byte is the first one
+settled_step : (fed : List ℕ) (b before line : ℕ) (taken : Result (Unit {0}) Stop) (next : Stage) (f : Fault) → length fed ≡ before → before ≤ max_bytes → line ≡ count_by is_newline fed + 1
+    → IsFirstOf taken before f → OnOk taken (Stands (fed ++ b ∷ []) next) → IfErr taken (λ s. ForFault s (IsMet fed b)) → IsSettled (fed ++ b ∷ []) (f.kind, line)
+settled_step fed b before line (Ok u) next f size few l first ok err =
+    let text = fed ++ b ∷ [] in
+    let full = first.1 in
+    let one = length-append fed (b ∷ []) in
+    let none : within max_bytes (text_fault text) ≡ None =
+    ap (within max_bytes) (sym (outcome_fault text)) ∙ late_due (text_outcome text) (length text) (omega (arith, one, size, few, full)) (stands_late text next ok) in
+    subst (λ (g : Fault). IsSettled text (g.kind, line)) (sym first.0) (settled_long fed b line l (omega (arith, size, few, full)) none)
+settled_step fed b before line (Err stop.OutOfMemory) next f size few l first ok err = absurd first
+settled_step fed b before line (Err (stop.Fault g)) next f size few l first ok err =
+    let reach = err.place in
+    elim first [
+      | inl same ↦
+          let low : g.place ≤ max_bytes = elim same.1 [ inl h ↦ h | inr h ↦ omega (arith, h, reach, size) ] in
+          subst (λ (x : Fault). IsSettled (fed ++ b ∷ []) (x.kind, line)) (sym same.0) (settled_met fed b line g l low err)
+      | inr past ↦
+          let full = past.1 in
+          let none : within max_bytes (text_fault (fed ++ b ∷ [])) ≡ None =
+          ap (within max_bytes) (faulty (fed ++ b ∷ []) g (err.outcome [])) ∙ ap (λ (t : Bool). cond t (Some g) None) (lt-leb g.place max_bytes past.2) in
+          subst (λ (x : Fault). IsSettled (fed ++ b ∷ []) (x.kind, line)) (sym past.0) (settled_long fed b line l (omega (arith, size, few, full)) none)
+    ]
+
+pub settled_stop : (fed : List ℕ) (b before line : ℕ) (taken : Result (Unit {0}) Stop) (next : Stage) (s : Stop) → length fed ≡ before → before ≤ max_bytes → line ≡ count_by is_newline fed + 1
+    → ForFault s (IsFirstOf taken before) → OnOk taken (Stands (fed ++ b ∷ []) next) → IfErr taken (λ t. ForFault t (IsMet fed b)) → ForFault s (λ f. IsSettled (fed ++ b ∷ []) (f.kind, line))
+settled_stop fed b before line taken next stop.OutOfMemory size few l first ok err = tt
+settled_stop fed b before line taken next (stop.Fault f) size few l first ok err = settled_step fed b before line taken next f size few l first ok err
+
+-- REFUSALS
 
 -- a refusal is no want of memory
 is_refusal : (text : List ℕ) (kind : FaultKind) (line : ℕ) → refusal_of text ≡ Some (refusal_by (kind, line)) → IsRefusalOf text (refusal_by (kind, line))
@@ -45,67 +142,24 @@ is_refusal text TooFewClauses line h = h
 is_refusal text Limit line h = h
 is_refusal text TooLong line h = h
 
-pub refused_short : (text : List ℕ) (f : Fault) → length text ≤ max_bytes → text_fault text ≡ Some f → IsRefusalOf text (refusal_by (f.kind, line_number text f.place))
-refused_short text f h e = is_refusal text f.kind (line_number text f.place) (short text h ∙ ap (refused_at text) e)
+-- the refusal at a stop that is settled, behind more bytes
+pub settled_refusal : (fed : List ℕ) (line : ℕ) (s : Stop) (whole rest : List ℕ) → whole ≡ fed ++ rest → ForFault s (λ f. IsSettled fed (f.kind, line)) → IsSettledAs whole (refusal_at line s)
+settled_refusal fed line stop.OutOfMemory whole rest e h = λ more. tt
+settled_refusal fed line (stop.Fault f) whole rest e h = λ more.
+    is_refusal (whole ++ more) f.kind line
+    (ap (λ (bytes : List ℕ). refusal_of (bytes ++ more)) e ∙ ap refusal_of (append_assoc fed rest more) ∙ ap (option_map refusal_by) (h (rest ++ more)))
 
--- in a text that is too long: the fault, unless it comes behind the byte that is too much
-pub record IsFirstInLong (fault first : Fault) : Type 0 where
-  pub before : fault.place ≤ max_bytes → first ≡ fault
-  pub behind : max_bytes < fault.place → first ≡ too_long
+-- the refusal at the stop of a text that ends
+pub refusal_at_end : (fed : List ℕ) (line : ℕ) (s : Stop) → length fed ≤ max_bytes → line ≡ count_by is_newline fed + 1 → ForFault s (IsMetAtEnd fed) → IsRefusalOf fed (refusal_at line s)
+refusal_at_end fed line stop.OutOfMemory h l met = tt
+refusal_at_end fed line (stop.Fault f) h l met =
+    is_refusal fed f.kind line (ap (option_map refusal_by) (at_line fed f line (short fed h ∙ faulty fed f met.outcome) (met.line ∙ sym l)))
 
-pub counted_in_long : (fault first : Fault) → 1 ≤ fault.place → IsFirstInLong fault first → 1 ≤ first.place
-counted_in_long fault first h g = elim (cases_lt max_bytes fault.place) [
-  | inr early ↦ let same = ap (λ (f : Fault). f.place) (g.before early) in omega (arith, h, same)
-  | inl late ↦ let same = ap (λ (f : Fault). f.place) (g.behind late) in omega (arith, same)
-]
-
--- the fault among the bytes that are allowed, or else their number
-abbrev first_of_long : Option Fault → Fault
-first_of_long None = too_long
-first_of_long (Some f) = f
-
-earlier_within : (found : Option Fault) → earlier_of too_long found ≡ Some (first_of_long (within max_bytes found))
-earlier_within None = refl
-earlier_within (Some f) = elim (cases_lt max_bytes f.place) [
-  | inl late ↦ rw (le-leb (max_bytes + 1) f.place (omega (arith, late)), lt-leb f.place max_bytes late) refl
-  | inr early ↦ rw (lt-leb (max_bytes + 1) f.place (omega (arith, early)), le-leb f.place max_bytes early) refl
-]
-
-first_is : (fault first : Fault) → IsFirstInLong fault first → first_of_long (within max_bytes (Some fault)) ≡ first
-first_is fault first g = elim (cases_lt max_bytes fault.place) [
-  | inl late ↦ rw (lt-leb fault.place max_bytes late) (sym (g.behind late))
-  | inr early ↦ rw (le-leb fault.place max_bytes early) (sym (g.before early))
-]
-
--- that place is no later than the byte that is too much
-first_place : (found : Option Fault) → (first_of_long (within max_bytes found)).place ≤ max_bytes + 1
-first_place None = omega arith
-first_place (Some f) = elim (cases_lt max_bytes f.place) [
-  | inl late ↦ rw (lt-leb f.place max_bytes late) (omega arith)
-  | inr early ↦ rw (le-leb f.place max_bytes early) (omega (arith, early))
-]
-
--- the line of a byte among the first ones
-line_stays : (text more : List ℕ) (place : ℕ) → place ≤ length text + 1 → line_number (text ++ more) place ≡ line_number text place
-line_stays text more place h =
-    let within_text : place - 1 ≤ length text = omega (arith, h) in
-    ap (λ (bytes : List ℕ). count_by is_newline bytes + 1) (take-append-le (place - 1) text more within_text)
-
--- however the text goes on
-settled : (text : List ℕ) (first : Fault) → max_bytes < length text → first_of_long (within max_bytes (text_fault text)) ≡ first → IsSettledAs text (refusal_by (first.kind, line_number text first.place))
-settled text first h e more =
-    let longer : max_bytes < length (text ++ more) = omega (arith, length-append text more, h) in
-    let place : first.place ≤ length text + 1 = omega (arith, h, first_place (text_fault text), ap (λ (f : Fault). f.place) e) in
-    is_refusal (text ++ more) first.kind (line_number text first.place)
-    (long (text ++ more) longer
-    ∙ ap (refused_at (text ++ more)) (earlier_within (text_fault (text ++ more)))
-    ∙ ap (λ (o : Option Fault). refused_at (text ++ more) (Some (first_of_long o))) (same_within max_bytes text more h)
-    ∙ ap (λ (f : Fault). refused_at (text ++ more) (Some f)) e
-    ∙ ap (λ (line : ℕ). Some (refusal_by (first.kind, line))) (line_stays text more first.place place))
-
-pub settled_at : (text : List ℕ) (fault first : Fault) → max_bytes < length text → text_fault text ≡ Some fault → IsFirstInLong fault first → IsSettledAs text (refusal_by (first.kind, line_number text first.place))
-settled_at text fault first h e g = settled text first h (ap (λ (o : Option Fault). first_of_long (within max_bytes o)) e ∙ first_is fault first g)
-
--- a text whose one fault is its length
-pub settled_long : (text : List ℕ) → max_bytes < length text → text_fault text ≡ None → IsSettledAs text (refusal_by (TooLong, line_number text (max_bytes + 1)))
-settled_long text h e = settled text too_long h (ap (λ (o : Option Fault). first_of_long (within max_bytes o)) e)
+-- no fault must have been told
+pub none_due : (fed : List ℕ) (s : Stage) → length fed ≤ max_bytes → Stands fed s → HasNoneDue fed
+none_due fed s h stands f e =
+    due (text_outcome fed) (stands_late fed s stands) (outcome_fault fed ∙ sym (short fed h) ∙ e)
+  where
+    due : (o : Outcome) → NoneDue (length fed) o → fault_in_outcome o ≡ Some f → is_due (length fed) f ≡ false
+    due (Faulty g) d is = let same : g ≡ f = cc in subst (λ (x : Fault). is_due (length fed) x ≡ false) same d
+    due (Written vars clauses words) d is = absurd (let g : ⊥ = cc in g)

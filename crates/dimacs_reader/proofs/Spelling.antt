@@ -10,9 +10,9 @@ use Rattle.lk_model.specs.Formulas.Formula.{Cnf}
 use Rattle.lk_model.specs.Texts.Lines.{Piece, Word, is_newline, lines_of, words_of, texts}
 use Rattle.lk_model.specs.Texts.NumberWords.{number}
 use Rattle.lk_model.specs.Texts.Dimacs.{Spells, first_byte, is_blank_line, is_comment, is_end_mark, content_lines, stated_by}
-use Rattle.dimacs_reader.specs.Contents.{words_in, first_of, is_end, is_content, content_of, content_from, IsWritten}
-use Rattle.dimacs_reader.proofs.TextLemmas.{content_line, with_line}
-use Rattle.dimacs_reader.proofs.PieceLemmas.{texts_placed, words_texts}
+use Rattle.dimacs_reader.specs.Contents.{words_in, first_of, is_end, is_content, content_of, IsWritten}
+use Rattle.dimacs_reader.proofs.Cuts.{texts_placed, words_texts}
+use Rattle.dimacs_reader.proofs.OutcomeLaws.{content_line, with_line}
 
 -- PIECES BY THEIR BYTES
 
@@ -72,7 +72,7 @@ content_by_bytes (line ∷ lines) =
     ∙ sym (content_line line.bytes (texts lines))
 
 -- the lines of a text that count
-lines_by : (text : List ℕ) → texts (content_lines text) ≡ content_from text 0
+lines_by : (text : List ℕ) → texts (content_lines text) ≡ content_of (slice_split is_newline text)
 lines_by text = content_by_bytes (lines_of text) ∙ ap content_of (texts_placed 0 (slice_split is_newline text))
 
 all_words : (lines : List Piece) → texts (flat_map words_of lines) ≡ flat_map words_in (texts lines)
@@ -92,7 +92,7 @@ behind : (pieces : List Piece) (bytes : List ℕ) (rest : List (List ℕ)) → t
 behind [] bytes rest e = absurd (let f : ⊥ = cc in f)
 behind (problem ∷ others) bytes rest e = (problem, others, refl, (let h : problem.bytes ≡ bytes = cc in h), (let t : texts others ≡ rest = cc in t))
 
-pub spells : (text bytes : List ℕ) (rest : List (List ℕ)) (F : Cnf) → content_from text 0 ≡ bytes ∷ rest → Spelled bytes rest F → length text ≤ max_bytes → Spells text F
+pub spells : (text bytes : List ℕ) (rest : List (List ℕ)) (F : Cnf) → content_of (slice_split is_newline text) ≡ bytes ∷ rest → Spelled bytes rest F → length text ≤ max_bytes → Spells text F
 spells text bytes rest F first s short =
     let b = behind (content_lines text) bytes rest (lines_by text ∙ first) in
     record {

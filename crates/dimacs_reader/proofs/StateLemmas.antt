@@ -1,8 +1,8 @@
 -- What was read, one word after the other.
 use Rattle.std.proofs.Common.{◌≡◌, ℕ, ◌+◌, ◌<◌, ◌≤◌, ◌∙◌, Bool, true, false, not, cond, ◌&&◌, List, [], ◌∷◌, ◌++◌, length, map, refl, sym, ap, arith, ℤ, pos, Option, Some, None, sum_by}
-use Rattle.std.specs.Prelude.{count_by, nat_le, nat_lt}
+use Rattle.std.specs.Prelude.{count_by, nat_le, nat_lt, nat_eq}
 use Rattle.std.specs.List.{list_all}
-use Rattle.std.proofs.lemmas.Bool.{le-leb, lt-leb, le-ltb, leb-true, leb-false, lt-ltb, and_from}
+use Rattle.std.proofs.lemmas.Bool.{le-leb, lt-leb, le-ltb, leb-true, leb-false, lt-ltb, and_from, eqb-true}
 use Rattle.std.proofs.lemmas.List.{append-nil, length-append, length-map, map-append}
 use Rattle.std.proofs.lemmas.List.Sums.{sum_by-cons, sum_by-append}
 use Rattle.std.proofs.lemmas.List.Folds.{list_all-append}
@@ -20,10 +20,10 @@ use Rattle.lk_model.proofs.FaultConverse.{numbers_read}
 use Rattle.dimacs_reader.specs.Contents.{IsWritten}
 use Rattle.dimacs_reader.specs.FirstFaults.{first_or}
 use Rattle.dimacs_reader.specs.Numbers.{IsNumber}
-use Rattle.dimacs_reader.specs.ReadStates.{HasRead, Fits, Leads, HasFault, Closes, fault_in, closed, with_literal}
+use Rattle.dimacs_reader.specs.ReadStates.{HasRead, Fits, Leads, HasFault, Closes, fault_in, closed, with_literal, is_short_of}
 use Rattle.dimacs_reader.specs.declared.clauses.ReadState.{ReadState}
-use Rattle.dimacs_reader.specs.declared.clauses.Number.{Number}
-use Rattle.dimacs_reader.specs.declared.clauses.Number.TheVariants.{Zero, Literal, Past}
+use Rattle.dimacs_reader.specs.declared.word.Number.{Number}
+use Rattle.dimacs_reader.specs.declared.word.Number.TheVariants.{Zero, Literal, Past}
 use Rattle.dimacs_reader.proofs.NumberLemmas.{split-zero, split-other, split_count, runs-last, repeats-more, contains-repeats, repeats-empty}
 use Rattle.dimacs_reader.proofs.WordKinds.{literal_nonzero, literal_fits}
 
@@ -134,7 +134,7 @@ past_written word state n l is same more full earlier h =
 
 -- STATES
 
-closed_fits : (state : ReadState) → Fits state → length state.formula.clauses < state.stated → Fits (closed state)
+pub closed_fits : (state : ReadState) → Fits state → length state.formula.clauses < state.stated → Fits (closed state)
 closed_fits state f more = record {
   one_size = f.one_size;
   stated = f.stated;
@@ -149,7 +149,7 @@ closed_fits state f more = record {
   written = f.written;
 }
 
-literal_fits_in : (state : ReadState) (l : ℤ) → Fits state → length state.formula.clauses < state.stated → state.written < max_literals → Fits (with_literal l state)
+pub literal_fits_in : (state : ReadState) (l : ℤ) → Fits state → length state.formula.clauses < state.stated → state.written < max_literals → Fits (with_literal l state)
 literal_fits_in state l f more room = record {
   one_size = f.one_size;
   stated = f.stated;
@@ -280,3 +280,28 @@ closes_whole state f none = record {
   where
     clauses : (words : List Piece) (h : HasRead words state) → state.formula.clauses ≡ map without_repeats (runs_of h.numbers)
     clauses words h = h.closed ∙ ap (map without_repeats) (sym (runs_read words state h ∙ ap (λ (b : Bool). h.runs ++ cond b [] (h.last ∷ [])) none ∙ append-nil h.runs))
+
+-- whether there are fewer clauses than are stated
+pub short_read : (words : List Piece) (state : ReadState) → HasRead words state → nat_lt (length (runs_of (numbers_of words))) state.stated ≡ is_short_of state
+short_read words state h =
+    ap (λ (ns : List ℤ). nat_lt (length (runs_of ns)) state.stated) (numbers_read (texts words) h.numbers h.read)
+    ∙ ap (λ (rs : List (List ℤ)). nat_lt (length rs) state.stated) (runs_read words state h)
+    ∙ ap (λ (n : ℕ). nat_lt n state.stated) (by_test (is_empty state.growing.literals))
+  where
+    whole : length state.formula.clauses ≡ length h.runs
+    whole = ap (λ (rs : List (List ℤ)). length rs) h.closed ∙ length-map h.runs without_repeats
+
+    by_test : (b : Bool) → length (h.runs ++ cond b [] (h.last ∷ [])) ≡ length state.formula.clauses + cond b 0 1
+    by_test true = let w = whole in let a = length-append h.runs [] in omega (arith, w, a)
+    by_test false = let w = whole in let a = length-append h.runs (h.last ∷ []) in omega (arith, w, a)
+
+-- whether there is a literal
+pub empty_test : {X : Type 0} (xs : List X) (b : Bool) → b ≡ nat_eq (length xs) 0 → b ≡ true → is_empty xs ≡ true
+empty_test [] b e t = refl
+empty_test (x ∷ xs) b e t =
+    let zero : length (x ∷ xs) ≡ 0 = eqb-true (length (x ∷ xs)) 0 (sym e ∙ t) in
+    absurd (omega (arith, zero))
+
+pub some_test : {X : Type 0} (xs : List X) (b : Bool) → b ≡ nat_eq (length xs) 0 → b ≡ false → is_empty xs ≡ false
+some_test [] b e t = absurd (cc (e, t))
+some_test (x ∷ xs) b e t = refl

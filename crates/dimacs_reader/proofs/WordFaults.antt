@@ -82,3 +82,11 @@ least_words vars clauses n others (word ∷ words) last more end a b later earli
     ∙ sym (or_first here (fault_among vars clauses next words) (least (others ++ faults_of vars clauses (next ++ words) more end)))
     ∙ ap (λ (ws : List Piece). or_behind (first_or here (fault_among vars clauses next words)) (least (others ++ faults_of vars clauses ws more end)))
     (append_assoc earlier (word ∷ []) words)
+
+-- the first fault of one word stands at its last byte
+pub fault_place : (vars clauses : ℕ) (earlier : List Piece) (word : Piece) (f : Fault) → fault_among vars clauses earlier (word ∷ []) ≡ Some f → f.place ≡ word.last
+fault_place vars clauses earlier word f e = by_list (word_faults vars clauses (earlier, word)) (word_at vars clauses earlier word) e
+  where
+    by_list : (fs : List Fault) → At word.last fs → first_or fs None ≡ Some f → f.place ≡ word.last
+    by_list [] a e = absurd (let g : ⊥ = cc in g)
+    by_list (g ∷ fs) a e = let same : f ≡ g = cc in ap (λ (h : Fault). h.place) same ∙ a.0

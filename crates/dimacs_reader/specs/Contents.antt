@@ -1,11 +1,11 @@
 -- The lines and words of a text that count, as bytes.
-use Rattle.std.specs.Prelude.{◌≡◌, ◌≤◌, ℕ, Bool, not, ◌||◌, ◌==◌, List, [], ◌∷◌, drop, filter, flat_map, slice_index, take_while, length, map, ℤ, Some, IsTrue, nat_le, count_by}
+use Rattle.std.specs.Prelude.{◌≡◌, ◌≤◌, ℕ, Bool, not, ◌||◌, ◌==◌, List, [], ◌∷◌, filter, slice_index, take_while, length, map, ℤ, Some, IsTrue, nat_le, count_by}
 use Rattle.std.specs.List.{slice_split, list_all}
 use Rattle.lk_model.specs.Lists.{is_empty, is_nonzero}
 use Rattle.lk_model.specs.Limits.{max_clauses, max_literals}
 use Rattle.lk_model.specs.Formulas.Literal.{variable}
 use Rattle.lk_model.specs.Formulas.Formula.{Cnf}
-use Rattle.lk_model.specs.Texts.Lines.{Piece, Word, is_newline, is_blank, placed_after}
+use Rattle.lk_model.specs.Texts.Lines.{Piece, Word, is_blank, placed_after}
 use Rattle.lk_model.specs.Texts.NumberWords.{number}
 use Rattle.lk_model.specs.Texts.Dimacs.{runs_of, without_repeats}
 
@@ -30,14 +30,6 @@ is_content line = not (is_empty (words_in line) || first_of (words_in line) == 9
 abbrev pub content_of : List (List ℕ) → List (List ℕ)
 content_of lines = filter is_content (take_while (λ line. not (is_end line)) lines)
 
--- those from a place on
-abbrev pub content_from : List ℕ → ℕ → List (List ℕ)
-content_from text at = content_of (slice_split is_newline (drop at text))
-
--- their words
-abbrev pub words_from : List ℕ → ℕ → List Word
-words_from text at = flat_map words_in (content_from text at)
-
 -- the words write the clauses of the formula, over the variables up to n
 pub record IsWritten (n : ℕ) (words : List Word) (F : Cnf) : Type 0 where
   pub numbers : List ℤ
@@ -48,10 +40,9 @@ pub record IsWritten (n : ℕ) (words : List Word) (F : Cnf) : Type 0 where
   pub few_clauses : length F.clauses ≤ max_clauses
   pub few_literals : count_by is_nonzero numbers ≤ max_literals
 
--- the lines from a place on, each with the number of its last byte in the text
-abbrev pub lines_from : List ℕ → ℕ → List Piece
-lines_from text at = placed_after at (slice_split is_newline (drop at text))
-
 -- the words of bytes that stand in a line behind so many bytes of the text
 abbrev pub words_after : ℕ → List ℕ → List Piece
 words_after before bytes = filter (λ word. not (is_empty word.bytes)) (placed_after before (slice_split is_blank bytes))
+
+abbrev pub has_no_blank : List ℕ → Bool
+has_no_blank bytes = list_all (λ b. not (is_blank b)) bytes

@@ -6,9 +6,7 @@ use Rattle.lk_model.specs.Texts.Dimacs.{stated_by, runs_of}
 use Rattle.lk_model.specs.Texts.Fault.{word_faults, numbers_of}
 use Rattle.lk_model.specs.declared.text_fault.Fault.{Fault}
 use Rattle.lk_model.specs.declared.text_fault.FaultKind.TheVariants.{NoHeader, BadHeader, SecondHeader, TooFewClauses, Limit}
-use Rattle.dimacs_reader.specs.LineKinds.{kind_by}
-use Rattle.dimacs_reader.specs.declared.kinds.LineKind.{LineKind}
-use Rattle.dimacs_reader.specs.declared.kinds.LineKind.TheVariants.{Skipped, EndMark, Problem, Numbers}
+use Rattle.dimacs_reader.specs.LineKinds.{LineKind, Skipped, EndMark, Problem, Numbers, kind_by}
 
 -- the first of some faults, or else what comes behind them
 abbrev pub first_or : List Fault → Option Fault → Option Fault

@@ -1,8 +1,12 @@
 pub mod Contents
 pub mod LineKinds
 pub mod FirstFaults
+pub mod Outcomes
+pub mod Bytes
+pub mod Words
 pub mod Numbers
 pub mod ReadStates
 pub mod ProblemLines
 pub mod Faults
-pub mod Reading
+pub mod Stages
+pub mod Taken

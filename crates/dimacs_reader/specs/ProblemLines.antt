@@ -1,27 +1,14 @@
 -- The problem line of a text.
-use Rattle.std.specs.Prelude.{◌≡◌, ◌≤◌, ◌+◌, ◌^◌, ◌||◌, min, nat_lt, ◌∷◌, ℕ, List, Option, Some, None, if◌then◌else◌, length, slice_range, IsTrue}
+use Rattle.std.specs.Prelude.{◌≡◌, ◌≤◌, ◌||◌, nat_lt, [], ◌∷◌, ◌++◌, ℕ, List, Option, Some, None, if◌then◌else◌, codes}
 use Rattle.lk_model.specs.Limits.{max_vars, max_clauses}
 use Rattle.lk_model.specs.Texts.Lines.{Word}
 use Rattle.lk_model.specs.Texts.Dimacs.{stated_by}
 use Rattle.lk_model.specs.declared.text_fault.FaultKind.{FaultKind}
 use Rattle.lk_model.specs.declared.text_fault.FaultKind.TheVariants.{BadHeader, Limit}
-use Rattle.lk_text.specs.Cutting.{is_one_line}
-use Rattle.lk_text.specs.declared.cuts.Cut.{Cut}
-use Rattle.dimacs_reader.specs.Contents.{words_in, content_from, lines_from}
-use Rattle.dimacs_reader.specs.FirstFaults.{text_fault, problem_line_fault}
-
--- The line is the first that counts, and a problem line. The first fault of the text is that of the problem line and the lines behind.
-pub record IsProblemLine (text : List ℕ) (cut : Cut) : Type 0 where
-  pub order : cut.begin ≤ cut.end
-  pub within : cut.end ≤ length text
-  pub next_within : cut.next ≤ length text
-  pub one_line : IsTrue (is_one_line (slice_range text cut.begin cut.end))
-  pub first : content_from text 0 ≡ slice_range text cut.begin cut.end ∷ content_from text cut.next
-  pub told : text_fault text ≡ problem_line_fault (stated_by (words_in (slice_range text cut.begin cut.end))) cut.end (lines_from text cut.next) (length text + 1)
-
--- the numbers, where one past 2^127 counts for 2^127
-abbrev pub capped : ℕ × ℕ → ℕ × ℕ
-capped (v, c) = (min v (2 ^ 127), min c (2 ^ 127))
+use Rattle.dimacs_reader.specs.Contents.{words_in}
+use Rattle.dimacs_reader.specs.Words.{AreDigits}
+use Rattle.dimacs_reader.specs.declared.problem.ProblemLine.{ProblemLine}
+use Rattle.dimacs_reader.specs.declared.problem.ProblemLine.TheVariants.{P, BehindP, C, Cn, Cnf, BehindCnf, Vars, BehindVars, Clauses, BehindClauses, Other}
 
 -- what is wrong with a problem line that states these numbers, or none
 abbrev pub problem_line_kind : Option (ℕ × ℕ) → Option FaultKind
@@ -33,3 +20,28 @@ pub record States (words : List Word) (numbers : ℕ × ℕ) : Type 0 where
   pub stated : stated_by words ≡ Some numbers
   pub vars : numbers.0 ≤ max_vars
   pub clauses : numbers.1 ≤ max_clauses
+
+-- the bytes begin with these words, and with bytes of one more, however they go on
+abbrev pub BeginsAs : List ℕ → List Word → List ℕ → Type 0
+BeginsAs bytes words last = (more : List ℕ) → words_in (bytes ++ more) ≡ words ++ words_in (last ++ more)
+
+-- the same, with one or two numbers
+abbrev pub BeginsWithVars : List ℕ → ℕ → (List ℕ → List Word) → (List ℕ → List ℕ) → Type 0
+BeginsWithVars bytes vars words last = (v : List ℕ) × AreDigits v vars × BeginsAs bytes (words v) (last v)
+
+abbrev pub BeginsWithBoth : List ℕ → ℕ → ℕ → (List ℕ → List ℕ → List Word) → (List ℕ → List ℕ) → Type 0
+BeginsWithBoth bytes vars clauses words last = (v : List ℕ) × (c : List ℕ) × AreDigits v vars × AreDigits c clauses × BeginsAs bytes (words v c) (last c)
+
+-- the bytes of a problem line so far
+abbrev pub IsLineSoFar : List ℕ → ProblemLine → Type 0
+IsLineSoFar bytes P = BeginsAs bytes [] (codes "p")
+IsLineSoFar bytes BehindP = BeginsAs bytes (codes "p" ∷ []) []
+IsLineSoFar bytes C = BeginsAs bytes (codes "p" ∷ []) (codes "c")
+IsLineSoFar bytes Cn = BeginsAs bytes (codes "p" ∷ []) (codes "cn")
+IsLineSoFar bytes Cnf = BeginsAs bytes (codes "p" ∷ []) (codes "cnf")
+IsLineSoFar bytes BehindCnf = BeginsAs bytes (codes "p" ∷ codes "cnf" ∷ []) []
+IsLineSoFar bytes (Vars vars) = BeginsWithVars bytes vars (λ v. codes "p" ∷ codes "cnf" ∷ []) (λ v. v)
+IsLineSoFar bytes (BehindVars vars) = BeginsWithVars bytes vars (λ v. codes "p" ∷ codes "cnf" ∷ v ∷ []) (λ v. [])
+IsLineSoFar bytes (Clauses vars clauses) = BeginsWithBoth bytes vars clauses (λ v c. codes "p" ∷ codes "cnf" ∷ v ∷ []) (λ c. c)
+IsLineSoFar bytes (BehindClauses vars clauses) = BeginsWithBoth bytes vars clauses (λ v c. codes "p" ∷ codes "cnf" ∷ v ∷ c ∷ []) (λ c. [])
+IsLineSoFar bytes Other = (more : List ℕ) → stated_by (words_in (bytes ++ more)) ≡ None

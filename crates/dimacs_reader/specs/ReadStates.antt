@@ -1,7 +1,7 @@
 -- What was read of the numbers so far.
-use Rattle.std.specs.Prelude.{◌≡◌, ◌≤◌, ◌<◌, ◌+◌, ℕ, List, [], ◌∷◌, ◌++◌, map, ℤ, Option, Some, None, IsTrue, nat_le, count_by, if◌then◌else◌, length}
+use Rattle.std.specs.Prelude.{◌≡◌, ◌≤◌, ◌<◌, ◌+◌, ℕ, Bool, nat_lt, List, [], ◌∷◌, ◌++◌, map, ℤ, Option, Some, None, IsTrue, nat_le, count_by, if◌then◌else◌, length}
 use Rattle.std.specs.List.{slice_split, list_all}
-use Rattle.lk_model.specs.Lists.{is_zero, is_nonzero}
+use Rattle.lk_model.specs.Lists.{is_empty, is_zero, is_nonzero}
 use Rattle.lk_model.specs.Limits.{max_clauses, max_literals}
 use Rattle.lk_model.specs.Formulas.Literal.{variable, contains}
 use Rattle.lk_model.specs.Formulas.Formula.{Cnf, with_clause, literal_count}
@@ -10,8 +10,8 @@ use Rattle.lk_model.specs.Texts.NumberWords.{number}
 use Rattle.lk_model.specs.Texts.Dimacs.{without_repeats, runs_of}
 use Rattle.lk_model.specs.Texts.Fault.{numbers_of}
 use Rattle.lk_model.specs.declared.text_fault.Fault.{Fault}
-use Rattle.dimacs_reader.specs.Contents.{IsWritten, words_from, lines_from}
-use Rattle.dimacs_reader.specs.FirstFaults.{fault_among, fault_behind, fault_at_end}
+use Rattle.dimacs_reader.specs.Contents.{IsWritten}
+use Rattle.dimacs_reader.specs.FirstFaults.{fault_among, fault_at_end}
 use Rattle.dimacs_reader.specs.declared.clauses.ReadState.{ReadState}
 
 -- The words write numbers whose closed runs are the clauses so far, and whose open one is the growing clause.
@@ -52,23 +52,6 @@ pub record Leads (words : List Piece) (before after : ReadState) : Type 0 where
 abbrev pub HasFault : List Piece → ReadState → Fault → Type 0
 HasFault words state fault = (earlier : List Piece) → HasRead earlier state → fault_in state earlier words ≡ Some fault
 
--- the first fault of the lines from a place on, behind earlier words
-abbrev pub fault_of_lines : ReadState → List Piece → List ℕ → ℕ → Option Fault
-fault_of_lines state earlier text at = fault_behind state.formula.vars state.stated earlier (lines_from text at) (length text + 1)
-
--- The words of the lines from a place on lead from one state to the other, and end at a place. Too few clauses there are
--- the one fault that may be left.
-pub record Ends (text : List ℕ) (at : ℕ) (before after : ReadState) (end : ℕ) : Type 0 where
-  pub words : List Piece
-  pub bytes : words_from text at ≡ texts words
-  pub leads : Leads words before after
-  pub told : (earlier : List Piece) → HasRead earlier before
-      → fault_of_lines before earlier text at ≡ fault_at_end before.stated (earlier ++ words) end
-
--- behind whatever words of which this is the state, the lines from a place on have this first fault
-abbrev pub HasFaultFrom : List ℕ → ℕ → ReadState → Fault → Type 0
-HasFaultFrom text at state fault = (earlier : List Piece) → HasRead earlier state → fault_of_lines state earlier text at ≡ Some fault
-
 -- the open clause closed
 abbrev pub closed : ReadState → ReadState
 closed state = record { formula = with_clause state.formula state.growing.literals; growing = record { vars = state.growing.vars; literals = [] }; stated = state.stated; written = state.written }
@@ -77,6 +60,10 @@ closed state = record { formula = with_clause state.formula state.growing.litera
 abbrev pub with_literal : ℤ → ReadState → ReadState
 with_literal l state =
     record { formula = state.formula; growing = record { vars = state.growing.vars; literals = (if contains state.growing.literals l then state.growing.literals else state.growing.literals ++ l ∷ []) }; stated = state.stated; written = state.written + 1 }
+
+-- there are fewer clauses than are stated, with the open one closed if it has a literal
+abbrev pub is_short_of : ReadState → Bool
+is_short_of state = nat_lt (length state.formula.clauses + (if is_empty state.growing.literals then 0 else 1)) state.stated
 
 -- what the words of which this is the state write, with the last clause closed
 pub record Closes (state : ReadState) (F : Cnf) : Type 0 where
@@ -93,9 +80,3 @@ pub record Writes (state : ReadState) (end : ℕ) (F : Cnf) : Type 0 where
 -- the words of which this is the state, which end at a place, have this fault
 abbrev pub HasFaultAtEnd : ReadState → ℕ → Fault → Type 0
 HasFaultAtEnd state end fault = (words : List Piece) → HasRead words state → fault_at_end state.stated words end ≡ Some fault
-
--- a formula that the words of the lines behind a problem line write, which have no fault
-pub record IsRead (vars stated : ℕ) (text : List ℕ) (at : ℕ) (F : Cnf) : Type 0 where
-  pub whole : length F.clauses ≡ stated
-  pub written : IsWritten vars (words_from text at) F
-  pub silent : fault_behind vars stated [] (lines_from text at) (length text + 1) ≡ None

@@ -1,13 +1,16 @@
 //! Reads formulas from their DIMACS texts.
 #![tactic(auto)]
 
+mod bytes;
 mod clauses;
-mod kinds;
+mod head;
+mod numbers;
 mod problem;
 mod reader;
+mod reading;
 mod refusal;
 mod stop;
-mod text;
+mod word;
 
 pub use reader::Reader;
 pub use refusal::Refused;

@@ -1,10 +1,10 @@
 //! How texts are refused.
-ghost use Rattle.std.specs.Prelude.{◌≡◌, ◌≤◌};
-ghost use Rattle.lk_model.specs.Texts.Lines.{line_number};
-ghost use Rattle.dimacs_reader.specs.Faults.{refusal_by};
+ghost use Rattle.std.specs.Prelude.{◌≡◌};
+ghost use Rattle.dimacs_reader.specs.Faults.{refusal_at};
 ghost use Rattle.dimacs_reader.specs.declared.refusal.Refused.TheVariants.{OutOfMemory as MemoryOut};
 
-use lk_model::{Fault, FaultKind, OutOfMemory};
+use crate::stop::Stop;
+use lk_model::{FaultKind, OutOfMemory};
 use std::alloc::{AllocError, AllocFailed};
 
 /// Why a text is no formula, with the line of its first fault, counted from 1; or want of memory.
@@ -33,12 +33,13 @@ pub enum Refused {
 }
 
 impl Refused {
-    /// The refusal of a text for a fault.
-    pub(crate) fn at(text: &[u8], fault: Fault) -> Refused
-        requires { 1 ≤ fault.place }
-        ensures { result ≡ refusal_by (fault.kind, line_number text.now fault.place) }
+    /// The refusal at a stop, where this is the line of its fault.
+    pub(crate) fn by(stop: Stop, line: u64) -> Refused
+        ensures { result ≡ refusal_at line stop }
     {
-        let line = line_of(text, fault.place);
+        let Stop::Fault(fault) = stop else {
+            return Refused::OutOfMemory;
+        };
         match fault.kind {
             FaultKind::NoHeader => Refused::NoHeader { line },
             FaultKind::BadHeader => Refused::BadHeader { line },
@@ -51,15 +52,6 @@ impl Refused {
             FaultKind::TooLong => Refused::TooLong { line },
         }
     }
-}
-
-/// The line of the byte with this number: one more than the bytes 10 before it.
-fn line_of(text: &[u8], place: usize) -> u64
-    requires { 1 ≤ place }
-    ensures { result ≡ line_number text.now place }
-{
-    let before = text.iter().take(place - 1);
-    before.filter(|b| **b == b'\n').count() as u64 + 1
 }
 
 impl From<AllocError> for Refused {

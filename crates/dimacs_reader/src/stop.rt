@@ -2,7 +2,7 @@
 ghost use Rattle.dimacs_reader.specs.declared.stop.Stop.TheVariants.{Fault as FaultStop, OutOfMemory as MemoryStop};
 ghost use Rattle.std.specs.Prelude.{◌≡◌};
 
-use lk_model::{Fault, OutOfMemory};
+use lk_model::{Fault, FaultKind, OutOfMemory};
 
 /// Why reading ends without a formula.
 #[derive(Clone, Copy, PartialEq, Eq, Debug)]
@@ -26,4 +26,11 @@ impl From<OutOfMemory> for Stop {
     fn from(_e: OutOfMemory) -> Stop {
         Stop::OutOfMemory
     }
+}
+
+/// A fault at a place.
+pub(crate) fn fault_at(kind: FaultKind, place: usize) -> Fault
+    ensures { result ≡ record { kind = kind; place = place } }
+{
+    Fault { kind, place }
 }

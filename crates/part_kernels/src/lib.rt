@@ -1,7 +1,10 @@
 //! Kernels of whole formulas, found by parts in halves.
 #![tactic(auto)]
 
+mod general;
 mod matching;
 
+pub use general::general_by_parts;
+pub use general_kernel::General;
 pub use matching::matching_by_parts;
 pub use par_parts::Gate;

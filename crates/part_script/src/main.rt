@@ -16,19 +16,36 @@
 //! - `kernel N; CLAUSES` tells the positions of the matching kernel of a formula as one worker finds it, and
 //!   whether 2, 3, 8 and 64 workers find the same.
 //! - `workers N; CLAUSES` tells it as two workers find it, with the gate that holds each half.
+//! - `general N C; CLAUSES` tells what one worker finds of the general kernel of a formula by at most C
+//!   learned clauses for each part: the kept positions and the literals that are set, or `unfinished`, then
+//!   each round with its steps; and whether 2, 3 and 8 workers find the same.
+//! - `general-workers N C; CLAUSES` tells it as two workers find it, with the gate that holds each half.
+//! - `alone N C; CLAUSES; POSITIONS` tells what is found so in the part at these positions, in a formula of its
+//!   own, and whether the same is found in the whole formula.
+//! - `alone-drawn N C` compares the two for each part of so many drawn formulas.
+//! - `squares N C` tells of parts of four clauses over two of N variables each, where N + 1 is a prime, whose
+//!   numbers are scattered, how much is kept by how many rounds and steps, whether two workers find the same,
+//!   and compares one part of each 20 as `alone` does.
 //! - `fours N` counts the kept clauses of parts of one variable each: four unit clauses, which are kept, or
 //!   one, which is not, in turn.
 //! - `groups N; CLAUSES` tells the parts of a formula over 40 variables in at most so many groups.
 #![tactic(auto)]
 
+mod alone;
 mod formulas;
+mod general;
 mod halves;
 mod kernels;
 mod plain_parts;
+mod squares;
+mod telling;
 
+use crate::alone::{tell_alone, tell_drawn_alone};
 use crate::formulas::{tell_chain, tell_drawn, tell_groups, tell_parts, tell_units};
+use crate::general::{tell_general, tell_meeting};
 use crate::halves::tell_halves;
 use crate::kernels::{tell_fours, tell_kernel, tell_workers};
+use crate::squares::tell_squares;
 use std::alloc::Global;
 use std::test::Fail;
 use std::thread::Threads;
@@ -42,7 +59,9 @@ fn tell<R: Threads + Sync>(
 ) -> Result<(), Fail> {
     let (word, text) = line.split_once(" ").unwrap_or((line, ""));
     let (number, others) = text.split_once(";").unwrap_or((text, ""));
-    let number = number.trim().parse().unwrap_or(0);
+    let (number, conflicts) = number.trim().split_once(" ").unwrap_or((number.trim(), ""));
+    let number = number.parse().unwrap_or(0);
+    let conflicts = conflicts.parse().unwrap_or(0);
     match word {
         "parts" => tell_parts(alloc, number, others, out),
         "drawn" => tell_drawn(alloc, number, out),
@@ -51,6 +70,14 @@ fn tell<R: Threads + Sync>(
         "groups" => tell_groups(alloc, number, others, out),
         "kernel" => tell_kernel(rt, alloc, number, others, out),
         "workers" => tell_workers(rt, alloc, number, others, out),
+        "general" => tell_general(rt, alloc, number, conflicts, others, out),
+        "general-workers" => tell_meeting(rt, alloc, number, conflicts, others, out),
+        "alone" => {
+            let texts = others.split_once(";").unwrap_or((others, ""));
+            tell_alone(alloc, number, conflicts, texts, out)
+        }
+        "alone-drawn" => tell_drawn_alone(alloc, number, conflicts, out),
+        "squares" => tell_squares(rt, alloc, number, conflicts, out),
         "fours" => tell_fours(rt, alloc, number, out),
         "halves" | "meet" | "sides" => tell_halves(rt, alloc, word, number, others, out),
         _ => Ok(()),

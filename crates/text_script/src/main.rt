@@ -4,8 +4,10 @@
 //! 13, 9 and 11, and `\s` is a blank at an end of the line. It is printed again, and behind it stand the
 //! answers, each in a line that begins with `=`. A line that begins with `#` is a remark.
 //!
-//! - `formula TEXT` reads the text of a formula, in one piece and in pieces of 1, 3 and 7 bytes. An answer
-//!   stands there once if it does not change.
+//! - `formula TEXT` reads the text of a formula, in one piece, in pieces of 1, 3 and 7 bytes, and in two
+//!   pieces, cut at each byte. An answer stands there once if it does not change.
+//! - `moment TEXT` feeds single bytes, and tells with which one the text is refused.
+//! - `pieces TEXT|TEXT` feeds pieces, and tells the answer to each one and at the end.
 //! - `document TEXT` reads the text of a document, and prints the document and compares the texts.
 //! - `base TEXT` takes a text for the next lines. `change OLD|NEW` reads it as a document, with NEW in the
 //!   place of OLD, and `cut` reads each part of it that it begins with.
@@ -17,7 +19,7 @@ mod shown;
 mod spelled;
 
 use crate::documents::{tell_cuts, tell_document};
-use crate::formulas::tell_formula;
+use crate::formulas::{tell_formula, tell_moment, tell_pieces};
 use crate::spelled::{bytes_of, changed};
 use std::alloc::{AllocError, Global};
 use std::test::Fail;
@@ -35,6 +37,8 @@ fn bytes_for(alloc: Global, base: &str, word: &str, text: &str) -> Result<Vec<u8
 fn tell(alloc: Global, word: &str, bytes: &[u8], out: &mut String) -> Result<(), AllocError> {
     match word {
         "formula" => tell_formula(alloc, bytes, out),
+        "moment" => tell_moment(alloc, bytes, out),
+        "pieces" => tell_pieces(alloc, bytes, out),
         "document" => tell_document(alloc, bytes, out),
         "change" => tell_document(alloc, bytes, out),
         "cut" => tell_cuts(alloc, bytes, out),

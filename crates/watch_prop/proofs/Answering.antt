@@ -1,5 +1,5 @@
 -- What comes of a clause's demand.
-use Rattle.std.proofs.Common.{◌≡◌, ◌∙◌, ℕ, ◌+◌, ◌<◌, ◌≤◌, true, false, not, List, ℤ, length, drop, refl, sym, ap, subst, arith, Vec}
+use Rattle.std.proofs.Common.{◌≡◌, ℕ, ◌+◌, ◌<◌, ◌≤◌, true, false, not, List, ℤ, length, drop, refl, sym, ap, subst, arith, Vec}
 use Rattle.std.specs.declared.alloc.Global.{Global}
 use Rattle.std.specs.Ordering.{int_eq}
 use Rattle.std.proofs.lemmas.Bool.{not-true}
@@ -29,33 +29,33 @@ pub other_is_literal : (clauses : List NumberedClause) (path : Path) (s : State)
 other_is_literal clauses path s place l b at called is = subst (λ (k : ℤ). is_literal path.vars k ≡ true) (sym is) (other_literal clauses path s place l at called)
 
 -- the demand, from what is read
-pub asked : (clauses : List NumberedClause) (path : Path) (s : State) (place : ℕ) (l : ℤ) (at : ℕ) (clause : NumberedClause) (c : List ℤ) (b : ℤ) (d d' : Demand) → Called clauses path s place l at
-    → clause ≡ clause_at_place clauses place → c ≡ clause.lits → b ≡ other_of (watch_at s.watches.items place) l → IsDemand path.entries c b d → d ≡ d'
+pub asked : (clauses : List NumberedClause) (path : Path) (s : State) (place : ℕ) (l : ℤ) (at : ℕ) (c : List ℤ) (b : ℤ) (d d' : Demand) → Called clauses path s place l at
+    → c ≡ (clause_at_place clauses place).lits → b ≡ other_of (watch_at s.watches.items place) l → IsDemand path.entries c b d → d ≡ d'
     → IsDemand path.entries (clause_at_place clauses place).lits (other_of (watch_at s.watches.items place) l) d'
-asked clauses path s place l at clause c b d d' called clause_is lits is demand same =
+asked clauses path s place l at c b d d' called lits is demand same =
     subst (λ (d : Demand). IsDemand path.entries (clause_at_place clauses place).lits (other_of (watch_at s.watches.items place) l) d) same
     (subst (λ (b : ℤ). IsDemand path.entries (clause_at_place clauses place).lits b d) is
-    (subst (λ (c : List ℤ). IsDemand path.entries c b d) (lits ∙ ap (λ (h : NumberedClause). h.lits) clause_is) demand))
+    (subst (λ (c : List ℤ). IsDemand path.entries c b d) lits demand))
 
 -- ANOTHER LITERAL WATCHED
 
-pub move_leads : (clauses : List NumberedClause) (path : Path) (s s' : State) (place : ℕ) (l r : ℤ) (n at : ℕ) → Called clauses path s place l at
-    → IsDemand path.entries (clause_at_place clauses place).lits (other_of (watch_at s.watches.items place) l) (Move r n) → Differs s s' place l r at
+pub move_leads : (clauses : List NumberedClause) (path : Path) (s s' : State) (place : ℕ) (l r : ℤ) (at : ℕ) → Called clauses path s place l at
+    → IsDemand path.entries (clause_at_place clauses place).lits (other_of (watch_at s.watches.items place) l) (Move r) → Differs s s' place l r at
     → Leads clauses path path s s'
-move_leads clauses path s s' place l r n at called asked d =
-    let m = moves clauses path s place l r n at called asked in
+move_leads clauses path s s' place l r at called asked d =
+    let m = moves clauses path s place l r at called asked in
     let old = called.state.known in
-    let linked = moved_linked path.vars clauses s.watches.items s'.watches.items s.lists s'.lists s.waiting.items place l r d.from at m d.watches d.lists d.counts in
+    let linked = moved_linked path.vars clauses s.watches.items s'.watches.items s.lists s'.lists s.waiting.items place l r at m d.watches d.lists d.counts in
     kept_leads clauses path s s' called.state d.keeps
-    (moved_upholds clauses path.entries s s' place l r at (place_in_watches clauses path s place l at called) d (may_move clauses path s place l r n at called asked))
+    (moved_upholds clauses path.entries s s' place l r at (place_in_watches clauses path s place l at called) d (may_move clauses path s place l r at called asked))
     (subst (λ (v : Vec ℕ Global). IsLinked path.vars clauses s'.watches.items s'.lists v.items) (sym d.waiting) linked)
     (subst (λ (v : Vec ℕ Global). s'.satisfied ≤ length v.items) (sym d.waiting) (omega (arith, old.satisfied, d.keeps.satisfied)))
 
-pub move_settles : (clauses : List NumberedClause) (path : Path) (s s' : State) (place : ℕ) (l r : ℤ) (n at : ℕ) → Called clauses path s place l at
-    → IsDemand path.entries (clause_at_place clauses place).lits (other_of (watch_at s.watches.items place) l) (Move r n) → Differs s s' place l r at
+pub move_settles : (clauses : List NumberedClause) (path : Path) (s s' : State) (place : ℕ) (l r : ℤ) (at : ℕ) → Called clauses path s place l at
+    → IsDemand path.entries (clause_at_place clauses place).lits (other_of (watch_at s.watches.items place) l) (Move r) → Differs s s' place l r at
     → true_in path.entries (other_of (watch_at s.watches.items place) l) ≡ false → Settles clauses path path s s' place l at settled.Moves
-move_settles clauses path s s' place l r n at called asked d no_truth =
-    let m = moves clauses path s place l r n at called asked in
+move_settles clauses path s s' place l r at called asked d no_truth =
+    let m = moves clauses path s place l r at called asked in
     let y = watch_at s.watches.items place in
     let here = watch_here s s' place l r at (place_in_watches clauses path s place l at called) d in
     let lists : watchers s'.lists.lists l ≡ watchers (moved s.lists.lists l at r) l = ap (λ (ls : List (List ℕ)). watchers ls l) d.lists in

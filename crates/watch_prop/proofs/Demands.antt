@@ -23,6 +23,7 @@ use Rattle.watch_prop.proofs.Lists.{among_at}
 use Rattle.watch_prop.proofs.Trails.{may_come_of, may_force, trail_path}
 use Rattle.watch_prop.proofs.States.{MayMove, stays_leads, forced_leads}
 use Rattle.watch_prop.proofs.Settling.{head_false}
+use Rattle.watch_prop.proofs.Values.{last_true}
 use Rattle.watch_prop.proofs.Linking.{IsMove, InList, in_list}
 
 pub all_from : {X : Type 0} (p : X → Bool) (xs : List X) (d : X) → ((i : ℕ) → i < length xs → p (get_or xs i d) ≡ true) → list_all p xs ≡ true
@@ -82,10 +83,10 @@ other_literal clauses path s place l at c =
 
 -- ANOTHER LITERAL WATCHED
 
-pub moves : (clauses : List NumberedClause) (path : Path) (s : State) (place : ℕ) (l r : ℤ) (n at : ℕ) → Called clauses path s place l at
-    → IsDemand path.entries (clause_at_place clauses place).lits (other_of (watch_at s.watches.items place) l) (Move r n)
+pub moves : (clauses : List NumberedClause) (path : Path) (s : State) (place : ℕ) (l r : ℤ) (at : ℕ) → Called clauses path s place l at
+    → IsDemand path.entries (clause_at_place clauses place).lits (other_of (watch_at s.watches.items place) l) (Move r)
     → IsMove path.vars clauses s.watches.items s.lists s.waiting.items place l r at
-moves clauses path s place l r n at c d =
+moves clauses path s place l r at c d =
     let i = stands_there clauses path s place l at c in
     let b = other_of (watch_at s.watches.items place) l in
     record {
@@ -99,9 +100,9 @@ moves clauses path s place l r n at c d =
       not_other = false_apart r b (not-true _ d.1);
     }
 
-pub may_move : (clauses : List NumberedClause) (path : Path) (s : State) (place : ℕ) (l r : ℤ) (n at : ℕ) → Called clauses path s place l at
-    → IsDemand path.entries (clause_at_place clauses place).lits (other_of (watch_at s.watches.items place) l) (Move r n) → MayMove path.entries s place l r
-may_move clauses path s place l r n at c d =
+pub may_move : (clauses : List NumberedClause) (path : Path) (s : State) (place : ℕ) (l r : ℤ) (at : ℕ) → Called clauses path s place l at
+    → IsDemand path.entries (clause_at_place clauses place).lits (other_of (watch_at s.watches.items place) l) (Move r) → MayMove path.entries s place l r
+may_move clauses path s place l r at c d =
     let i = stands_there clauses path s place l at c in
     let bounds = literal_bounds path.vars l c.literal in
     record {
@@ -143,10 +144,6 @@ may_be_forced clauses path s place l number h f is = record {
     | inr y ↦ or_right (true_in path.entries l) _ (may_come_of path.vars clauses path.entries (forced_entry path.entries l number) (forced_follows clauses path s place l number h f is y))
   ];
 }
-
-last_true : (trail : List Entry) (e : Entry) → true_in (trail ++ e ∷ []) e.lit ≡ true
-last_true [] e = or_left (int_eq e.lit e.lit) false (same_true e.lit e.lit refl)
-last_true (d ∷ trail) e = or_right (int_eq e.lit d.lit) (true_in (trail ++ e ∷ []) e.lit) (last_true trail e)
 
 -- what comes of it: the literal is true
 pub record IsForced (clauses : List NumberedClause) (path path' : Path) (s : State) (l : ℤ) : Type 0 where

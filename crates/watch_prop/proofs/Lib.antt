@@ -9,6 +9,8 @@ mod Upheld
 mod States
 mod Settling
 mod Counts
+mod Values
+mod Flat
 mod Linking
 mod Listing
 mod Demands

@@ -129,10 +129,10 @@ room_for vars clauses watches w waiting r place h lit in_clauses has out =
 
 -- the watches where one of them changes
 pub watch_here : (watches : List Watch) (place : ℕ) (x : Watch) → place < length watches → watch_at (set watches place x) place ≡ x
-watch_here watches place x lt = get_or-set_same watches place x (record { first = pos 0; second = pos 0; from = 0 }) lt
+watch_here watches place x lt = get_or-set_same watches place x (record { first = pos 0; second = pos 0 }) lt
 
 pub watch_other : (watches : List Watch) (place : ℕ) (x : Watch) (p : ℕ) → p ≢ place → watch_at (set watches place x) p ≡ watch_at watches p
-watch_other watches place x p apart = get_or-set_other watches place p x (record { first = pos 0; second = pos 0; from = 0 }) apart
+watch_other watches place x p apart = get_or-set_other watches place p x (record { first = pos 0; second = pos 0 }) apart
 
 -- a clause whose watch stays, over lists that it does not leave
 pub watched_still : (clauses : List NumberedClause) (watches watches' : List Watch) (lists lists' : List (List ℕ)) (p : ℕ) → IsWatched clauses watches lists p
@@ -246,10 +246,10 @@ are_moved vars clauses watches w waiting place l r at m =
       other = s.other;
     }
 
-watched_here : (vars : ℕ) (clauses : List NumberedClause) (watches : List Watch) (w : Watchers) (waiting : List ℕ) (place : ℕ) (l r : ℤ) (n at : ℕ)
+watched_here : (vars : ℕ) (clauses : List NumberedClause) (watches : List Watch) (w : Watchers) (waiting : List ℕ) (place : ℕ) (l r : ℤ) (at : ℕ)
     → IsMove vars clauses watches w waiting place l r at
-    → IsWatched clauses (set watches place (record { first = r; second = other_of (watch_at watches place) l; from = n })) (moved w.lists l at r) place
-watched_here vars clauses watches w waiting place l r n at m =
+    → IsWatched clauses (set watches place (record { first = r; second = other_of (watch_at watches place) l })) (moved w.lists l at r) place
+watched_here vars clauses watches w waiting place l r at m =
     let lists' = moved w.lists l at r in
     let b = other_of (watch_at watches place) l in
     let lits = (clause_at_place clauses place).lits in
@@ -257,7 +257,7 @@ watched_here vars clauses watches w waiting place l r n at m =
     let i = mover vars clauses watches w waiting place l r at m in
     let long = m.linked.places in
     let inside = i.within in
-    let same = sym (watch_here watches place (record { first = r; second = b; from = n }) (omega arith)) in
+    let same = sym (watch_here watches place (record { first = r; second = b }) (omega arith)) in
     let not_r : b ≢ r = λ e. m.not_other (sym e) in
     let one_there = a.once in
     let in_r : among (watchers lists' r) place ≡ true = among_some (watchers lists' r) place (omega arith) in
@@ -270,10 +270,10 @@ watched_here vars clauses watches w waiting place l r n at m =
       in_second = subst (λ (y : Watch). among (watchers lists' y.second) place ≡ true) same in_b;
     }
 
-listed_then : (vars : ℕ) (clauses : List NumberedClause) (watches : List Watch) (w : Watchers) (waiting : List ℕ) (place : ℕ) (l r : ℤ) (n at : ℕ)
+listed_then : (vars : ℕ) (clauses : List NumberedClause) (watches : List Watch) (w : Watchers) (waiting : List ℕ) (place : ℕ) (l r : ℤ) (at : ℕ)
     → IsMove vars clauses watches w waiting place l r at → (k : ℤ) → is_literal vars k ≡ true
-    → IsListed clauses (set watches place (record { first = r; second = other_of (watch_at watches place) l; from = n })) (record { lists = moved w.lists l at r; counts = w.counts }) waiting k
-listed_then vars clauses watches w waiting place l r n at m k lit = record {
+    → IsListed clauses (set watches place (record { first = r; second = other_of (watch_at watches place) l })) (record { lists = moved w.lists l at r; counts = w.counts }) waiting k
+listed_then vars clauses watches w waiting place l r at m k lit = record {
   distinct = distinct_from_times (watchers lists' k) (λ p. elim (cases_eq p place) [
     | inl y ↦ subst (λ (n : ℕ). times (watchers lists' k) n ≤ 1) (sym y) (here_once (int_eq k l) (int_eq k r) refl refl)
     | inr y ↦ (let t = a.elsewhere k p y in let u = at_most_once (watchers w.lists k) p list.distinct in omega arith)
@@ -299,7 +299,7 @@ listed_then vars clauses watches w waiting place l r n at m k lit = record {
     lists' = moved w.lists l at r
 
     x : Watch
-    x = record { first = r; second = other_of (watch_at watches place) l; from = n }
+    x = record { first = r; second = other_of (watch_at watches place) l }
 
     list : IsListed clauses watches w waiting k
     list = m.linked.listed k lit
@@ -331,11 +331,11 @@ pub same_watchers : (w v : Watchers) → w.lists ≡ v.lists → w.counts ≡ v.
 same_watchers w v e f =
     ap (λ (ls : List (List ℕ)). record { lists = ls; counts = w.counts }) e ∙ ap (λ (ns : List ℕ). record { lists = v.lists; counts = ns }) f
 
-pub moved_linked : (vars : ℕ) (clauses : List NumberedClause) (watches watches' : List Watch) (w w' : Watchers) (waiting : List ℕ) (place : ℕ) (l r : ℤ) (n at : ℕ)
-    → IsMove vars clauses watches w waiting place l r at → watches' ≡ set watches place (record { first = r; second = other_of (watch_at watches place) l; from = n })
+pub moved_linked : (vars : ℕ) (clauses : List NumberedClause) (watches watches' : List Watch) (w w' : Watchers) (waiting : List ℕ) (place : ℕ) (l r : ℤ) (at : ℕ)
+    → IsMove vars clauses watches w waiting place l r at → watches' ≡ set watches place (record { first = r; second = other_of (watch_at watches place) l })
     → w'.lists ≡ moved w.lists l at r → w'.counts ≡ w.counts → IsLinked vars clauses watches' w' waiting
-moved_linked vars clauses watches watches' w w' waiting place l r n at m new_watches new_lists same =
-    let x : Watch = record { first = r; second = other_of (watch_at watches place) l; from = n } in
+moved_linked vars clauses watches watches' w w' waiting place l r at m new_watches new_lists same =
+    let x : Watch = record { first = r; second = other_of (watch_at watches place) l } in
     let lists' = moved w.lists l at r in
     let less = swap_remove (watchers w.lists l) at (get_or (watchers w.lists l) at 0) in
     let without = set w.lists (rank_of l) less in
@@ -348,10 +348,10 @@ moved_linked vars clauses watches watches' w w' waiting place l r n at m new_wat
       distinct = h.distinct;
       within = h.within;
       watched = λ p lt ready. elim (cases_eq p place) [
-        | inl y ↦ subst (λ (n : ℕ). IsWatched clauses (set watches place x) lists' n) (sym y) (watched_here vars clauses watches w waiting place l r n at m)
+        | inl y ↦ subst (λ (n : ℕ). IsWatched clauses (set watches place x) lists' n) (sym y) (watched_here vars clauses watches w waiting place l r at m)
         | inr y ↦ watched_still clauses watches (set watches place x) w.lists lists' p (h.watched p lt ready) (watch_other watches place x p y) (λ k e. a.stays k p y e)
       ];
-      listed = λ k lit. listed_then vars clauses watches w waiting place l r n at m k lit;
+      listed = λ k lit. listed_then vars clauses watches w waiting place l r at m k lit;
     } in
     subst (λ (ws : List Watch). IsLinked vars clauses ws w' waiting) (sym new_watches)
     (subst (λ (v : Watchers). IsLinked vars clauses (set watches place x) v waiting) (sym (same_watchers w' (record { lists = lists'; counts = w.counts }) new_lists same)) all)

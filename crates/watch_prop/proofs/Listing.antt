@@ -238,7 +238,7 @@ pub clause_before : (clauses : List NumberedClause) (d : NumberedClause) (p : �
 clause_before clauses d p lt = get_or_append_left clauses (d ∷ []) (record { number = 0; lits = [] }) p lt
 
 pub watch_before : (watches : List Watch) (x : Watch) (p : ℕ) → p < length watches → watch_at (watches ++ x ∷ []) p ≡ watch_at watches p
-watch_before watches x p lt = get_or_append_left watches (x ∷ []) (record { first = pos 0; second = pos 0; from = 0 }) p lt
+watch_before watches x p lt = get_or_append_left watches (x ∷ []) (record { first = pos 0; second = pos 0 }) p lt
 
 -- a clause that does not wait where one more does
 pub record IsBefore (clauses : List NumberedClause) (waiting : List ℕ) (p : ℕ) : Type 0 where

@@ -28,22 +28,21 @@ pub next_within : (clauses : List NumberedClause) (path : Path) (s : State) → 
 next_within clauses path s n = n.state.known.linked.within (next_waiting s) (among_at s.waiting.items s.satisfied 0 n.more)
 
 -- the clause, and what is found of it
-pub record Seen (clauses : List NumberedClause) (path : Path) (s : State) (clause : NumberedClause) (d : Found) : Type 0 where
+pub record Seen (clauses : List NumberedClause) (path : Path) (s : State) (place : ℕ) (d : Found) : Type 0 where
   pub next : IsNext clauses path s
-  pub clause_is : clause ≡ clause_at_place clauses (next_waiting s)
+  pub place_is : place ≡ next_waiting s
   pub found : IsFound path.entries (clause_at_place clauses (next_waiting s)).lits d
 
 -- from what is read
-pub seen : (clauses : List NumberedClause) (path : Path) (s : State) (place : ℕ) (clause : NumberedClause) (c : List ℤ) (d d' : Found) → IsNext clauses path s
-    → place ≡ get_or s.waiting.items s.satisfied place → clause ≡ clause_at_place clauses place → c ≡ clause.lits → IsFound path.entries c d → d ≡ d' → Seen clauses path s clause d'
-seen clauses path s place clause c d d' next read clause_is lits found same =
+pub seen : (clauses : List NumberedClause) (path : Path) (s : State) (place : ℕ) (c : List ℤ) (d d' : Found) → IsNext clauses path s
+    → place ≡ get_or s.waiting.items s.satisfied place → c ≡ (clause_at_place clauses place).lits → IsFound path.entries c d → d ≡ d' → Seen clauses path s place d'
+seen clauses path s place c d d' next read lits found same =
     let there = get_or_read s.waiting.items s.satisfied place next.more read 0 in
-    let is : clause ≡ clause_at_place clauses (next_waiting s) = clause_is ∙ ap (clause_at_place clauses) there in
     record {
       next = next;
-      clause_is = is;
+      place_is = there;
       found = subst (λ (d : Found). IsFound path.entries (clause_at_place clauses (next_waiting s)).lits d) same
-          (subst (λ (c : List ℤ). IsFound path.entries c d) (lits ∙ ap (λ (h : NumberedClause). h.lits) is) found);
+          (subst (λ (c : List ℤ). IsFound path.entries c d) (lits ∙ ap (λ (n : ℕ). (clause_at_place clauses n).lits) there) found);
     }
 
 -- its literals are over the variables

@@ -164,15 +164,14 @@ same_upheld clauses s s' trail passed count watches waiting h = record {
 
 -- what differs where the clause at a place, which stands at `at` of the list of l, watches r in place of l
 pub record Differs (s s' : State) (place : ℕ) (l r : ℤ) (at : ℕ) : Type 0 where
-  pub from : ℕ
-  pub watches : s'.watches.items ≡ set s.watches.items place (record { first = r; second = other_of (watch_at s.watches.items place) l; from = from })
+  pub watches : s'.watches.items ≡ set s.watches.items place (record { first = r; second = other_of (watch_at s.watches.items place) l })
   pub lists : s'.lists.lists ≡ moved s.lists.lists l at r
   pub counts : s'.lists.counts ≡ s.lists.counts
   pub waiting : s'.waiting ≡ s.waiting
   pub keeps : Keeps s s'
 
-pub watch_here : (s s' : State) (place : ℕ) (l r : ℤ) (at : ℕ) → place < length s.watches.items → (d : Differs s s' place l r at)
-    → watch_at s'.watches.items place ≡ record { first = r; second = other_of (watch_at s.watches.items place) l; from = d.from }
+pub watch_here : (s s' : State) (place : ℕ) (l r : ℤ) (at : ℕ) → place < length s.watches.items → Differs s s' place l r at
+    → watch_at s'.watches.items place ≡ record { first = r; second = other_of (watch_at s.watches.items place) l }
 watch_here s s' place l r at lt d = ap (λ (ws : List Watch). watch_at ws place) d.watches ∙ get_or-set_same s.watches.items place _ _ lt
 
 pub watch_there : (s s' : State) (place : ℕ) (l r : ℤ) (at p : ℕ) → Differs s s' place l r at → p ≢ place → watch_at s'.watches.items p ≡ watch_at s.watches.items p
@@ -194,7 +193,7 @@ moved_upholds clauses trail s s' place l r at lt d m = record {
         elim (cases_eq p place) [
           | inl y ↦
               let there : is_upheld sub passed (watch_at s.watches.items place) ≡ true = subst (λ (k : ℕ). is_upheld sub passed (watch_at s.watches.items k) ≡ true) y old in
-              let made = moved_upheld trail sub passed (watch_at s.watches.items place) l r d.from part passed_part there m.it m.no_truth m.free in
+              let made = moved_upheld trail sub passed (watch_at s.watches.items place) l r part passed_part there m.it m.no_truth m.free in
               subst (λ (k : ℕ). is_upheld sub passed (watch_at s'.watches.items k) ≡ true) (sym y) (subst (λ (x : Watch). is_upheld sub passed x ≡ true) (sym (watch_here s s' place l r at lt d)) made)
           | inr y ↦ subst (λ (x : Watch). is_upheld sub passed x ≡ true) (sym (watch_there s s' place l r at p d y)) old
         ];

@@ -124,11 +124,11 @@ other_apart w l two it same = at (one_of w l it)
     at (second a b) = apart (sym a ∙ sym same ∙ b)
 
 -- A clause that watches r in place of l is upheld under a part of the trail: l is not true, and r is not false.
-pub moved_upheld : (trail sub passed : List Entry) (w : Watch) (l r : ℤ) (n : ℕ) → IsPart sub trail → IsPart passed trail → is_upheld sub passed w ≡ true → watches_it w l ≡ true
-    → true_in trail l ≡ false → false_in trail r ≡ false → is_upheld sub passed (record { first = r; second = other_of w l; from = n }) ≡ true
-moved_upheld trail sub passed w l r n part passed_part h it no_l no_r = elim (cases_Bool (true_in sub (other_of w l))) [
-  | inl b ↦ upheld_second sub passed (record { first = r; second = other_of w l; from = n }) b
-  | inr b ↦ upheld_free sub passed (record { first = r; second = other_of w l; from = n }) (not_there passed trail (complement r) passed_part no_r)
+pub moved_upheld : (trail sub passed : List Entry) (w : Watch) (l r : ℤ) → IsPart sub trail → IsPart passed trail → is_upheld sub passed w ≡ true → watches_it w l ≡ true
+    → true_in trail l ≡ false → false_in trail r ≡ false → is_upheld sub passed (record { first = r; second = other_of w l }) ≡ true
+moved_upheld trail sub passed w l r part passed_part h it no_l no_r = elim (cases_Bool (true_in sub (other_of w l))) [
+  | inl b ↦ upheld_second sub passed (record { first = r; second = other_of w l }) b
+  | inr b ↦ upheld_free sub passed (record { first = r; second = other_of w l }) (not_there passed trail (complement r) passed_part no_r)
       (at (one_of w l it) b (not_there sub trail l part no_l))
 ]
   where

@@ -4,7 +4,7 @@ use Rattle.watch_prop.specs.Propagation.{Propagation}
 use Rattle.watch_prop.specs.States.{IsState, propagation_of}
 
 abbrev pub propagator_seen : Inside → Propagation
-propagator_seen p = propagation_of p.clauses.items p.trail
+propagator_seen p = propagation_of p.clauses p.trail
 
 abbrev pub IsKeptWhole : Inside → Type 0
-IsKeptWhole p = IsState p.clauses.items p.trail p.state
+IsKeptWhole p = IsState p.clauses p.trail p.state

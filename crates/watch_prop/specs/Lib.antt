@@ -6,4 +6,5 @@ pub mod KeptWatchers
 pub mod Propagation
 pub mod Linked
 pub mod States
+pub mod KeptClauses
 pub mod KeptPropagator

@@ -13,7 +13,7 @@ abbrev pub clause_at_place : List NumberedClause → ℕ → NumberedClause
 clause_at_place clauses place = slice_index_or clauses place (record { number = 0; lits = [] })
 
 abbrev pub watch_at : List Watch → ℕ → Watch
-watch_at watches place = slice_index_or watches place (record { first = pos 0; second = pos 0; from = 0 })
+watch_at watches place = slice_index_or watches place (record { first = pos 0; second = pos 0 })
 
 -- the literal is one of the two
 abbrev pub watches_it : Watch → ℤ → Bool

@@ -29,11 +29,11 @@ abbrev pub IsFirstNotFalse : List Entry → List ℤ → Option ℕ → Type 0
 IsFirstNotFalse trail c (Some at) = (at < length c) × IsTrue (not (false_at trail c at)) × ((k : ℕ) → k < at → IsTrue (false_at trail c k))
 IsFirstNotFalse trail c None = (k : ℕ) → k < length c → IsTrue (false_at trail c k)
 
--- A place of the clause at which a literal stands that is not false, other than one; none where each from a first place on
--- and before a last one is false or that one.
-abbrev pub IsPlaceOfAnother : List Entry → List ℤ → ℤ → ℕ → ℕ → Option ℕ → Type 0
-IsPlaceOfAnother trail c b begin end (Some at) = (at < length c) × IsTrue (not (int_eq (slice_index_or c at (pos 0)) b) && not (false_at trail c at))
-IsPlaceOfAnother trail c b begin end None = (k : ℕ) → begin ≤ k → k < end → IsTrue (int_eq (slice_index_or c k (pos 0)) b || false_at trail c k)
+-- A place of the clause at which a literal stands that is not false, other than one; none where each from a first place on is
+-- false or that one.
+abbrev pub IsPlaceOfAnother : List Entry → List ℤ → ℤ → ℕ → Option ℕ → Type 0
+IsPlaceOfAnother trail c b begin (Some at) = (at < length c) × IsTrue (not (int_eq (slice_index_or c at (pos 0)) b) && not (false_at trail c at))
+IsPlaceOfAnother trail c b begin None = (k : ℕ) → begin ≤ k → k < length c → IsTrue (int_eq (slice_index_or c k (pos 0)) b || false_at trail c k)
 
 -- each literal of the clause but one is false
 abbrev pub all_false_but : List Entry → List ℤ → ℤ → Bool
@@ -49,6 +49,6 @@ IsFound trail c (Two w) = IsTrue (contains c w.first) × IsTrue (contains c w.se
 -- What a clause asks for of which one watched literal is false, and the other one, b, is not true: to watch a literal that is
 -- not false, if there is one but b; else that b becomes true, or it is false.
 abbrev pub IsDemand : List Entry → List ℤ → ℤ → Demand → Type 0
-IsDemand trail c b (Move r at) = IsTrue (contains c r) × IsTrue (not (int_eq r b)) × IsTrue (not (false_in trail r))
+IsDemand trail c b (Move r) = IsTrue (contains c r) × IsTrue (not (int_eq r b)) × IsTrue (not (false_in trail r))
 IsDemand trail c b (Truth f) = (f ≡ b) × IsTrue (not (false_in trail b)) × IsTrue (all_false_but trail c b)
 IsDemand trail c b Conflict = IsTrue (list_all (false_in trail) c)

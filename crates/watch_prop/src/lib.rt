@@ -1,6 +1,7 @@
 //! Unit propagation over numbered clauses.
 #![tactic(auto)]
 
+mod clauses;
 mod entry;
 mod places;
 mod propagator;

@@ -6,13 +6,14 @@ ghost use Rattle.lk_model.specs.Held.VariableSets.{IsCrossed};
 ghost use Rattle.watch_prop.specs.Trail.{literals_of, level_of, reason_of, present_level, clause_numbered};
 ghost use Rattle.watch_prop.specs.Propagation.{Propagation, IsPropagation, assigned, numbers_of, crossed_clauses, is_quiet, IsAnswered, GoesOn, with_held, with_assigned, back_at, may_be_held};
 
+use crate::clauses::Clauses;
 use crate::entry::{NumberedClause, Propagated};
 use crate::places::place_of;
 use crate::state::{State, propagate};
 use crate::trail::Trail;
 use crate::watch::Watch;
 use crate::watcher_lists::WatcherLists;
-use lk_model::{Crossed, List, Lit, OutOfMemory};
+use lk_model::{Crossed, Lit, OutOfMemory};
 use std::alloc::Global;
 use std::marker::Model;
 
@@ -22,7 +23,7 @@ use std::marker::Model;
 /// all complements of earlier literals of the trail. Level 0 comes before the first assigned literal.
 #[derive(Drop)]
 pub struct Propagator {
-    clauses: Vec<NumberedClause>,
+    clauses: Clauses,
     trail: Trail,
     state: State,
 }
@@ -52,7 +53,7 @@ impl Propagator {
         let clauses = clauses_of(alloc, over)?;
         let mut propagator = Propagator::without_clauses(alloc, over.formula.vars())?;
         for clause in clauses {
-            propagator.hold(clause.number, clause.lits)?;
+            propagator.hold(clause.number, clause.lits.as_slice())?;
         }
         Ok(propagator)
     }
@@ -65,8 +66,7 @@ impl Propagator {
         ensures ok { OnOk result (self.new ≡ with_held self.old number lits.now) }
         ensures err { OnErr result (self.new ≡ self.old) }
     {
-        let copy = Vec::from_slice(*self.clauses.allocator(), lits)?;
-        self.hold(number, List::from_vec(copy))
+        self.hold(number, lits)
     }
 
     /// Makes an unset literal true, at a new level, where no clause is false or forces a literal.
@@ -156,9 +156,7 @@ impl Propagator {
         requires { IsSome (clause_numbered self.now.clauses number) }
         ensures { clause_numbered self.now.clauses number ≡ Some result.now }
     {
-        self.clauses[place_of(&self.clauses, number)]
-            .lits
-            .as_slice()
+        self.clauses.lits(place_of(&self.clauses, number))
     }
 
     // The propagator without a clause.
@@ -169,8 +167,8 @@ impl Propagator {
         ensures trail { IfOk result (λ p. p.trail ≡ []) }
     {
         Ok(Propagator {
-            clauses: Vec::new(alloc),
-            trail: Trail::new(alloc, n as usize)?,
+            clauses: Clauses::new(alloc),
+            trail: Trail::new(alloc, n)?,
             state: State {
                 watches: Vec::new(alloc),
                 lists: WatcherLists::new(alloc, n)?,
@@ -182,25 +180,27 @@ impl Propagator {
         })
     }
 
-    // Holds one more clause. All room is made before anything changes.
-    fn hold(&mut self, number: u64, lits: List<Lit>) -> Result<(), OutOfMemory>
-        requires clause { IsTrue (not (is_empty lits) && is_clause self.old.vars lits) }
+    // Holds one more clause. Where there is no room for it in the lists, it is taken back.
+    fn hold(&mut self, number: u64, lits: &[Lit]) -> Result<(), OutOfMemory>
+        requires clause { IsTrue (not (is_empty lits.now) && is_clause self.old.vars lits.now) }
         requires fresh { IsTrue (not (among (numbers_of self.old.clauses) number)) }
-        ensures ok { OnOk result (self.new ≡ with_held self.old number lits) }
+        ensures ok { OnOk result (self.new ≡ with_held self.old number lits.now) }
         ensures err { OnErr result (self.new ≡ self.old) }
     {
-        self.clauses.reserve(1)?;
         self.state.watches.reserve(1)?;
         self.state.waiting.reserve(1)?;
-        self.state.lists.count(lits.as_slice())?;
-        let l = lits.as_slice()[0];
+        let place = self.clauses.len();
+        self.clauses.push(number, lits)?;
+        if let Err(error) = self.state.lists.count(lits) {
+            self.clauses.truncate(place);
+            return Err(error);
+        }
+        let l = lits[0];
         self.state.watches.push_reserved(Watch {
             first: l,
             second: l,
-            from: 0,
         });
-        self.state.waiting.push_reserved(self.clauses.len());
-        self.clauses.push_reserved(NumberedClause { number, lits });
+        self.state.waiting.push_reserved(place);
         Ok(())
     }
 }

@@ -18,7 +18,8 @@ ghost use Rattle.watch_prop.specs.Linked.{clause_at_place, watch_at};
 ghost use Rattle.watch_prop.specs.Watch.{other_of};
 ghost use Rattle.watch_prop.specs.States.{propagation_of, unseen, next_waiting, IsState, Leads, IsAtHead, Settles, Passes};
 
-use crate::entry::{NumberedClause, Propagated};
+use crate::clauses::Clauses;
+use crate::entry::Propagated;
 use crate::trail::Trail;
 use crate::watch::{Demand, Found, Watch, demand_of, find};
 use crate::watcher_lists::WatcherLists;
@@ -68,18 +69,10 @@ impl State {
         ensures marks { self.new.marks ≡ self.old.marks }
     {
         let place = self.waiting.swap_remove(self.satisfied);
-        let Watch {
-            first,
-            second,
-            from,
-        } = watch;
+        let Watch { first, second } = watch;
         self.lists.push(first, place);
         self.lists.push(second, place);
-        self.watches[place] = Watch {
-            first,
-            second,
-            from,
-        };
+        self.watches[place] = Watch { first, second };
     }
 }
 
@@ -92,11 +85,7 @@ enum Settled {
 }
 
 /// Propagates until nothing more is forced or a clause is false.
-pub(crate) fn propagate(
-    clauses: &[NumberedClause],
-    trail: &mut Trail,
-    state: &mut State,
-) -> Propagated
+pub(crate) fn propagate(clauses: &Clauses, trail: &mut Trail, state: &mut State) -> Propagated
     requires { IsState clauses.now trail.old state.old }
     ensures leads { Leads clauses.now trail.old trail.new state.old state.new }
     ensures answer { IsAnswered (propagation_of clauses.now trail.new) result }
@@ -109,7 +98,7 @@ pub(crate) fn propagate(
 }
 
 // Looks at the clauses that wait, one after another.
-fn look_at_waiting(clauses: &[NumberedClause], trail: &mut Trail, state: &mut State) -> Propagated
+fn look_at_waiting(clauses: &Clauses, trail: &mut Trail, state: &mut State) -> Propagated
     requires { IsState clauses.now trail.old state.old }
     ensures leads { Leads clauses.now trail.old trail.new state.old state.new }
     ensures done { Passes clauses.now trail.new result (unseen state.new ≡ 0) }
@@ -124,21 +113,21 @@ fn look_at_waiting(clauses: &[NumberedClause], trail: &mut Trail, state: &mut St
 
 // Looks at the next clause that waits: it comes to watch two literals that are not false; or there is just one, which
 // becomes true; or it is false.
-fn look_at_next(clauses: &[NumberedClause], trail: &mut Trail, state: &mut State) -> Propagated
+fn look_at_next(clauses: &Clauses, trail: &mut Trail, state: &mut State) -> Propagated
     requires state { IsState clauses.now trail.old state.old }
     requires more { state.old.satisfied < length state.old.waiting.items }
     ensures leads { Leads clauses.now trail.old trail.new state.old state.new }
     ensures done { Passes clauses.now trail.new result (unseen state.new + 1 ≡ unseen state.old) }
 {
-    let clause = clause_at(clauses, state.waiting[state.satisfied]);
-    match find(trail, clause.lits.as_slice()) {
-        Found::AllFalse => Propagated::Conflict(clause.number),
+    let place = state.waiting[state.satisfied];
+    match find(trail, clauses.lits(place)) {
+        Found::AllFalse => Propagated::Conflict(clauses.number(place)),
         Found::Two(watch) => {
             state.list_next(watch);
             Propagated::Quiet
         }
         Found::One(l) => {
-            trail.force(l, clause.number);
+            trail.force(l, clauses.number(place));
             state.satisfied += 1;
             Propagated::Quiet
         }
@@ -146,7 +135,7 @@ fn look_at_next(clauses: &[NumberedClause], trail: &mut Trail, state: &mut State
 }
 
 // Passes the literals of the trail on, one after another.
-fn follow_trail(clauses: &[NumberedClause], trail: &mut Trail, state: &mut State) -> Propagated
+fn follow_trail(clauses: &Clauses, trail: &mut Trail, state: &mut State) -> Propagated
     requires { IsState clauses.now trail.old state.old }
     ensures leads { Leads clauses.now trail.old trail.new state.old state.new }
     ensures unseen { unseen state.new ≡ unseen state.old }
@@ -161,7 +150,7 @@ fn follow_trail(clauses: &[NumberedClause], trail: &mut Trail, state: &mut State
 }
 
 // Passes the next literal on to the watchers of its complement.
-fn pass_on(clauses: &[NumberedClause], trail: &mut Trail, state: &mut State) -> Propagated
+fn pass_on(clauses: &Clauses, trail: &mut Trail, state: &mut State) -> Propagated
     requires state { IsState clauses.now trail.old state.old }
     requires more { state.old.head < length trail.old.entries }
     ensures leads { Leads clauses.now trail.old trail.new state.old state.new }
@@ -175,7 +164,7 @@ fn pass_on(clauses: &[NumberedClause], trail: &mut Trail, state: &mut State) -> 
         match settle(clauses, trail, state, place, l, at) {
             Settled::Stays => at += 1,
             Settled::Moves => {}
-            Settled::IsFalse => return Propagated::Conflict(clause_at(clauses, place).number),
+            Settled::IsFalse => return Propagated::Conflict(clauses.number(place)),
         }
     }
     state.head += 1;
@@ -184,7 +173,7 @@ fn pass_on(clauses: &[NumberedClause], trail: &mut Trail, state: &mut State) -> 
 
 // Gives a clause what it asks for when a literal that it watches is false.
 fn settle(
-    clauses: &[NumberedClause],
+    clauses: &Clauses,
     trail: &mut Trail,
     state: &mut State,
     place: usize,
@@ -204,30 +193,19 @@ fn settle(
     if trail.is_true(other) {
         return Settled::Stays;
     }
-    let clause = clause_at(clauses, place);
-    let from = state.watches[place].from;
-    match demand_of(trail, clause.lits.as_slice(), other, from) {
-        Demand::Move { to, at: found } => {
+    match demand_of(trail, clauses.lits(place), other) {
+        Demand::Move(to) => {
             state.watches[place] = Watch {
                 first: to,
                 second: other,
-                from: found,
             };
             state.lists.shift(l, at, to);
             Settled::Moves
         }
         Demand::Truth(l) => {
-            trail.force(l, clause.number);
+            trail.force(l, clauses.number(place));
             Settled::Stays
         }
         Demand::Conflict => Settled::IsFalse,
     }
-}
-
-// The clause at a place.
-fn clause_at(clauses: &[NumberedClause], place: usize) -> &NumberedClause
-    requires { place < length clauses.now }
-    ensures { result.now ≡ clause_at_place clauses.now place }
-{
-    &clauses[place]
 }

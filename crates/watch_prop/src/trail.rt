@@ -1,6 +1,7 @@
 //! The literals that are true, in the order in which they came.
 ghost use Rattle.std.specs.Prelude.{◌≡◌, ◌||◌, ℕ, ◌+◌, ◌-◌, ◌<◌, ◌≤◌, ◌++◌, ◌∷◌, [], length, take, IfOk, IsTrue};
 ghost use Rattle.lk_model.specs.Formulas.Literal.{variable, is_literal};
+ghost use Rattle.watch_prop.specs.KeptTrail.{place_of};
 ghost use Rattle.watch_prop.specs.Trail.{Path, literals_of, entry_of, true_in, false_in, present_level, up_to_level, may_come, is_path, forced_entry, with_forced};
 
 use crate::entry::Entry;
@@ -8,13 +9,14 @@ use lk_model::{Lit, OutOfMemory};
 use std::alloc::Global;
 use std::marker::Model;
 
-/// Entries in order, their literals, and the entry of each variable. There is room for an entry of every
-/// variable, so that no literal that comes takes memory.
+/// Entries in order, their literals, the entry of each variable, and a flag for each number from -n to n that tells
+/// whether that literal is true. There is room for an entry of every variable, so that no literal that comes takes memory.
 #[derive(Drop)]
 pub(crate) struct Trail {
     entries: Vec<Entry>,
     lits: Vec<Lit>,
     table: Vec<Option<Entry>>,
+    values: Vec<bool>,
 }
 
 impl Model for Trail {
@@ -31,15 +33,16 @@ impl Model for Trail {
 
 impl Trail {
     /// The trail without an entry, over the variables from 1 to n.
-    pub fn new(alloc: Global, n: usize) -> Result<Trail, OutOfMemory>
+    pub fn new(alloc: Global, n: u32) -> Result<Trail, OutOfMemory>
         requires { n ≤ 1000000 }
         ensures vars { IfOk result (λ t. t.vars ≡ n) }
         ensures entries { IfOk result (λ t. t.entries ≡ []) }
     {
         Ok(Trail {
-            entries: Vec::with_capacity(alloc, n)?,
-            lits: Vec::with_capacity(alloc, n)?,
-            table: vec![in alloc; None; n]?,
+            entries: Vec::with_capacity(alloc, n as usize)?,
+            lits: Vec::with_capacity(alloc, n as usize)?,
+            table: vec![in alloc; None; n as usize]?,
+            values: vec![in alloc; false; 2 * n as usize + 1]?,
         })
     }
 
@@ -90,10 +93,7 @@ impl Trail {
         requires { IsTrue (is_literal self.now.vars l) }
         ensures { result ≡ true_in self.now.entries l }
     {
-        match self.entry(l.var()) {
-            Some(entry) => entry.lit == l,
-            None => false,
-        }
+        self.values[self.place(l)]
     }
 
     /// Whether its complement is true.
@@ -110,8 +110,10 @@ impl Trail {
         ensures value { self.new ≡ record self.old { entries = self.old.entries ++ (record { lit = lit; level = level; reason = reason }) ∷ [] } }
         ensures room { length self.new.entries ≤ self.new.vars }
     {
+        let at = self.place(lit);
         let place = lit.var() as usize - 1;
         self.table[place] = Some(Entry { lit, level, reason });
+        self.values[at] = true;
         self.entries.push_reserved(Entry { lit, level, reason });
         self.lits.push_reserved(lit);
     }
@@ -137,14 +139,25 @@ impl Trail {
         }
     }
 
+    // Where the flag of a literal stands.
+    fn place(&self, l: Lit) -> usize
+        requires { IsTrue (is_literal self.now.vars l) }
+        ensures { result ≡ place_of self.now.vars l }
+    {
+        (self.table.len() as i32 + l.get()) as usize
+    }
+
     // Takes the last entry back.
     fn take_back(&mut self)
         requires { 0 < length self.old.entries }
         ensures { self.new ≡ record self.old { entries = take (length self.old.entries - 1) self.old.entries } }
     {
         let last = self.entries.len() - 1;
-        let place = self.entries[last].lit.var() as usize - 1;
+        let lit = self.entries[last].lit;
+        let at = self.place(lit);
+        let place = lit.var() as usize - 1;
         self.table[place] = None;
+        self.values[at] = false;
         self.entries.truncate(last);
         self.lits.truncate(last);
     }

@@ -1,9 +1,7 @@
 //! The two literals that a clause watches, and what a clause asks for.
 //!
-//! The place at which the last search for another literal ended is kept, and the next search begins there and comes round
-//! to it, so that false literals at the front are not passed over at each search (Gent, "Optimal Implementation of Watched
-//! Literals and More General Techniques", 2013). Here the place is kept with the two literals, and not with the clause. It
-//! is a matter of speed alone: no contract speaks of it.
+//! Another literal is searched from the front. Where variables are decided in their order, and the literals of clauses
+//! ascend, those at the front seldom change, and what is found there is not false for long.
 ghost use Rattle.std.specs.Prelude.{◌≡◌, ◌≤◌, length, IsTrue};
 ghost use Rattle.std.specs.List.{list_all};
 ghost use Rattle.lk_model.specs.Formulas.Literal.{is_literal};
@@ -12,12 +10,11 @@ ghost use Rattle.watch_prop.specs.Watch.{other_of, IsDemand, IsFound, IsFirstNot
 use crate::trail::Trail;
 use lk_model::Lit;
 
-/// Two literals of a clause, and the place in the clause from which another one is searched.
+/// Two literals of a clause.
 #[derive(Clone, Copy, PartialEq, Eq, Debug)]
 pub(crate) struct Watch {
     pub first: Lit,
     pub second: Lit,
-    pub from: usize,
 }
 
 impl Watch {
@@ -25,7 +22,7 @@ impl Watch {
     pub fn other(self, l: Lit) -> Lit
         ensures { result ≡ other_of self l }
     {
-        let Watch { first, second, .. } = self;
+        let Watch { first, second } = self;
         if first == l { second } else { first }
     }
 }
@@ -50,11 +47,10 @@ pub(crate) fn find(trail: &Trail, lits: &[Lit]) -> Found
         return Found::AllFalse
     };
     let l = lits[one];
-    match place_between(trail, lits, l, one + 1, lits.len()) {
+    match place_of_another(trail, lits, l, one + 1) {
         Some(two) => Found::Two(Watch {
             first: l,
             second: lits[two],
-            from: two,
         }),
         None => Found::One(l),
     }
@@ -63,47 +59,33 @@ pub(crate) fn find(trail: &Trail, lits: &[Lit]) -> Found
 /// What a clause asks for when a literal that it watches is false and the other one is not true.
 #[derive(Clone, Copy, PartialEq, Eq, Debug)]
 pub(crate) enum Demand {
-    /// To watch, instead of the false one, the literal at a place of the clause.
-    Move { to: Lit, at: usize },
+    /// To watch another literal instead of the false one.
+    Move(Lit),
     /// That its only unset literal becomes true.
     Truth(Lit),
     /// What can't be: each of its literals is false.
     Conflict,
 }
 
-/// What a clause asks for of which one watched literal is false and the other one is not true. A new one is searched
-/// from a place on, and then before it.
-pub(crate) fn demand_of(trail: &Trail, lits: &[Lit], other: Lit, from: usize) -> Demand
+/// What a clause asks for of which one watched literal is false and the other one is not true.
+pub(crate) fn demand_of(trail: &Trail, lits: &[Lit], other: Lit) -> Demand
     requires lits { IsTrue (list_all (is_literal trail.now.vars) lits.now) }
     requires other { IsTrue (is_literal trail.now.vars other) }
     ensures { IsDemand trail.now.entries lits.now other result }
 {
-    match place_of_another(trail, lits, other, from) {
-        Some(at) => Demand::Move { to: lits[at], at },
+    match place_of_another(trail, lits, other, 0) {
+        Some(at) => Demand::Move(lits[at]),
         None if trail.is_false(other) => Demand::Conflict,
         None => Demand::Truth(other),
     }
 }
 
-// The place of a literal that is not false, but not that of a given one.
-fn place_of_another(trail: &Trail, lits: &[Lit], but: Lit, from: usize) -> Option<usize>
+// The first place from one on of a literal that is not false, but not that of a given one.
+fn place_of_another(trail: &Trail, lits: &[Lit], but: Lit, begin: usize) -> Option<usize>
     requires { IsTrue (list_all (is_literal trail.now.vars) lits.now) }
-    ensures { IsPlaceOfAnother trail.now.entries lits.now but 0 (length lits.now) result }
+    ensures { IsPlaceOfAnother trail.now.entries lits.now but begin result }
 {
-    let middle = from.min(lits.len());
-    match place_between(trail, lits, but, middle, lits.len()) {
-        Some(at) => Some(at),
-        None => place_between(trail, lits, but, 0, middle),
-    }
-}
-
-// The first such place from one on, and before another.
-fn place_between(trail: &Trail, lits: &[Lit], but: Lit, begin: usize, end: usize) -> Option<usize>
-    requires lits { IsTrue (list_all (is_literal trail.now.vars) lits.now) }
-    requires end { end ≤ length lits.now }
-    ensures { IsPlaceOfAnother trail.now.entries lits.now but begin end result }
-{
-    for at in begin..end {
+    for at in begin..lits.len() {
         if lits[at] != but && !trail.is_false(lits[at]) {
             return Some(at);
         }

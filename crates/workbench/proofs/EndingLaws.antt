@@ -6,8 +6,8 @@ use Rattle.lk_model.specs.declared.list.OutOfMemory.{OutOfMemory}
 use Rattle.lk_outside.specs.Causes.{Rose}
 use Rattle.cert_text.specs.ReadTexts.{IsOfOneDocument, StopsNowhere}
 use Rattle.workbench.specs.Commands.{inputs_of, Answers}
-use Rattle.workbench.specs.Endings.{Shelved, Sunk, TakesBoth, IsCutIn, Ends, IsCutOff, IsResult, DeservesStop, HasReadFault, Tells, Allows, HasValues, IsDecidedFor, IsDecided, IsUnlessFailed, StopsAsRead, StopsAt}
-use Rattle.workbench.specs.Inputs.{Told, Values, IsFirstBad}
+use Rattle.workbench.specs.Endings.{Shelved, Sunk, TakesBoth, IsCutIn, Ends, IsCutOff, IsResult, DeservesStop, HasReadFault, Tells, Allows, HasValues, IsDecidedFor, IsDecided, IsUnlessFailed, StopsAsRead, StopsAt, ReadsNothing, IsWell}
+use Rattle.workbench.specs.Inputs.{Told, Values, IsFirstBad, IsFailure}
 use Rattle.workbench.specs.Lawful.{Request, request_of}
 use Rattle.workbench.specs.Statuses.{code, is_result}
 use Rattle.workbench.specs.Stops.{status_of, line_of}
@@ -47,7 +47,7 @@ not_write_fault words shelf s written said h e = subst (λ (t : Status). Allows 
 
 read_fault : (o : Option Request) (shelf : Shelved) → Rose shelf.before shelf.after → StopsAsRead o shelf.told shelf.ailing shelf.current stop.Read → HasReadFault o shelf
 read_fault None shelf rose h = h
-read_fault (Some request) shelf rose h = (rose, h.0, h.1)
+read_fault (Some request) shelf rose h = (rose, h)
 
 -- what a stop tells is allowed
 pub stop_allowed : (words : List Word) (shelf : Shelved) (s : Stop) (written said : List ℕ) → StopsAt words shelf.told shelf.ailing shelf.current s → (s ≡ stop.Read → Rose shelf.before shelf.after) → Tells s written said → Allows words shelf (status_of s) written said
@@ -139,9 +139,44 @@ pub told_decided : IsOfOneDocument → StopsNowhere → (words : List Word) (tol
 told_decided once never words told ailing current s (Ok e) is h = λ decided d. subst (λ (t : Status). IsUnlessFailed (code t) decided) (sym is) (stop_decided once never words told ailing current s decided h d)
 told_decided once never words told ailing current s (Err e) is h = tt
 
+-- WHERE THE SHELF IS AILING
+
+well_by : (s : Status) (o : Option Request) (ailing : Bool) → (IsTrue ailing → ReadsNothing o) → IsWell s o ailing
+well_by status.Done o ailing h = h
+well_by status.Words o ailing h = h
+well_by status.Input o ailing h = h
+well_by status.ReadFault o ailing h = tt
+well_by status.WriteFault o ailing h = h
+well_by status.Budget o ailing h = h
+well_by status.TooWide o ailing h = h
+well_by status.TooLarge o ailing h = h
+well_by status.Refused o ailing h = h
+well_by status.Memory o ailing h = tt
+
+-- a result does not tell of a failure
+pub result_well : (s : Status) (o : Option Request) (ailing : Bool) → (IsTrue ailing → ReadsNothing o ⊎ ⊥) → IsWell s o ailing
+result_well s o ailing h = well_by s o ailing (λ is. by (h is))
+  where
+    by : ReadsNothing o ⊎ ⊥ → ReadsNothing o
+    by (inl nothing) = nothing
+    by (inr f) = absurd f
+
+-- nor does a stop of another kind
+stop_well : (s : Stop) (o : Option Request) (ailing : Bool) → (IsTrue ailing → ReadsNothing o ⊎ IsFailure s) → IsWell (status_of s) o ailing
+stop_well stop.Read o ailing h = tt
+stop_well stop.Memory o ailing h = tt
+stop_well (stop.Words i) o ailing h = result_well status.Words o ailing h
+stop_well (stop.Formula r) o ailing h = result_well status.Input o ailing h
+stop_well (stop.Document line) o ailing h = result_well status.Input o ailing h
+stop_well (stop.Model line) o ailing h = result_well status.Input o ailing h
+
+pub told_well : (s : Stop) (o : Option Request) (ailing : Bool) (r : Result Ending OutOfMemory) → IfOk r (λ e. e.status ≡ status_of s) → (IsTrue ailing → ReadsNothing o ⊎ IsFailure s) → IfOk r (λ e. IsWell e.status o ailing)
+told_well s o ailing (Ok e) is h = subst (λ (t : Status). IsWell t o ailing) (sym is) (stop_well s o ailing h)
+told_well s o ailing (Err e) is h = tt
+
 -- want of memory for that line is allowed too
 pub memory_ends : (words : List Word) (shelf : Shelved) (out say : Sunk) (answer : ℕ) → answer ≡ code status.Memory → TakesBoth out say [] (line_of stop.Memory) → Ends words shelf out say answer
-memory_ends words shelf out say answer is taken = record { status = status.Memory; written = []; said = line_of stop.Memory; allowed = (refl, refl); answer_is = is; taken = taken }
+memory_ends words shelf out say answer is taken = record { status = status.Memory; written = []; said = line_of stop.Memory; allowed = (refl, refl); well = tt; answer_is = is; taken = taken }
 
 pub memory_cut : (words : List Word) (shelf : Shelved) (out say : Sunk) → IsCutIn out say [] (line_of stop.Memory) → IsCutOff words shelf out say
-memory_cut words shelf out say cut = record { status = status.Memory; written = []; said = line_of stop.Memory; allowed = (refl, refl); cut = cut }
+memory_cut words shelf out say cut = record { status = status.Memory; written = []; said = line_of stop.Memory; allowed = (refl, refl); well = tt; cut = cut }

@@ -10,15 +10,17 @@ use Rattle.lk_model.specs.Documents.Text.{text_of}
 use Rattle.lk_model.specs.Reduction.{Reduces, protect_line_of, WritesReduction}
 use Rattle.lk_model.specs.declared.class.Class.{Class}
 use Rattle.lk_model.specs.declared.class.Class.TheVariants as class
-use Rattle.lk_model.specs.declared.document.Body.TheVariants.{Pure, Matching, Linear}
+use Rattle.lk_model.specs.declared.document.Body.TheVariants.{Pure, Matching, Linear, General}
 use Rattle.lk_model.specs.declared.document.Document.TheVariants.{Done as Finished}
 use Rattle.lk_model.specs.declared.document.DoneDocument.{DoneDocument}
 use Rattle.lk_model.specs.declared.result.PureResult.{PureResult}
 use Rattle.lk_model.specs.declared.result.MatchingResult.{MatchingResult}
 use Rattle.lk_model.specs.declared.result.LinearResult.{LinearResult}
+use Rattle.lk_model.specs.declared.result.GeneralResult.{GeneralResult}
 use Rattle.lk_model.specs.Linear.LinearRun.{RunDone, linear_run}
 use Rattle.lk_model.proofs.Crossings.{formula_form, fewer_literals}
 use Rattle.kernel_laws.specs.Pure.PureResults.{IsPureResult, IsSetLine, pure_document}
+use Rattle.kernel_laws.specs.General.GeneralResults.{IsGeneralResult}
 use Rattle.kernel_laws.specs.Matching.MatchingResults.{IsMatchingResult, set_line}
 use Rattle.kernel_laws.specs.Protected.FoundLaw.{rest_of, written_for}
 use Rattle.kernel_laws.proofs.Pure.PureResults.{pure_result_law}
@@ -31,7 +33,7 @@ use Rattle.workbench.specs.Founds.{document_of, IsFoundFor, TellsReduction}
 use Rattle.workbench.specs.declared.document.Found.{Found}
 
 -- what is left of a formula is within the limits
-limits_left : (P : Variables) (F : Cnf) → IsWithinLimits F → IsWithinLimits (formula_without F P)
+pub limits_left : (P : Variables) (F : Cnf) → IsWithinLimits F → IsWithinLimits (formula_without F P)
 limits_left P F limits = record {
   vars = limits.vars;
   clauses = (let same = same_count F P in let fit = limits.clauses in omega (arith, same, fit));
@@ -66,6 +68,15 @@ matching_found rest r set h line = subst (λ (ls : List ℤ). IsFoundFor class.M
       (found_law.matching F protect pivots r form limits protects there) in
       subst (λ (G : Cnf). Reduces F class.Matching pivots (document_of F protect (record { kept = r.kept; set = set_line G r.own; body = Matching r.own r.rows }))) is told;
 })
+
+pub general_found : (rest : Cnf) (r : GeneralResult) → IsGeneralResult rest (positions_of rest) r → IsFoundFor class.General rest (record { kept = r.kept; set = r.set; body = General r.rounds })
+general_found rest r h = record {
+  positions = h.positions;
+  reduces = λ pivots F protect form limits protects is.
+      let there : IsGeneralResult (rest_of F protect) (positions_of (rest_of F protect)) r = subst (λ (G : Cnf). IsGeneralResult G (positions_of G) r) (sym is) h in
+      same_document F protect class.General pivots (record { kept = r.kept; set = r.set; body = General r.rounds })
+      (found_law.general F protect pivots r form limits protects there);
+}
 
 -- of a linear run that ends done: its stages and its kept positions are in form
 pub linear_stages : (F : Cnf) (pivots made : ℕ) (r : LinearResult) → IsTrue (is_formula F) → IsWithinLimits F → linear_run F pivots ≡ RunDone r.kept r.stages r.dual r.units made → IsTrue (list_all (is_stage F.vars) r.stages)

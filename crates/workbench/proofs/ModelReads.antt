@@ -7,7 +7,7 @@ use Rattle.lk_model.specs.Texts.ModelText.{model_of}
 use Rattle.lk_model.specs.declared.document.Document.{Document as AnyDocument}
 use Rattle.lk_outside.specs.Causes.{TellsTheSame}
 use Rattle.cert_text.specs.ModelTexts.{IsModelRead as IsReadAs}
-use Rattle.workbench.specs.Inputs.{Told, Grammar, Formula, Document, Model, vars_behind, AreRead, IsModelRead, IsFirstBad, IsOneOf, StopsReading, StopsOn}
+use Rattle.workbench.specs.Inputs.{Told, Grammar, Formula, Document, Model, vars_behind, AreRead, IsModelRead, IsFirstBad, IsAilingOn, StopsReading, StopsOn}
 use Rattle.workbench.specs.declared.stop.Stop.{Stop}
 use Rattle.workbench.specs.declared.stop.Stop.TheVariants as stop
 
@@ -27,14 +27,17 @@ bad_before told n (grammar ∷ grammars) others [] more s h = absurd h
 bad_before told n (grammar ∷ grammars) others (name ∷ names) more s (inl bad) = inl bad
 bad_before told n (grammar ∷ grammars) others (name ∷ names) more s (inr later) = inr (later.0, later.1, bad_before told (vars_behind grammar n later.0) grammars others names more s later.2)
 
-one_before : (names more : List Word) (current : Option (List ℕ)) → IsOneOf names current → IsOneOf (names ++ more) current
-one_before [] more current h = absurd h
-one_before (name ∷ names) more current (inl is) = inl is
-one_before (name ∷ names) more current (inr later) = inr (one_before names more current later)
+ailing_before : (told : Told) (n : ℕ) (grammars others : List Grammar) (names more : List Word) (ailing : Bool) (current : Option (List ℕ)) → IsAilingOn told n grammars names ailing current
+    → IsAilingOn told n (grammars ++ others) (names ++ more) ailing current
+ailing_before told n [] others names more ailing current h = absurd h
+ailing_before told n (grammar ∷ grammars) others [] more ailing current h = absurd h
+ailing_before told n (grammar ∷ grammars) others (name ∷ names) more ailing current (inl is) = inl is
+ailing_before told n (grammar ∷ grammars) others (name ∷ names) more ailing current (inr later) =
+    inr (later.0, later.1, ailing_before told (vars_behind grammar n later.0) grammars others names more ailing current later.2)
 
 pub stops_before : (told : Told) (n : ℕ) (grammars others : List Grammar) (names more : List Word) (ailing : Bool) (current : Option (List ℕ)) (s : Stop) → StopsOn told n grammars names ailing current s
     → StopsOn told n (grammars ++ others) (names ++ more) ailing current s
-stops_before told n grammars others names more ailing current stop.Read h = (h.0, one_before names more current h.1)
+stops_before told n grammars others names more ailing current stop.Read h = ailing_before told n grammars others names more ailing current h
 stops_before told n grammars others names more ailing current stop.Memory h = tt
 stops_before told n grammars others names more ailing current (stop.Words i) h = bad_before told n grammars others names more (stop.Words i) h
 stops_before told n grammars others names more ailing current (stop.Formula r) h = bad_before told n grammars others names more (stop.Formula r) h
@@ -53,7 +56,7 @@ model_behind told now name n values same r = subst (λ (o : Option (List ℕ)). 
 pub stops_behind : (told now : Told) (a b c : Word) (F : Cnf) (d : AnyDocument) (ailing : Bool) (current : Option (List ℕ)) (s : Stop) → TellsTheSame told now
     → AreRead told 0 (Formula ∷ Document ∷ []) (a ∷ b ∷ []) (F, (d, tt)) → StopsReading Model F.vars (now c) ailing s → (s ≡ stop.Read → current ≡ Some c)
     → StopsOn told 0 (Formula ∷ Document ∷ Model ∷ []) (a ∷ b ∷ c ∷ []) ailing current s
-stops_behind told now a b c F d ailing current stop.Read same r h at = (h, inr (inr (inl (at refl))))
+stops_behind told now a b c F d ailing current stop.Read same r h at = inr (F, r.0, inr (d, r.1.0, inl (h, at refl)))
 stops_behind told now a b c F d ailing current stop.Memory same r h at = tt
 stops_behind told now a b c F d ailing current (stop.Words i) same r h at = absurd h
 stops_behind told now a b c F d ailing current (stop.Formula x) same r h at = absurd h

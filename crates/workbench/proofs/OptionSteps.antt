@@ -244,6 +244,7 @@ all_given command xs given place h end =
     let none : refused_place (keys_of command) [] (texts xs) ≡ None = h.on ∙ ap (λ (ws : List Word). option_map (λ i. i + place) (refused_place (keys_of command) h.before ws)) rest in
     fit_options (keys_of command) (texts xs) (all_pass (keys_of command) [] (texts xs) none)
     ∙ ap Some (λ i. record {
+      number = 0;
       conflicts = (number Conflicts 100000 ∙ same_number Conflicts 100000 (given_for given Conflicts) (h.within Conflicts)) i;
       pivots = (number Pivots 100000 ∙ same_number Pivots 100000 (given_for given Pivots) (h.within Pivots)) i;
       workers = (number Workers 1 ∙ same_number Workers 1 (given_for given Workers) (h.within Workers)) i;

@@ -1,5 +1,5 @@
 -- The words of options and their values.
-use Rattle.std.proofs.Common.{◌≡◌, ◌<◌, ◌≤◌, ◌∙◌, true, false, ◌||◌, List, [], ◌∷◌, map, Option, Some, None, refl, ap, sym, subst, arith, inl, inr, is_some, unwrap_or, option_and_then, nat_le, ℕ}
+use Rattle.std.proofs.Common.{◌≡◌, ◌<◌, ◌≤◌, ◌-◌, ◌^◌, ◌∙◌, true, false, ◌||◌, List, [], ◌∷◌, map, Option, Some, None, refl, ap, sym, subst, arith, inl, inr, is_some, unwrap_or, option_and_then, nat_le, ℕ}
 use Rattle.std.specs.Str.{bytes_eq}
 use Rattle.std.specs.Option.{option_map_or}
 use Rattle.std.proofs.lemmas.Bool.{cases_Bool, leb-true}
@@ -139,7 +139,22 @@ value_is_first key w value words e = elim (cases_Bool (is_value_of (named key) v
   | inr f ↦ absurd (let g : ⊥ = cc (e, f) in g)
 ]
 
--- THE NUMBER OF WORKERS
+-- THE BUDGET OF CONFLICTS, AND THE NUMBER OF WORKERS
+
+conflicts_number : (n : Option ℕ) → (0 < unwrap_or (number_for Conflicts n) 100000) × (unwrap_or (number_for Conflicts n) 100000 < 2 ^ 63)
+conflicts_number None = (omega arith, omega arith)
+conflicts_number (Some n) = elim (cases_Bool (is_in_range conflicts n)) [
+  | inl t ↦
+      let p = and_true (nat_le 1 n) (nat_le n (2 ^ 63 - 1)) t in
+      let least = leb-true 1 n p.0 in
+      let most = leb-true n (2 ^ 63 - 1) p.1 in
+      rw t (omega (arith, least), omega (arith, most))
+  | inr f ↦ rw f (omega arith, omega arith)
+]
+
+pub conflicts_of : (o : Option Word) → (0 < number_or Conflicts o 100000) × (number_or Conflicts o 100000 < 2 ^ 63)
+conflicts_of None = (omega arith, omega arith)
+conflicts_of (Some w) = conflicts_number (natural w)
 
 workers_number : (n : Option ℕ) → (0 < unwrap_or (number_for Workers n) 1) × (unwrap_or (number_for Workers n) 1 ≤ 64)
 workers_number None = (omega arith, omega arith)

@@ -22,20 +22,22 @@ use Rattle.workbench.specs.Commands.Reducing as reduce
 use Rattle.workbench.specs.Commands.Checking as check
 use Rattle.workbench.specs.Commands.Checking.{verdict_status}
 use Rattle.workbench.specs.Commands.Reporting.{WritesReport}
-use Rattle.workbench.specs.Endings.{Shelved, Sunk, Takes, Ends, Allows, HasResult, IsResult, IsDecided}
-use Rattle.workbench.specs.Inputs.{Told}
+use Rattle.workbench.specs.Endings.{Shelved, Sunk, Takes, Ends, Allows, HasResult, IsResult, DeservesStop, IsDecided}
+use Rattle.workbench.specs.Commands.{inputs_of}
+use Rattle.workbench.specs.Inputs.{Told, IsFirstBad}
 use Rattle.workbench.specs.Lawful.{Request, request_of}
 use Rattle.workbench.specs.Outcomes.{IsFormulaText, IsNoFormulaText, IsNoDocumentText, IsProved, IsOpenFor, ReduceMeans, ReduceOutcomes, CheckOutcomes, ReportOutcomes, Reports}
 use Rattle.workbench.specs.Settings.{Options}
 use Rattle.workbench.specs.Statuses.{code, is_result}
 use Rattle.workbench.specs.declared.command.Command.TheVariants.{ReducePure, ReduceMatching, Check}
+use Rattle.workbench.specs.declared.stop.Stop.{Stop}
 use Rattle.workbench.specs.declared.status.Status.{Status}
 use Rattle.workbench.specs.declared.status.Status.TheVariants.{Done, Words, Input, ReadFault, WriteFault, Budget, TooWide, TooLarge, Refused, Memory}
 
 -- STATUSES
 
 -- no two statuses have one number
-abbrev numbered : ℕ → Status
+abbrev pub numbered : ℕ → Status
 numbered zero = Done
 numbered (suc zero) = Words
 numbered (suc (suc zero)) = Input
@@ -59,11 +61,11 @@ number_of TooLarge = refl
 number_of Refused = refl
 number_of Memory = refl
 
-one_status : (s : Status) (n : ℕ) → n ≡ code s → s ≡ numbered n
+pub one_status : (s : Status) (n : ℕ) → n ≡ code s → s ≡ numbered n
 one_status s n e = sym (number_of s) ∙ ap numbered (sym e)
 
 -- the result of an ending with the status of one
-result_at : (words : List Word) (shelf : Shelved) (r : Request) (s : Status) (written said : List ℕ) → request_of words ≡ Some r → IsTrue (is_result s) → Allows words shelf s written said → HasResult r shelf.told s written said
+pub result_at : (words : List Word) (shelf : Shelved) (r : Request) (s : Status) (written said : List ℕ) → request_of words ≡ Some r → IsTrue (is_result s) → Allows words shelf s written said → HasResult r shelf.told s written said
 result_at words shelf r s written said asked is h = subst (λ (o : Option Request). IsResult o shelf.told s written said) asked (by s is h)
   where
     by : (s : Status) → IsTrue (is_result s) → Allows words shelf s written said → IsResult (request_of words) shelf.told s written said
@@ -82,6 +84,12 @@ result_at words shelf r s written said asked is h = subst (λ (o : Option Reques
 pub result_of : (words : List Word) (shelf : Shelved) (out say : Sunk) (r : Request) (n : ℕ) (e : Ends words shelf out say n) → request_of words ≡ Some r → IsTrue (is_result (numbered n)) → HasResult r shelf.told (numbered n) e.written e.said
 result_of words shelf out say r n e asked is =
     result_at words shelf r (numbered n) e.written e.said asked is (subst (λ (s : Status). Allows words shelf s e.written e.said) (one_status e.status n e.answer_is) e.allowed)
+
+-- of an ending with 2, which input is the first outside its grammar
+pub input_of : (words : List Word) (shelf : Shelved) (out say : Sunk) (r : Request) (e : Ends words shelf out say 2) → request_of words ≡ Some r → (s : Stop) × IsFirstBad shelf.told 0 (inputs_of r.command) r.names s
+input_of words shelf out say r e asked =
+    let h : Allows words shelf Input e.written e.said = subst (λ (s : Status). Allows words shelf s e.written e.said) (one_status e.status 2 e.answer_is) e.allowed in
+    (h.0, subst (λ (o : Option Request). DeservesStop o shelf.told h.0) asked h.1)
 
 -- a status is that of a result that may come, or one of a stop
 pub only : (words : List Word) (shelf : Shelved) (r : Request) (s : Status) (written said : List ℕ) (may : List ℕ) → request_of words ≡ Some r → Allows words shelf s written said

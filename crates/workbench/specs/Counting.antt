@@ -5,7 +5,7 @@ use Rattle.lk_model.specs.Lists.{is_empty}
 use Rattle.lk_model.specs.Formulas.Literal.{is_tautology}
 use Rattle.workbench.specs.Commands.Reporting.{is_unit, Row, row}
 use Rattle.workbench.specs.declared.counts.Counts.{Counts}
-use Rattle.workbench.specs.declared.command.report.Row.{Row as AnyRow}
+use Rattle.workbench.specs.declared.rows.Row.{Row as AnyRow}
 
 -- how many literals these clauses hold together, and how many of them are empty, units and tautologies
 abbrev pub counts_of : List (List ℤ) → Counts

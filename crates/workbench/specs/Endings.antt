@@ -1,11 +1,11 @@
 -- How a run of the program ends.
-use Rattle.std.specs.Prelude.{◌≡◌, ◌⊎◌, ℕ, ◌<◌, List, [], Bool, length, take, IsTrue, Some, None}
+use Rattle.std.specs.Prelude.{◌≡◌, ◌⊎◌, ℕ, ◌<◌, List, [], Bool, length, take, IsTrue, Some, None, ⊤}
 use Rattle.std.specs.declared.option.Option.{Option}
 use Rattle.std.specs.Io.KnownBytes.{Appends}
 use Rattle.lk_model.specs.Texts.Lines.{Word}
 use Rattle.lk_outside.specs.Causes.{Rose}
 use Rattle.workbench.specs.Commands.{inputs_of, Answers, Decides}
-use Rattle.workbench.specs.Inputs.{Told, Values, AreRead, AreTold, IsFirstBad, HasBad, StopsOn, IsOneOf}
+use Rattle.workbench.specs.Inputs.{Told, Values, AreRead, AreTold, IsFirstBad, HasBad, StopsOn, IsAilingOn}
 use Rattle.workbench.specs.Lawful.{Request, request_of, IsRefusedAt}
 use Rattle.workbench.specs.Statuses.{code, is_result}
 use Rattle.workbench.specs.Stops.{line_of}
@@ -44,10 +44,22 @@ abbrev pub DeservesStop : Option Request → Told → Stop → Type 0
 DeservesStop None told s = ⊥
 DeservesStop (Some request) told s = IsFirstBad told 0 (inputs_of request.command) request.names s
 
--- a call on the shelf failed: its count rose, and it is ailing on an input
+-- a call on the shelf failed: its count rose, and it is ailing on an input, those before which are read
 abbrev pub HasReadFault : Option Request → Shelved → Type 0
 HasReadFault None shelf = ⊥
-HasReadFault (Some request) shelf = Rose shelf.before shelf.after × IsTrue shelf.ailing × IsOneOf request.names shelf.current
+HasReadFault (Some request) shelf = Rose shelf.before shelf.after
+    × IsAilingOn shelf.told 0 (inputs_of request.command) request.names shelf.ailing shelf.current
+
+-- no input is read: the words are not lawful, or the command has none
+abbrev pub ReadsNothing : Option Request → Type 0
+ReadsNothing None = ⊤
+ReadsNothing (Some request) = inputs_of request.command ≡ []
+
+-- A status that tells neither of a failed call nor of want of memory: where an input is read, the last call did not fail.
+abbrev pub IsWell : Status → Option Request → Bool → Type 0
+IsWell status.ReadFault o ailing = ⊤
+IsWell status.Memory o ailing = ⊤
+IsWell answer o ailing = IsTrue ailing → ReadsNothing o
 
 -- nothing is written, and the line of the stop is said
 abbrev pub Tells : Stop → List ℕ → List ℕ → Type 0
@@ -95,12 +107,13 @@ TakesBoth out say written said = Takes out written × Takes say said
 abbrev pub IsCutIn : Sunk → Sunk → List ℕ → List ℕ → Type 0
 IsCutIn out say written said = (IsCut out written × (say.after ≡ say.before)) ⊎ (Takes out written × IsCut say said)
 
--- an allowed ending whose texts the sinks took
+-- an allowed ending whose texts the sinks took; the shelf is ailing only where that tells of it
 pub record Ends (words : List Word) (shelf : Shelved) (out say : Sunk) (answer : ℕ) : Type 0 where
   pub status : Status
   pub written : List ℕ
   pub said : List ℕ
   pub allowed : Allows words shelf status written said
+  pub well : IsWell status (request_of words) shelf.ailing
   pub answer_is : answer ≡ code status
   pub taken : TakesBoth out say written said
 
@@ -110,6 +123,7 @@ pub record IsCutOff (words : List Word) (shelf : Shelved) (out say : Sunk) : Typ
   pub written : List ℕ
   pub said : List ℕ
   pub allowed : Allows words shelf status written said
+  pub well : IsWell status (request_of words) shelf.ailing
   pub cut : IsCutIn out say written said
 
 -- WHAT IS DECIDED BEFOREHAND

@@ -5,9 +5,15 @@ use Rattle.lk_model.specs.Formulas.Lean.{are_positions}
 use Rattle.lk_model.specs.Documents.Form.{is_protect_line}
 use Rattle.lk_model.specs.Reduction.{Reduces}
 use Rattle.lk_model.specs.declared.class.Class.{Class}
+use Rattle.lk_model.specs.declared.class.Class.TheVariants.{General}
 use Rattle.lk_model.specs.declared.document.DoneDocument.{DoneDocument}
+use Rattle.lk_model.specs.declared.document.OpenDocument.{OpenDocument}
+use Rattle.lk_model.specs.declared.document.Round.{Round}
 use Rattle.kernel_laws.specs.Protected.FoundLaw.{rest_of}
+use Rattle.part_kernels.specs.ByParts.{IsFirstUnfinished}
 use Rattle.workbench.specs.declared.document.Found.{Found}
+use Rattle.workbench.specs.declared.find.GeneralFound.{GeneralFound}
+use Rattle.workbench.specs.declared.find.GeneralFound.TheVariants.{Done, Unfinished}
 
 -- the document with this protect line, and with the clauses of the formula at the kept positions
 abbrev pub document_of : Cnf → Option (List ℕ) → Found → DoneDocument
@@ -21,6 +27,17 @@ document_of F protect found = record {
   texts = clauses_at F found.kept;
 }
 
+-- the unfinished document with this protect line, of so many learned clauses in these rounds, with all clauses of the formula
+abbrev pub open_document_of : Cnf → Option (List ℕ) → ℕ → List Round → OpenDocument
+open_document_of F protect learned rounds = record {
+  vars = F.vars;
+  clauses = length F.clauses;
+  protect = protect;
+  learned = learned;
+  rounds = rounds;
+  texts = F;
+}
+
 -- Told as a document it reduces each formula of which this is what is left without the protected variables, and so the
 -- formula itself where none is protected.
 abbrev pub TellsReduction : Class → ℕ → Cnf → Found → Type 0
@@ -31,3 +48,8 @@ TellsReduction class pivots rest found = (F : Cnf) (protect : Option (List ℕ))
 pub record IsFoundFor (class : Class) (rest : Cnf) (found : Found) : Type 0 where
   pub positions : IsTrue (are_positions rest found.kept)
   pub reduces : (pivots : ℕ) → TellsReduction class pivots rest found
+
+-- the general kernel, found by parts with so many learned clauses for each, or the rounds of the first unfinished part
+abbrev pub IsGeneralFound : Cnf → ℕ → GeneralFound → Type 0
+IsGeneralFound rest conflicts (Done found) = IsFoundFor General rest found
+IsGeneralFound rest conflicts (Unfinished rounds) = IsFirstUnfinished rest conflicts rounds

@@ -103,13 +103,21 @@ StopsText ailing stop.Read = IsTrue ailing
 StopsText ailing stop.Memory = ⊤
 StopsText ailing _ = ⊥
 
--- the name is one of these
-abbrev pub IsOneOf : List Word → Option (List ℕ) → Type 0
-IsOneOf [] current = ⊥
-IsOneOf (name ∷ names) current = (current ≡ Some name) ⊎ IsOneOf names current
+-- the shelf is ailing on one of the inputs, and those before it are read
+abbrev pub IsAilingOn : Told → ℕ → List Grammar → List Word → Bool → Option (List ℕ) → Type 0
+IsAilingOn told n (grammar ∷ grammars) (name ∷ names) ailing current =
+    (IsTrue ailing × (current ≡ Some name))
+    ⊎ ((value : ValueOf grammar) × IfSome (told name) (IsTextOf grammar n value) × IsAilingOn told (vars_behind grammar n value) grammars names ailing current)
+IsAilingOn told n _ _ ailing current = ⊥
 
 -- while the inputs are read in their order: the first that is bad, or the shelf is ailing on one of them
 abbrev pub StopsOn : Told → ℕ → List Grammar → List Word → Bool → Option (List ℕ) → Stop → Type 0
-StopsOn told n grammars names ailing current stop.Read = IsTrue ailing × IsOneOf names current
+StopsOn told n grammars names ailing current stop.Read = IsAilingOn told n grammars names ailing current
 StopsOn told n grammars names ailing current stop.Memory = ⊤
 StopsOn told n grammars names ailing current s = IsFirstBad told n grammars names s
+
+-- the stop tells of a failed call, or of want of memory
+abbrev pub IsFailure : Stop → Type 0
+IsFailure stop.Read = ⊤
+IsFailure stop.Memory = ⊤
+IsFailure _ = ⊥

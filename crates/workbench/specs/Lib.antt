@@ -15,4 +15,7 @@ pub mod Stops
 pub mod Endings
 pub mod Agreement
 pub mod Outcomes
+pub mod StopOutcomes
 pub mod LinearOutcomes
+pub mod GeneralOutcomes
+pub mod DemoOutcomes

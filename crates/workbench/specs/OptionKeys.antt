@@ -66,6 +66,7 @@ value_first key (word ∷ words) = if is_value_of (named key) word then Some wor
 -- with the usual number where none was given
 abbrev pub usual_for : Given → settings.Options
 usual_for given = record {
+  number = 0;
   conflicts = number_or Conflicts (text_of given.conflicts) 100000;
   pivots = number_or Pivots (text_of given.pivots) 100000;
   workers = number_or Workers (text_of given.workers) 1;
@@ -74,4 +75,10 @@ usual_for given = record {
 
 -- what the options give
 abbrev pub values_of : Options → settings.Options
-values_of o = record { conflicts = o.conflicts; pivots = o.pivots; workers = o.workers; protect = option_map listed (text_of o.protect) }
+values_of o = record {
+  number = o.number;
+  conflicts = o.conflicts;
+  pivots = o.pivots;
+  workers = o.workers;
+  protect = option_map listed (text_of o.protect);
+}

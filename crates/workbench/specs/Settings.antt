@@ -1,4 +1,4 @@
--- The options of the command line.
+-- The options of the command line, and the number of a command.
 use Rattle.std.specs.Prelude.{ℕ, ◌-◌, ◌^◌, Bool, true, false, if◌then◌else◌, not, ◌&&◌, ◌==◌, List, [], ◌∷◌, Option, Some, None, codes, nat_le, option_map, unwrap_or, option_and_then}
 use Rattle.std.specs.List.{list_any, list_all, filter_map, slice_split}
 use Rattle.std.specs.Option.{option_map_or}
@@ -6,6 +6,7 @@ use Rattle.std.specs.Str.{bytes_eq}
 use Rattle.lk_model.specs.Limits.{max_vars}
 use Rattle.lk_model.specs.Texts.Lines.{Word}
 use Rattle.lk_model.specs.Texts.NumberWords.{natural}
+use Rattle.workbench.specs.declared.number.Range.{Range}
 
 -- An option's word, whether its value is a list of numbers or one, and the least number and the greatest.
 pub record Key : Type 0 where
@@ -28,8 +29,10 @@ workers = record { word = codes "--workers"; is_list = false; least = 1; greates
 abbrev pub protect : Key
 protect = record { word = codes "--protect"; is_list = true; least = 1; greatest = max_vars }
 
--- what the options give; of the protected variables the numbers as they are listed
+-- what the words give beside the names of inputs: the number of the command, 0 where it takes none, and what the options
+-- give; of the protected variables the numbers as they are listed
 pub record Options : Type 0 where
+  pub number : ℕ
   pub conflicts : ℕ
   pub pivots : ℕ
   pub workers : ℕ
@@ -78,6 +81,11 @@ is_once (s ∷ ss) = not (list_any (λ (t : Setting). bytes_eq s.0 t.0) ss) && i
 abbrev pub are_options : List Key → List Word → Bool
 are_options keys words = option_map_or (λ ss. list_all (is_allowed keys) ss && is_once ss) (settings_of words) false
 
+-- the number, if it is there and within the range
+abbrev pub number_within : Range → Option ℕ → Option ℕ
+number_within range None = None
+number_within range (Some n) = if nat_le range.least n && nat_le n range.greatest then Some n else None
+
 -- WHAT THEY GIVE
 
 -- the word behind the option's word
@@ -94,8 +102,10 @@ number_in key usual words = unwrap_or (option_and_then natural (value_in key wor
 abbrev pub listed : Word → List ℕ
 listed value = filter_map natural (parts_of value)
 
+-- of options alone; the number stands before them
 abbrev pub options_by : List Word → Options
 options_by words = record {
+  number = 0;
   conflicts = number_in conflicts 100000 words;
   pivots = number_in pivots 100000 words;
   workers = number_in workers 1 words;

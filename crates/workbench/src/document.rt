@@ -1,10 +1,10 @@
-//! The document of a reduction.
+//! The document of a reduction, and an unfinished one.
 ghost use Rattle.std.specs.Prelude.{◌≡◌, IfOk, IsTrue};
 ghost use Rattle.lk_model.specs.Formulas.Formula.{is_formula, IsWithinLimits};
 ghost use Rattle.lk_model.specs.Formulas.Lean.{are_positions};
-ghost use Rattle.workbench.specs.Founds.{document_of};
+ghost use Rattle.workbench.specs.Founds.{document_of, open_document_of};
 
-use lk_model::{Body, DoneDocument, Formula, List, Lit, OutOfMemory};
+use lk_model::{Body, DoneDocument, Formula, List, Lit, OpenDocument, OutOfMemory, Round};
 use std::alloc::Global;
 
 /// What a reducer finds: the kept positions, ascending, the literals that are made true, ascending by
@@ -40,4 +40,26 @@ pub(crate) fn document_of(
         body: found.body,
         texts,
     })
+}
+
+/// The unfinished document of rounds with so many learned clauses, with this line of protected variables,
+/// where there is one, and all clauses of the formula.
+pub(crate) fn open_document_of(
+    f: Formula,
+    protect: Option<List<u32>>,
+    learned: u64,
+    rounds: List<Round>,
+) -> OpenDocument
+    ensures document { result ≡ open_document_of f protect learned rounds }
+    ensures formula { IsTrue (is_formula f) }
+    ensures limits { IsWithinLimits f }
+{
+    OpenDocument {
+        vars: f.vars(),
+        clauses: f.len(),
+        protect,
+        learned,
+        rounds,
+        texts: f,
+    }
 }

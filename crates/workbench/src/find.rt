@@ -1,19 +1,19 @@
 //! What the reducers of the classes find in a formula.
-ghost use Rattle.std.specs.Prelude.{◌≡◌, ◌≤◌, Err, IfOk, IfErr, IsTrue};
+ghost use Rattle.std.specs.Prelude.{◌≡◌, ◌<◌, ◌≤◌, ◌^◌, Err, IfOk, IfErr, IsTrue};
 ghost use Rattle.lk_model.specs.Formulas.Lean.{are_positions};
 ghost use Rattle.lk_model.specs.Linear.LinearRun.{is_too_large, linear_run};
 ghost use Rattle.lk_model.specs.declared.class.Class.TheVariants.{Pure, Matching, Linear};
 ghost use Rattle.linear_kernel.specs.Answers.{AnswersRun};
 ghost use Rattle.workbench.specs.Commands.LinearReducing.{status_by};
-ghost use Rattle.workbench.specs.Founds.{IsFoundFor, TellsReduction};
+ghost use Rattle.workbench.specs.Founds.{IsFoundFor, IsGeneralFound, TellsReduction};
 ghost use Rattle.workbench.specs.declared.status.Status.TheVariants.{Done};
 
 use crate::document::Found;
 use crate::set_line::{set_of_order, set_of_own, set_of_stages};
 use linear_kernel::{LinearStop, linear_kernel};
-use lk_model::{Body, Formula, OutOfMemory};
+use lk_model::{Body, Formula, List, OutOfMemory, Round};
 use lk_outside::Gate;
-use part_kernels::matching_by_parts;
+use part_kernels::{General, general_by_parts, matching_by_parts};
 use pure_strip::pure_kernel;
 use std::alloc::Global;
 use std::thread::Threads;
@@ -77,5 +77,41 @@ pub(crate) fn find_linear(alloc: Global, f: &Formula, pivots: u64) -> Result<Fou
             },
         }),
         Err(OutOfMemory) => Err(LinearStop::OutOfMemory),
+    }
+}
+
+/// What is found of the general kernel.
+#[derive(Drop)]
+pub(crate) enum GeneralFound {
+    /// All of it.
+    Done(Found),
+    /// Rounds over one part, with as many learned clauses as were allowed.
+    Unfinished(List<Round>),
+}
+
+/// The general kernel, with literals that satisfy the other clauses and rounds, found by parts on at most so
+/// many threads; or the rounds of the first part that wants more learned clauses than these.
+pub(crate) fn find_general<R: Threads + Sync, G: Gate>(
+    rt: &R,
+    alloc: Global,
+    gate: &G,
+    f: &Formula,
+    conflicts: u64,
+    workers: u32,
+) -> Result<GeneralFound, OutOfMemory>
+    requires some { 0 < conflicts }
+    requires most { conflicts < 2 ^ 63 }
+    requires workers { 1 ≤ workers }
+    ensures { IfOk result (IsGeneralFound f.now conflicts) }
+{
+    match general_by_parts(rt, alloc, gate, f, conflicts, workers)? {
+        General::Done(found) => Ok(GeneralFound::Done(Found {
+            kept: found.kept,
+            set: found.set,
+            body: Body::General {
+                rounds: found.rounds,
+            },
+        })),
+        General::Unfinished(rounds) => Ok(GeneralFound::Unfinished(rounds)),
     }
 }

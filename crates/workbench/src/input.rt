@@ -5,7 +5,7 @@ ghost use Rattle.lk_model.specs.Documents.Reading.{IsTextOf};
 ghost use Rattle.lk_model.specs.Texts.Dimacs.{Spells};
 ghost use Rattle.lk_outside.specs.Reads.{ReadTakes};
 ghost use Rattle.lk_outside.specs.Causes.{HasCause, TellsTheSame};
-ghost use Rattle.workbench.specs.Inputs.{Formula as FormulaText, Document as DocumentText, Model as ModelText, AreRead, IsModelRead, StopsReading, StopsText, StopsOn};
+ghost use Rattle.workbench.specs.Inputs.{Formula as FormulaText, Document as DocumentText, Model as ModelText, AreRead, IsModelRead, StopsReading, StopsText, StopsOn, IsFailure};
 
 use crate::stop::Stop;
 use cert_text::{read, read_model};
@@ -29,6 +29,7 @@ pub(crate) fn read_formula<H: Shelf>(
     ensures stop { IfErr result (StopsReading FormulaText 0 (H.told shelf.old name.now) (H.ailing shelf.new)) }
     ensures current { IsErrAnd result (λ s. s ≡ Stop.Read) → H.current shelf.new ≡ Some name.now }
     ensures cause { HasCause (H.faults shelf.old) (H.faults shelf.new) (IsErrAnd result (λ s. s ≡ Stop.Read)) }
+    ensures well { IsTrue (H.ailing shelf.new) → IsErrAnd result IsFailure }
 {
     let mut piece = vec![in alloc; 0u8; PIECE]?;
     start_text(shelf, name)?;
@@ -43,6 +44,7 @@ fn start_text<H: Shelf>(shelf: &mut H, name: &str) -> Result<(), Stop>
     ensures stop { IfErr result (StopsText (H.ailing shelf.new)) }
     ensures current { result ≢ Err Stop.Memory → H.current shelf.new ≡ Some name.now }
     ensures cause { HasCause (H.faults shelf.old) (H.faults shelf.new) (IsErrAnd result (λ s. s ≡ Stop.Read)) }
+    ensures well { IsTrue (H.ailing shelf.new) → IsErrAnd result IsFailure }
 {
     shelf.start(name).map_err(|e| Stop::from(e))
 }
@@ -58,6 +60,7 @@ fn read_piece<H: Shelf>(shelf: &mut H, piece: &mut [u8]) -> Result<usize, Stop>
     ensures stop { IfErr result (λ s. (s ≡ Stop.Read) × IsTrue (H.ailing shelf.new)) }
     ensures current { H.current shelf.new ≡ H.current shelf.old }
     ensures cause { HasCause (H.faults shelf.old) (H.faults shelf.new) (IsErrAnd result (λ s. s ≡ Stop.Read)) }
+    ensures well { IsTrue (H.ailing shelf.new) → IsErrAnd result IsFailure }
 {
     Ok(shelf.read(piece)?)
 }
@@ -71,6 +74,7 @@ fn read_started<H: Shelf>(alloc: Global, shelf: &mut H, piece: &mut [u8]) -> Res
     ensures stop { IfErr result (StopsReading FormulaText 0 (H.left shelf.old) (H.ailing shelf.new)) }
     ensures current { H.current shelf.new ≡ H.current shelf.old }
     ensures cause { HasCause (H.faults shelf.old) (H.faults shelf.new) (IsErrAnd result (λ s. s ≡ Stop.Read)) }
+    ensures well { IsTrue (H.ailing shelf.new) → IsErrAnd result IsFailure }
 {
     let mut reader = Reader::new(alloc);
     'pieces: loop {
@@ -104,6 +108,7 @@ pub(crate) fn read_checked<H: Shelf>(
     ensures stop { IfErr result (StopsOn (H.told shelf.old) 0 (FormulaText ∷ DocumentText ∷ [])
         (formula.now ∷ document.now ∷ []) (H.ailing shelf.new) (H.current shelf.new)) }
     ensures cause { HasCause (H.faults shelf.old) (H.faults shelf.new) (IsErrAnd result (λ s. s ≡ Stop.Read)) }
+    ensures well { IsTrue (H.ailing shelf.new) → IsErrAnd result IsFailure }
 {
     let formula = read_formula(alloc, shelf, formula)?;
     let document = read_document(alloc, shelf, document)?;
@@ -122,6 +127,7 @@ pub(crate) fn read_document<H: Shelf>(
     ensures stop { IfErr result (StopsReading DocumentText 0 (H.told shelf.old name.now) (H.ailing shelf.new)) }
     ensures current { IsErrAnd result (λ s. s ≡ Stop.Read) → H.current shelf.new ≡ Some name.now }
     ensures cause { HasCause (H.faults shelf.old) (H.faults shelf.new) (IsErrAnd result (λ s. s ≡ Stop.Read)) }
+    ensures well { IsTrue (H.ailing shelf.new) → IsErrAnd result IsFailure }
 {
     let text = read_text(alloc, shelf, name)?;
     Ok(read(alloc, text.as_slice())?)
@@ -140,6 +146,7 @@ pub(crate) fn read_values<H: Shelf>(
     ensures stop { IfErr result (StopsReading ModelText n (H.told shelf.old name.now) (H.ailing shelf.new)) }
     ensures current { IsErrAnd result (λ s. s ≡ Stop.Read) → H.current shelf.new ≡ Some name.now }
     ensures cause { HasCause (H.faults shelf.old) (H.faults shelf.new) (IsErrAnd result (λ s. s ≡ Stop.Read)) }
+    ensures well { IsTrue (H.ailing shelf.new) → IsErrAnd result IsFailure }
 {
     let text = read_text(alloc, shelf, name)?;
     match read_model(alloc, text.as_slice(), n) {
@@ -155,6 +162,7 @@ fn read_text<H: Shelf>(alloc: Global, shelf: &mut H, name: &str) -> Result<Vec<u
     ensures stop { IfErr result (StopsText (H.ailing shelf.new)) }
     ensures current { IsErrAnd result (λ s. s ≡ Stop.Read) → H.current shelf.new ≡ Some name.now }
     ensures cause { HasCause (H.faults shelf.old) (H.faults shelf.new) (IsErrAnd result (λ s. s ≡ Stop.Read)) }
+    ensures well { IsTrue (H.ailing shelf.new) → IsErrAnd result IsFailure }
 {
     let mut piece = vec![in alloc; 0u8; PIECE]?;
     start_text(shelf, name)?;
@@ -170,6 +178,7 @@ fn keep_started<H: Shelf>(alloc: Global, shelf: &mut H, piece: &mut [u8]) -> Res
     ensures stop { IfErr result (StopsText (H.ailing shelf.new)) }
     ensures current { H.current shelf.new ≡ H.current shelf.old }
     ensures cause { HasCause (H.faults shelf.old) (H.faults shelf.new) (IsErrAnd result (λ s. s ≡ Stop.Read)) }
+    ensures well { IsTrue (H.ailing shelf.new) → IsErrAnd result IsFailure }
 {
     let mut text = Vec::new(alloc);
     'pieces: loop {

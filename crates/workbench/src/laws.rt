@@ -1,17 +1,22 @@
 //! What the clauses of a run come to.
 ghost use Rattle.lk_model.specs.declared.class.Class.TheVariants.{Pure, Matching};
-ghost use Rattle.workbench.specs.Agreement.{WrittenIsAccepted};
+ghost use Rattle.workbench.specs.Agreement.{WrittenIsAccepted, StoppedIsUnfinished};
 ghost use Rattle.workbench.specs.declared.command.Command.TheVariants.{ReducePure, ReduceMatching};
+ghost use Rattle.workbench.specs.DemoOutcomes.{DemoOutcomes};
+ghost use Rattle.workbench.specs.GeneralOutcomes.{GeneralOutcomes};
 ghost use Rattle.workbench.specs.LinearOutcomes.{LinearOutcomes};
+ghost use Rattle.workbench.specs.StopOutcomes.{StopOutcomes};
 ghost use Rattle.workbench.specs.Outcomes.{ReduceOutcomes, CheckOutcomes, ExtendOutcomes, ReportOutcomes};
 
 /// Of `reduce`: with status 0 the document of a reduction for the class stands on `out`. For pure and matching
 /// each text without a fault is reduced; for linear exactly by the size of its rows and the end of its run, and
-/// else `say` tells why not. Each other text is refused, unless a call or memory fails.
+/// else `say` tells why not; for general always with a budget of n * 3^n for n variables, and else with less an
+/// unfinished document may stand on `out`. Each other text is refused, unless a call or memory fails.
 pub fn reduce_law()
     ensures pure { ReduceOutcomes ReducePure Pure }
     ensures matching { ReduceOutcomes ReduceMatching Matching }
     ensures linear { LinearOutcomes }
+    ensures general { GeneralOutcomes }
 {}
 
 /// Of `check`: with status 0 the document is accepted, and so a reduction; with 8 a check of it fails. Told
@@ -33,8 +38,22 @@ pub fn report_law()
     ensures { ReportOutcomes }
 {}
 
+/// Where a run ends without a result: with status 1 `say` has the line of the refused word, with 2 that of the first
+/// input outside its grammar, with 3 that of a failed read, with 9 that of want of memory; and `out` has nothing.
+pub fn stop_law()
+    ensures { StopOutcomes }
+{}
+
+/// Of `demo` with a number of 64 bits: with status 0 its lines stand on `out`, with the sizes of the kernels of the number's
+/// formula; with 5 the text of an unfinished document of it. Nothing else comes, unless a call or memory fails.
+pub fn demo_law()
+    ensures { DemoOutcomes }
+{}
+
 /// What `reduce` writes of a text with status 0, for any class, is accepted for that text. So `check` of the two
-/// says `accepted`, unless a call or memory fails.
+/// says `accepted`, unless a call or memory fails. Of what it writes with status 5 no check fails, and so `check`
+/// says `unfinished` with the number of learned clauses.
 pub fn written_law()
-    ensures { WrittenIsAccepted }
+    ensures done { WrittenIsAccepted }
+    ensures budget { StoppedIsUnfinished }
 {}

@@ -1,5 +1,6 @@
 //! The lines that the program says.
 ghost use Rattle.std.specs.Prelude.{◌≡◌, ◌++◌, codes, decimal, IfOk, OnOk};
+ghost use Rattle.workbench.specs.Commands.GeneralReducing.{conflicts_line};
 ghost use Rattle.workbench.specs.Commands.LinearReducing.{budget_line, op_word, operands, too_large_line, too_wide_line};
 ghost use Rattle.workbench.specs.Stops.{line_of, formula_line, refusal_line};
 
@@ -71,6 +72,13 @@ pub(crate) fn budget_line(alloc: Global, pivots: u64) -> Result<Vec<u8>, OutOfMe
     ensures { IfOk result (λ line. line.items ≡ budget_line pivots) }
 {
     numbered(alloc, b"leank: budget of ", pivots, b" pivots used\n")
+}
+
+/// The line that tells that so many clauses were learned, and no more may be.
+pub(crate) fn conflicts_line(alloc: Global, conflicts: u64) -> Result<Vec<u8>, OutOfMemory>
+    ensures { IfOk result (λ line. line.items ≡ conflicts_line conflicts) }
+{
+    numbered(alloc, b"leank: budget of ", conflicts, b" conflicts used\n")
 }
 
 /// The line that tells that a result of a linear run is too wide, after so many pivots.

@@ -1,5 +1,5 @@
 //! The options of the commands: pairs of an option's word and its value.
-ghost use Rattle.std.specs.Prelude.{◌≡◌, ◌<◌, ◌≤◌, [], pos, map, length, drop, Some, IfOk, IfErr, MatchResult, is_some, option_map};
+ghost use Rattle.std.specs.Prelude.{◌≡◌, ◌<◌, ◌≤◌, ◌^◌, [], pos, map, length, drop, Some, IfOk, IfErr, MatchResult, is_some, option_map};
 ghost use Rattle.lk_model.specs.Texts.NumberWords.{natural};
 ghost use Rattle.workbench.specs.Commands.{keys_of};
 ghost use Rattle.workbench.specs.Settings.{options_of, is_number_of, is_value_of};
@@ -18,9 +18,11 @@ pub(crate) enum Key {
     Protect,
 }
 
-/// What the options give: numbers, and a list of variables, numbers with commas between them.
+/// What the words give beside the names: the number of the command, 0 where it takes none, and what the options
+/// give, numbers, and a list of variables, numbers with commas between them.
 #[derive(Clone, Copy)]
 pub(crate) struct Options<'a> {
+    pub(crate) number: u64,
     pub(crate) conflicts: u64,
     pub(crate) pivots: u64,
     pub(crate) workers: u32,
@@ -42,6 +44,8 @@ pub(crate) fn options_of<'a>(command: Command, words: &[&'a str]) -> Result<Opti
     ensures options { MatchResult result
         (λ o. options_of (keys_of command) (map (λ w. w.now) words.now) ≡ Some (values_of o))
         (λ i. refused_place (keys_of command) [] (map (λ w. w.now) words.now) ≡ Some i) }
+    ensures conflicts { IfOk result (λ o. 0 < o.conflicts) }
+    ensures most { IfOk result (λ o. o.conflicts < 2 ^ 63) }
     ensures workers { IfOk result (λ o. 0 < o.workers) }
     ensures within { IfErr result (λ i. i ≤ length words.now) }
 {
@@ -114,11 +118,12 @@ impl<'a> Given<'a> {
         }
     }
 
-    /// The options, with the usual number where none was given.
+    /// The options, with the usual number where none was given, behind no number.
     fn options(self) -> Options<'a>
         ensures { values_of result ≡ usual_for self.entry }
     {
         Options {
+            number: 0,
             conflicts: Key::Conflicts.number_or(self.conflicts, 100_000),
             pivots: Key::Pivots.number_or(self.pivots, 100_000),
             workers: Key::Workers.number_or(self.workers, 1) as u32,

@@ -2,14 +2,14 @@
 ghost use Rattle.std.specs.Prelude.{◌≡◌, map, IfOk, IsTrue, option_map};
 ghost use Rattle.lk_model.specs.Formulas.Formula.{is_formula, IsWithinLimits};
 ghost use Rattle.lk_model.specs.Formulas.Lean.{are_positions};
-ghost use Rattle.workbench.specs.Founds.{document_of};
+ghost use Rattle.workbench.specs.Founds.{document_of, open_document_of};
 ghost use Rattle.workbench.specs.OptionKeys.{text_of};
 ghost use Rattle.workbench.specs.Protecting.{line_of, left_of, IsProblem};
 ghost use Rattle.workbench.specs.Settings.{listed};
 
-use crate::document::{Found, document_of};
+use crate::document::{Found, document_of, open_document_of};
 use crate::protect::{Protection, protection_of};
-use lk_model::{DoneDocument, Formula, OutOfMemory};
+use lk_model::{DoneDocument, Formula, List, OpenDocument, OutOfMemory, Round};
 use std::alloc::Global;
 
 /// A formula, and what is protected in it where there is a list of variables.
@@ -65,5 +65,18 @@ impl Problem {
             protection,
         } = self;
         document_of(alloc, &formula, protection.map(|p| p.line), found)
+    }
+    /// The unfinished document of rounds that were found there with so many learned clauses, with the clauses
+    /// of the formula.
+    pub(crate) fn open_document(self, learned: u64, rounds: List<Round>) -> OpenDocument
+        ensures document { result ≡ open_document_of self.formula (line_of self) learned rounds }
+        ensures formula { IsTrue (is_formula self.formula) }
+        ensures limits { IsWithinLimits self.formula }
+    {
+        let Problem {
+            formula,
+            protection,
+        } = self;
+        open_document_of(formula, protection.map(|p| p.line), learned, rounds)
     }
 }

@@ -1,10 +1,11 @@
 //! The whole run of the program.
-ghost use Rattle.std.specs.Prelude.{◌≡◌, ◌≢◌, map, None, IfOk, IfErr, IsErrAnd};
+ghost use Rattle.std.specs.Prelude.{◌≡◌, ◌≢◌, ◌⊎◌, map, None, IsTrue, IfOk, IfErr, IsErrAnd};
 ghost use Rattle.lk_outside.specs.Causes.{HasCause};
 ghost use Rattle.workbench.specs.Lawful.{request_of};
 ghost use Rattle.workbench.specs.Statuses.{code};
 ghost use Rattle.workbench.specs.declared.status.Status.{Status as AnyStatus};
-ghost use Rattle.workbench.specs.Endings.{shelved, sunk, Allows, IsResult, Ends, IsCutOff, IsDecided, IsUnlessFailed, StopsAt, TakesBoth, IsCutIn};
+ghost use Rattle.workbench.specs.Endings.{shelved, sunk, Allows, IsResult, Ends, IsCutOff, IsDecided, IsUnlessFailed, StopsAt, IsWell, ReadsNothing, TakesBoth, IsCutIn};
+ghost use Rattle.workbench.specs.Inputs.{IsFailure};
 
 use crate::command;
 use crate::ending::{Ending, ending_of};
@@ -23,7 +24,7 @@ use std::thread::Threads;
 /// - 0: the result stands on `out`. Of `reduce` it is the document of the kernel of the input's formula for
 ///   the class that the words name, which the checks accept; of `check` it says that the document is
 ///   accepted for the formula; of `extend` it is the line of a model of the formula; of `report` it is nine
-///   numbers of the formula, a line for each.
+///   numbers of the formula, a line for each; of `demo` it is six lines on the formula of a number.
 /// - 1: the words are not lawful. `say` has the number of the refused word.
 /// - 2: the text of an input is outside its grammar. `say` has the line, and of a formula the kind.
 /// - 3: a call on the shelf failed.
@@ -31,6 +32,8 @@ use std::thread::Threads;
 /// - 5: the document that is checked is unfinished, and no check of it fails. `out` has how many clauses it
 ///   learned. Or the one by which a model is to be extended is unfinished, and `say` tells this. Or, of
 ///   `reduce linear`, the linear run wants a pivot more than it may make. `say` has their number.
+///   Or, of `reduce general` and `demo`, a part of the formula wants more learned clauses than it may have.
+///   `out` has an unfinished document of so many, and `say` their number.
 /// - 6: a number of the linear run is too wide. `say` has its operands, and the number of pivots before.
 /// - 7: the rows of the linear run would be too large. `say` has the numbers of variables and clauses.
 /// - 8: a check of the document fails. `out` has the kind and the place of the first one, and of `extend`
@@ -89,6 +92,7 @@ fn ending<R: Threads + Sync, H: Shelf, G: Gate>(
     ensures allowed { IfOk result (λ e. Allows (map (λ w. w.now) words.now)
         (shelved (H.told shelf.old) (H.faults shelf.old) (H.faults shelf.new) (H.ailing shelf.new) (H.current shelf.new))
         e.status e.written.items e.said.items) }
+    ensures well { IfOk result (λ e. IsWell e.status (request_of (map (λ w. w.now) words.now)) (H.ailing shelf.new)) }
     ensures decided { IfOk result (λ e. (status : AnyStatus) →
         IsDecided (request_of (map (λ w. w.now) words.now)) (H.told shelf.old) status → IsUnlessFailed (code e.status) status) }
     ensures untouched { request_of (map (λ w. w.now) words.now) ≡ None → shelf.new ≡ shelf.old }
@@ -113,6 +117,7 @@ fn perform<R: Threads + Sync, H: Shelf, G: Gate>(
     ensures stop { IfErr result
         (StopsAt (map (λ w. w.now) words.now) (H.told shelf.old) (H.ailing shelf.new) (H.current shelf.new)) }
     ensures cause { HasCause (H.faults shelf.old) (H.faults shelf.new) (IsErrAnd result (λ s. s ≡ Stop.Read)) }
+    ensures well { IsTrue (H.ailing shelf.new) → ReadsNothing (request_of (map (λ w. w.now) words.now)) ⊎ IsErrAnd result IsFailure }
     ensures untouched { request_of (map (λ w. w.now) words.now) ≡ None → shelf.new ≡ shelf.old }
 {
     match request_of(words) {

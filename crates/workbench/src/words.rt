@@ -1,13 +1,14 @@
 //! The words of the command line.
-ghost use Rattle.std.specs.Prelude.{◌≡◌, ◌<◌, Some, length, map, IfOk, MatchResult};
+ghost use Rattle.std.specs.Prelude.{◌≡◌, ◌<◌, ◌≤◌, ◌^◌, Some, length, map, drop, IfOk, MatchResult};
 ghost use Rattle.workbench.specs.Commands.{inputs_of};
-ghost use Rattle.workbench.specs.Lawful.{request_of, IsRefusedAt};
+ghost use Rattle.workbench.specs.Lawful.{request_of, number_first, number_words, IsRefusedAt};
 ghost use Rattle.workbench.specs.Requests.{common, IsCommandOf, IsUnknownAt, asked};
 
 use crate::command::{COMMANDS, Command};
+use crate::number::Range;
 use crate::options::{Options, options_of};
 
-/// What lawful words ask for: a command over the inputs under these names, with these options.
+/// What lawful words ask for: a command over the inputs under these names, with these options, among them its number.
 #[derive(Clone, Copy)]
 pub(crate) struct Request<'a> {
     pub(crate) command: Command,
@@ -22,21 +23,46 @@ pub(crate) fn request_of<'a>(words: &'a [&'a str]) -> Result<Request<'a>, usize>
         (λ request. request_of (map (λ w. w.now) words.now) ≡ Some (asked request))
         (IsRefusedAt (map (λ w. w.now) words.now)) }
     ensures names { IfOk result (λ request. length request.names.now ≡ length (inputs_of request.command)) }
+    ensures conflicts { IfOk result (λ request. 0 < request.options.conflicts) }
+    ensures most { IfOk result (λ request. request.options.conflicts < 2 ^ 63) }
     ensures workers { IfOk result (λ request. 0 < request.options.workers) }
 {
     let command = command_of(words)?;
     let front = command.words().len();
-    let end = front + command.inputs();
+    let numbers = command.numbers();
+    let Some(number) = number_at(numbers, words, front) else {
+        return Err(front + 1);
+    };
+    let start = front + number_words(numbers);
+    let end = start + command.inputs();
     if words.len() < end {
         return Err(words.len() + 1);
     }
     match options_of(command, &words[end..]) {
         Ok(options) => Ok(Request {
             command,
-            names: &words[front..end],
-            options,
+            names: &words[start..end],
+            options: Options { number, ..options },
         }),
         Err(place) => Err(end + place + 1),
+    }
+}
+
+/// How many words the number of a command takes.
+fn number_words(numbers: Option<Range>) -> usize
+    ensures value { result ≡ number_words numbers }
+    ensures few { result ≤ 1 }
+{
+    if numbers.is_some() { 1 } else { 0 }
+}
+
+/// The number that the word at a place writes, if it is one of these; 0 where no number is taken.
+fn number_at(numbers: Option<Range>, words: &[&str], place: usize) -> Option<u64>
+    ensures { result ≡ number_first numbers (drop place (map (λ w. w.now) words.now)) }
+{
+    match numbers {
+        None => Some(0),
+        Some(range) => range.number(words.get(place)?),
     }
 }
 

@@ -1,12 +1,12 @@
 //! The command `check`.
-ghost use Rattle.std.specs.Prelude.{◌≡◌, ◌<◌, ◌∷◌, [], length, map, IfOk, IfErr, IsErrAnd};
+ghost use Rattle.std.specs.Prelude.{◌≡◌, ◌<◌, ◌∷◌, [], length, map, IfOk, IfErr, IsErrAnd, IsTrue};
 ghost use Rattle.lk_model.specs.Texts.PlainText.{line};
 ghost use Rattle.lk_outside.specs.Causes.{HasCause};
 ghost use Rattle.lean_checker.specs.Verdicts.{verdict_words};
 ghost use Rattle.workbench.specs.Commands.{inputs_of};
 ghost use Rattle.workbench.specs.Commands.Checking.{verdict_status};
 ghost use Rattle.workbench.specs.Endings.{HasResult};
-ghost use Rattle.workbench.specs.Inputs.{StopsOn};
+ghost use Rattle.workbench.specs.Inputs.{IsFailure, StopsOn};
 ghost use Rattle.workbench.specs.Requests.{request_for};
 
 use crate::command::Command;
@@ -38,6 +38,7 @@ pub(crate) fn perform<R: Threads + Sync, H: Shelf, G: Gate>(
     ensures stop { IfErr result (StopsOn (H.told shelf.old) 0 (inputs_of Command.Check) (map (λ w. w.now) names.now)
         (H.ailing shelf.new) (H.current shelf.new)) }
     ensures cause { HasCause (H.faults shelf.old) (H.faults shelf.new) (IsErrAnd result (λ s. s ≡ Stop.Read)) }
+    ensures well { IsTrue (H.ailing shelf.new) → IsErrAnd result IsFailure }
 {
     let read = read_checked(alloc, shelf, names[0], names[1])?;
     let verdict = check(

@@ -10,7 +10,7 @@ ghost use Rattle.lk_outside.specs.Causes.{HasCause};
 ghost use Rattle.workbench.specs.Commands.{inputs_of};
 ghost use Rattle.workbench.specs.Commands.Extending.{Tells, failure_line};
 ghost use Rattle.workbench.specs.Endings.{HasResult};
-ghost use Rattle.workbench.specs.Inputs.{StopsOn};
+ghost use Rattle.workbench.specs.Inputs.{IsFailure, StopsOn};
 ghost use Rattle.workbench.specs.Requests.{request_for};
 
 use crate::command::Command;
@@ -41,6 +41,7 @@ pub(crate) fn perform<H: Shelf>(
     ensures stop { IfErr result (StopsOn (H.told shelf.old) 0 (inputs_of Command.Extend) (map (λ w. w.now) names.now)
         (H.ailing shelf.new) (H.current shelf.new)) }
     ensures cause { HasCause (H.faults shelf.old) (H.faults shelf.new) (IsErrAnd result (λ s. s ≡ Stop.Read)) }
+    ensures well { IsTrue (H.ailing shelf.new) → IsErrAnd result IsFailure }
 {
     let read = read_checked(alloc, shelf, names[0], names[1])?;
     let model = read_values(alloc, shelf, names[2], read.formula.vars())?;

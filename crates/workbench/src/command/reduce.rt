@@ -1,11 +1,11 @@
-//! The commands `reduce`.
-ghost use Rattle.std.specs.Prelude.{◌≡◌, ◌<◌, ◌∷◌, [], length, map, IfOk, IfErr, IsErrAnd};
+//! The commands `reduce`, but for the class general.
+ghost use Rattle.std.specs.Prelude.{◌≡◌, ◌<◌, ◌∷◌, [], length, map, IfOk, IfErr, IsErrAnd, IsTrue};
 ghost use Rattle.lk_model.specs.Documents.Text.{text_of};
 ghost use Rattle.lk_model.specs.declared.document.Document.TheVariants.{Done as Finished};
 ghost use Rattle.lk_outside.specs.Causes.{HasCause};
 ghost use Rattle.workbench.specs.Commands.{inputs_of};
 ghost use Rattle.workbench.specs.Endings.{HasResult};
-ghost use Rattle.workbench.specs.Inputs.{StopsOn};
+ghost use Rattle.workbench.specs.Inputs.{IsFailure, StopsOn};
 ghost use Rattle.workbench.specs.LinearStops.{TellsStop};
 ghost use Rattle.workbench.specs.Requests.{request_for};
 
@@ -39,6 +39,7 @@ pub(crate) fn perform_pure<H: Shelf>(
     ensures stop { IfErr result (StopsOn (H.told shelf.old) 0 (inputs_of Command.ReducePure) (map (λ w. w.now) names.now)
         (H.ailing shelf.new) (H.current shelf.new)) }
     ensures cause { HasCause (H.faults shelf.old) (H.faults shelf.new) (IsErrAnd result (λ s. s ≡ Stop.Read)) }
+    ensures well { IsTrue (H.ailing shelf.new) → IsErrAnd result IsFailure }
 {
     let formula = read_formula(alloc, shelf, names[0])?;
     let problem = Problem::new(alloc, formula, options.protect)?;
@@ -64,6 +65,7 @@ pub(crate) fn perform_matching<R: Threads + Sync, H: Shelf, G: Gate>(
     ensures stop { IfErr result (StopsOn (H.told shelf.old) 0 (inputs_of Command.ReduceMatching) (map (λ w. w.now) names.now)
         (H.ailing shelf.new) (H.current shelf.new)) }
     ensures cause { HasCause (H.faults shelf.old) (H.faults shelf.new) (IsErrAnd result (λ s. s ≡ Stop.Read)) }
+    ensures well { IsTrue (H.ailing shelf.new) → IsErrAnd result IsFailure }
 {
     let formula = read_formula(alloc, shelf, names[0])?;
     let problem = Problem::new(alloc, formula, options.protect)?;
@@ -87,6 +89,7 @@ pub(crate) fn perform_linear<H: Shelf>(
     ensures stop { IfErr result (StopsOn (H.told shelf.old) 0 (inputs_of Command.ReduceLinear) (map (λ w. w.now) names.now)
         (H.ailing shelf.new) (H.current shelf.new)) }
     ensures cause { HasCause (H.faults shelf.old) (H.faults shelf.new) (IsErrAnd result (λ s. s ≡ Stop.Read)) }
+    ensures well { IsTrue (H.ailing shelf.new) → IsErrAnd result IsFailure }
 {
     let formula = read_formula(alloc, shelf, names[0])?;
     let problem = Problem::new(alloc, formula, options.protect)?;
@@ -134,7 +137,7 @@ fn said(alloc: Global, status: Status, line: Vec<u8>) -> Ending
 }
 
 /// The ending that writes a document.
-fn written(alloc: Global, document: DoneDocument) -> Result<Ending, OutOfMemory>
+pub(super) fn written(alloc: Global, document: DoneDocument) -> Result<Ending, OutOfMemory>
     ensures status { IfOk result (λ e. e.status ≡ Status.Done) }
     ensures written { IfOk result (λ e. e.written.items ≡ text_of (Finished document)) }
     ensures said { IfOk result (λ e. e.said.items ≡ []) }

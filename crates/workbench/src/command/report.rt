@@ -1,13 +1,12 @@
 //! The command `report`.
-ghost use Rattle.std.specs.Prelude.{◌≡◌, ◌++◌, ◌∷◌, [], length, map, flat_map, OnOk, IfOk, IfErr, IsErrAnd};
+ghost use Rattle.std.specs.Prelude.{◌≡◌, ◌∷◌, [], length, map, IfOk, IfErr, IsErrAnd, IsTrue};
 ghost use Rattle.lk_model.specs.Formulas.Formula.{occurring_count};
 ghost use Rattle.lk_model.specs.declared.class.Class.TheVariants.{Pure, Matching};
 ghost use Rattle.lk_outside.specs.Causes.{HasCause};
 ghost use Rattle.workbench.specs.Commands.{inputs_of};
-ghost use Rattle.workbench.specs.Commands.Reporting.{IsKernelSize, WritesReport, row_line};
-ghost use Rattle.workbench.specs.Counting.{seen};
+ghost use Rattle.workbench.specs.Commands.Reporting.{IsKernelSize, WritesReport};
 ghost use Rattle.workbench.specs.Endings.{HasResult};
-ghost use Rattle.workbench.specs.Inputs.{StopsOn};
+ghost use Rattle.workbench.specs.Inputs.{IsFailure, StopsOn};
 ghost use Rattle.workbench.specs.Requests.{request_for};
 
 use crate::command::Command;
@@ -15,11 +14,11 @@ use crate::counts::counts_of;
 use crate::ending::Ending;
 use crate::input::read_formula;
 use crate::options::Options;
+use crate::rows::{Row, text_of};
 use crate::status::Status;
 use crate::stop::Stop;
 use lk_model::{Formula, OutOfMemory};
 use lk_outside::Shelf;
-use lk_text::put_i128;
 use matching_kernel::matching_kernel;
 use pure_strip::pure_kernel;
 use std::alloc::Global;
@@ -38,6 +37,7 @@ pub(crate) fn perform<H: Shelf>(
     ensures stop { IfErr result (StopsOn (H.told shelf.old) 0 (inputs_of Command.Report) (map (λ w. w.now) names.now)
         (H.ailing shelf.new) (H.current shelf.new)) }
     ensures cause { HasCause (H.faults shelf.old) (H.faults shelf.new) (IsErrAnd result (λ s. s ≡ Stop.Read)) }
+    ensures well { IsTrue (H.ailing shelf.new) → IsErrAnd result IsFailure }
 {
     let formula = read_formula(alloc, shelf, names[0])?;
     Ok(Ending {
@@ -122,32 +122,4 @@ fn matching_size(alloc: Global, f: &Formula) -> Result<u64, OutOfMemory>
     let all = f.positions(alloc)?;
     let found = matching_kernel(alloc, f, all.as_slice())?;
     Ok(found.kept.len() as u64)
-}
-
-/// A word and a number, which make a line.
-#[derive(Clone, Copy)]
-struct Row {
-    word: &'static str,
-    number: u64,
-}
-
-/// The text of rows, a line for each.
-fn text_of(alloc: Global, rows: &[Row]) -> Result<Vec<u8>, OutOfMemory>
-    ensures { IfOk result (λ text. text.items ≡ flat_map row_line (map seen rows.now)) }
-{
-    let mut text = Vec::new(alloc);
-    for row in rows {
-        put_row(&mut text, *row)?;
-    }
-    Ok(text)
-}
-
-/// Appends the line of a row.
-fn put_row(text: &mut Vec<u8>, row: Row) -> Result<(), OutOfMemory>
-    ensures { OnOk result (text.new.items ≡ text.old.items ++ row_line (seen row)) }
-{
-    text.extend_from_slice(row.word.as_bytes())?;
-    text.push(b' ')?;
-    put_i128(text, i128::from(row.number))?;
-    Ok(text.push(b'\n')?)
 }

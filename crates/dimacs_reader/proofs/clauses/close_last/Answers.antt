@@ -3,7 +3,7 @@ use Rattle.lk_model.specs.Lists.{is_empty}
 use Rattle.dimacs_reader.specs.ReadStates.{Closes}
 use Rattle.dimacs_reader.specs.declared.clauses.ReadState.{ReadState}
 use Rattle.dimacs_reader.proofs.StateLemmas.{closes_open, closes_whole}
-use Rattle.dimacs_reader.proofs.LineLemmas.{empty_test, some_test}
+use Rattle.dimacs_reader.proofs.StateLemmas.{empty_test, some_test}
 use Rattle.dimacs_reader.proofs.clauses.close_last.Goals as goal
 
 pub returns-then-is_empty : goal.returns-then-is_empty

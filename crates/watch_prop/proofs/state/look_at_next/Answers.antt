@@ -2,19 +2,17 @@ use Rattle.std.proofs.Common.{◌≡◌, ◌∙◌, ◌<◌, ℕ, List, ℤ, tru
 use Rattle.std.specs.List.{list_all}
 use Rattle.std.proofs.lemmas.List.{get_or_read}
 use Rattle.lk_model.specs.Formulas.Literal.{is_literal}
-use Rattle.watch_prop.specs.declared.entry.NumberedClause.{NumberedClause}
 use Rattle.watch_prop.specs.Linked.{clause_at_place}
-use Rattle.watch_prop.specs.States.{next_waiting}
 use Rattle.watch_prop.proofs.Passing.{conflict_named}
 use Rattle.watch_prop.proofs.Demands.{forced, may_be_forced}
 use Rattle.watch_prop.proofs.Listing.{is_free}
 use Rattle.watch_prop.proofs.Looking.{IsNext, next_within, next_literals, seen, lists, listed_leads, only_one, only_leads}
 use Rattle.watch_prop.proofs.state.look_at_next.Goals as goal
 
-pub clause_at-clause-requires : goal.clause_at-clause-requires
-clause_at-clause-requires c =
+pub lits-requires : goal.lits-requires
+lits-requires c =
     let next : IsNext c.args.clauses.now c.args.trail.now c.args.state.now = record { state = c.requires.state; more = c.requires.more } in
-    subst (λ (n : ℕ). n < length c.args.clauses.now) (sym (get_or_read c.args.state.now.waiting.items c.args.state.now.satisfied c.index.result.now c.requires.more c.index.ensures 0))
+    subst (λ (n : ℕ). n < length c.args.clauses.now) (sym (get_or_read c.args.state.now.waiting.items c.args.state.now.satisfied c.index-place.result.now c.requires.more c.index-place.ensures 0))
     (next_within c.args.clauses.now c.args.trail.now c.args.state.now next)
 
 pub find-requires : goal.find-requires
@@ -22,49 +20,48 @@ find-requires c =
     let clauses = c.args.clauses.now in
     let s = c.args.state.now in
     let next : IsNext clauses c.args.trail.now s = record { state = c.requires.state; more = c.requires.more } in
-    let place = get_or_read s.waiting.items s.satisfied c.index.result.now c.requires.more c.index.ensures 0 in
-    let clause : c.clause_at-clause.result.now ≡ clause_at_place clauses (next_waiting s) = c.clause_at-clause.ensures ∙ ap (clause_at_place clauses) place in
-    subst (λ (ls : List ℤ). list_all (is_literal c.args.trail.now.vars) ls ≡ true) (sym (c.as_slice.ensures ∙ ap (λ (h : NumberedClause). h.lits) clause))
+    let place = get_or_read s.waiting.items s.satisfied c.index-place.result.now c.requires.more c.index-place.ensures 0 in
+    subst (λ (ls : List ℤ). list_all (is_literal c.args.trail.now.vars) ls ≡ true) (sym (c.lits.ensures ∙ ap (λ (n : ℕ). (clause_at_place clauses n).lits) place))
     (next_literals clauses c.args.trail.now s next)
 
 pub list_next-requires-clause-first : goal.list_next-requires-clause-first
 list_next-requires-clause-first c =
-    let x = seen _ _ _ _ _ _ _ _ (record { state = c.requires.state; more = c.requires.more }) c.index.ensures c.clause_at-clause.ensures c.as_slice.ensures c.find.ensures c.in-Two.is in
+    let x = seen _ _ _ _ _ _ _ (record { state = c.requires.state; more = c.requires.more }) c.index-place.ensures c.lits.ensures c.find.ensures c.in-Two.is in
     (is_free _ _ _ _ _ _ _ _ (lists _ _ _ c.in-Two.watch x.next x.found) c.in-Two.watch.first x.found.0).rank
 
 pub list_next-requires-clause-second : goal.list_next-requires-clause-second
 list_next-requires-clause-second c =
-    let x = seen _ _ _ _ _ _ _ _ (record { state = c.requires.state; more = c.requires.more }) c.index.ensures c.clause_at-clause.ensures c.as_slice.ensures c.find.ensures c.in-Two.is in
+    let x = seen _ _ _ _ _ _ _ (record { state = c.requires.state; more = c.requires.more }) c.index-place.ensures c.lits.ensures c.find.ensures c.in-Two.is in
     (is_free _ _ _ _ _ _ _ _ (lists _ _ _ c.in-Two.watch x.next x.found) c.in-Two.watch.second x.found.1).rank
 
 pub list_next-requires-clause-first_room : goal.list_next-requires-clause-first_room
 list_next-requires-clause-first_room c =
-    let x = seen _ _ _ _ _ _ _ _ (record { state = c.requires.state; more = c.requires.more }) c.index.ensures c.clause_at-clause.ensures c.as_slice.ensures c.find.ensures c.in-Two.is in
+    let x = seen _ _ _ _ _ _ _ (record { state = c.requires.state; more = c.requires.more }) c.index-place.ensures c.lits.ensures c.find.ensures c.in-Two.is in
     (is_free _ _ _ _ _ _ _ _ (lists _ _ _ c.in-Two.watch x.next x.found) c.in-Two.watch.first x.found.0).room
 
 pub list_next-requires-clause-second_room : goal.list_next-requires-clause-second_room
 list_next-requires-clause-second_room c =
-    let x = seen _ _ _ _ _ _ _ _ (record { state = c.requires.state; more = c.requires.more }) c.index.ensures c.clause_at-clause.ensures c.as_slice.ensures c.find.ensures c.in-Two.is in
+    let x = seen _ _ _ _ _ _ _ (record { state = c.requires.state; more = c.requires.more }) c.index-place.ensures c.lits.ensures c.find.ensures c.in-Two.is in
     (is_free _ _ _ _ _ _ _ _ (lists _ _ _ c.in-Two.watch x.next x.found) c.in-Two.watch.second x.found.1).room
 
 pub force-requires-clause-literal : goal.force-requires-clause-literal
 force-requires-clause-literal c =
-    let x = seen _ _ _ _ _ _ _ _ (record { state = c.requires.state; more = c.requires.more }) c.index.ensures c.clause_at-clause.ensures c.as_slice.ensures c.find.ensures c.in-One.is in
-    (may_be_forced _ _ _ _ _ _ c.requires.state (only_one _ _ _ _ x.next x.found) (ap (λ (h : NumberedClause). h.number) x.clause_is)).literal
+    let x = seen _ _ _ _ _ _ _ (record { state = c.requires.state; more = c.requires.more }) c.index-place.ensures c.lits.ensures c.find.ensures c.in-One.is in
+    (may_be_forced _ _ _ _ _ _ c.requires.state (only_one _ _ _ _ x.next x.found) (c.number-in-One.ensures ∙ ap (λ (n : ℕ). (clause_at_place c.args.clauses.now n).number) x.place_is)).literal
 
 pub force-requires-clause-comes : goal.force-requires-clause-comes
 force-requires-clause-comes c =
-    let x = seen _ _ _ _ _ _ _ _ (record { state = c.requires.state; more = c.requires.more }) c.index.ensures c.clause_at-clause.ensures c.as_slice.ensures c.find.ensures c.in-One.is in
-    (may_be_forced _ _ _ _ _ _ c.requires.state (only_one _ _ _ _ x.next x.found) (ap (λ (h : NumberedClause). h.number) x.clause_is)).comes
+    let x = seen _ _ _ _ _ _ _ (record { state = c.requires.state; more = c.requires.more }) c.index-place.ensures c.lits.ensures c.find.ensures c.in-One.is in
+    (may_be_forced _ _ _ _ _ _ c.requires.state (only_one _ _ _ _ x.next x.found) (c.number-in-One.ensures ∙ ap (λ (n : ℕ). (clause_at_place c.args.clauses.now n).number) x.place_is)).comes
 
 pub returns-in-AllFalse-clause-done : goal.returns-in-AllFalse-clause-done
 returns-in-AllFalse-clause-done c =
-    let x = seen _ _ _ _ _ _ _ _ (record { state = c.requires.state; more = c.requires.more }) c.index.ensures c.clause_at-clause.ensures c.as_slice.ensures c.find.ensures c.in-AllFalse.is in
-    conflict_named _ _ _ _ _ c.requires.state (next_within _ _ _ x.next) (ap (λ (h : NumberedClause). h.number) x.clause_is) x.found
+    let x = seen _ _ _ _ _ _ _ (record { state = c.requires.state; more = c.requires.more }) c.index-place.ensures c.lits.ensures c.find.ensures c.in-AllFalse.is in
+    conflict_named _ _ _ _ _ c.requires.state (next_within _ _ _ x.next) (c.number.ensures ∙ ap (λ (n : ℕ). (clause_at_place c.args.clauses.now n).number) x.place_is) x.found
 
 pub returns-in-Two-clause-leads : goal.returns-in-Two-clause-leads
 returns-in-Two-clause-leads c =
-    let x = seen _ _ _ _ _ _ _ _ (record { state = c.requires.state; more = c.requires.more }) c.index.ensures c.clause_at-clause.ensures c.as_slice.ensures c.find.ensures c.in-Two.is in
+    let x = seen _ _ _ _ _ _ _ (record { state = c.requires.state; more = c.requires.more }) c.index-place.ensures c.lits.ensures c.find.ensures c.in-Two.is in
     let e = c.list_next.ensures in
     listed_leads _ _ _ _ _ x.next x.found (record {
       watches = e.watches;
@@ -76,5 +73,5 @@ returns-in-Two-clause-leads c =
 
 pub returns-in-One-clause-leads : goal.returns-in-One-clause-leads
 returns-in-One-clause-leads c =
-    let x = seen _ _ _ _ _ _ _ _ (record { state = c.requires.state; more = c.requires.more }) c.index.ensures c.clause_at-clause.ensures c.as_slice.ensures c.find.ensures c.in-One.is in
-    only_leads _ _ _ _ _ x.next x.found (forced _ _ _ _ _ _ _ c.requires.state (only_one _ _ _ _ x.next x.found) (ap (λ (h : NumberedClause). h.number) x.clause_is) c.force.ensures)
+    let x = seen _ _ _ _ _ _ _ (record { state = c.requires.state; more = c.requires.more }) c.index-place.ensures c.lits.ensures c.find.ensures c.in-One.is in
+    only_leads _ _ _ _ _ x.next x.found (forced _ _ _ _ _ _ _ c.requires.state (only_one _ _ _ _ x.next x.found) (c.number-in-One.ensures ∙ ap (λ (n : ℕ). (clause_at_place c.args.clauses.now n).number) x.place_is) c.force.ensures)

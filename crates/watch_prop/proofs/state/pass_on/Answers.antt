@@ -1,5 +1,4 @@
 use Rattle.std.proofs.Common.{◌≡◌, ◌∙◌, ◌<◌, List, length, get_or, ap, arith, ℤ, pos}
-use Rattle.watch_prop.specs.declared.entry.NumberedClause.{NumberedClause}
 use Rattle.watch_prop.specs.declared.state.Settled.TheVariants.{Stays, Moves}
 use Rattle.watch_prop.proofs.Passing.{passing_start, passing_stays, passing_moves, passing_end, picked, settled_once, conflict_named}
 use Rattle.watch_prop.proofs.States.{leads_then}
@@ -41,8 +40,8 @@ returns-clause-leads c =
     passing_end c.args.clauses.now c.args.trail.now c.watchers.trail c.args.state.now c.watchers.state c.negated-l.result c.watchers.at c.watchers.invariant
     (omega (arith, c.watchers-test.false, ap length c.of.ensures))
 
-pub clause_at-requires : goal.clause_at-requires
-clause_at-requires c =
+pub number-requires : goal.number-requires
+number-requires c =
     (picked c.args.clauses.now c.args.trail.now c.watchers.trail c.args.state.now c.watchers.state c.negated-l.result c.watchers.at c.of.result.now c.of-in-watchers.result.now
     c.watchers.invariant c.of.ensures c.of-in-watchers.ensures c.watchers-test.true).in_clauses
 
@@ -55,5 +54,5 @@ pub returns-in-IsFalse-clause-done : goal.returns-in-IsFalse-clause-done
 returns-in-IsFalse-clause-done c =
     let p = picked c.args.clauses.now c.args.trail.now c.watchers.trail c.args.state.now c.watchers.state c.negated-l.result c.watchers.at c.of.result.now c.of-in-watchers.result.now
     c.watchers.invariant c.of.ensures c.of-in-watchers.ensures c.watchers-test.true in
-    conflict_named c.args.clauses.now c.settle.new.trail c.settle.new.state _ c.clause_at.result.now.number c.in-IsFalse.ensures.leads.state p.in_clauses (ap (λ (h : NumberedClause). h.number) c.clause_at.ensures)
+    conflict_named c.args.clauses.now c.settle.new.trail c.settle.new.state _ c.number.result c.in-IsFalse.ensures.leads.state p.in_clauses c.number.ensures
     c.in-IsFalse.ensures.settles.settled

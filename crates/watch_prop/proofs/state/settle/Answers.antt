@@ -1,5 +1,4 @@
 use Rattle.std.proofs.Common.{◌≡◌, ◌∙◌, ℤ, false, refl, sym, ap, subst, set}
-use Rattle.watch_prop.specs.declared.entry.NumberedClause.{NumberedClause}
 use Rattle.watch_prop.specs.Trail.{true_in}
 use Rattle.watch_prop.proofs.Demands.{Called, forced, may_be_forced, moves}
 use Rattle.watch_prop.proofs.Linking.{rank_within, room_to_move}
@@ -25,42 +24,41 @@ shift-requires-clause-to c =
     let r = c.requires in
     let called : Called c.args.clauses.now c.args.trail.now c.args.state.now c.args.place c.args.l c.args.at =
     record { state = r.state; literal = r.literal; within = r.within; stands = r.stands; at_head = r.head } in
-    let demand = asked _ _ _ _ _ _ _ _ _ _ _ called c.clause_at-clause.ensures c.as_slice.ensures c.other-other.ensures c.demand_of.ensures c.in-Move.is in
-    rank_within _ _ _ _ _ _ r.state.known.linked (moves _ _ _ _ _ _ c.in-Move.found _ called demand).to
+    let demand = asked _ _ _ _ _ _ _ _ _ _ called c.lits.ensures c.other-other.ensures c.demand_of.ensures c.in-Move.is in
+    rank_within _ _ _ _ _ _ r.state.known.linked (moves _ _ _ _ _ _ _ called demand).to
 
 pub shift-requires-clause-room : goal.shift-requires-clause-room
 shift-requires-clause-room c =
     let r = c.requires in
     let called : Called c.args.clauses.now c.args.trail.now c.args.state.now c.args.place c.args.l c.args.at =
     record { state = r.state; literal = r.literal; within = r.within; stands = r.stands; at_head = r.head } in
-    let demand = asked _ _ _ _ _ _ _ _ _ _ _ called c.clause_at-clause.ensures c.as_slice.ensures c.other-other.ensures c.demand_of.ensures c.in-Move.is in
-    room_to_move _ _ _ _ _ _ _ _ _ (moves _ _ _ _ _ _ c.in-Move.found _ called demand)
+    let demand = asked _ _ _ _ _ _ _ _ _ _ called c.lits.ensures c.other-other.ensures c.demand_of.ensures c.in-Move.is in
+    room_to_move _ _ _ _ _ _ _ _ _ (moves _ _ _ _ _ _ _ called demand)
 
 pub force-requires-clause-literal : goal.force-requires-clause-literal
 force-requires-clause-literal c =
     let r = c.requires in
     let called : Called c.args.clauses.now c.args.trail.now c.args.state.now c.args.place c.args.l c.args.at =
     record { state = r.state; literal = r.literal; within = r.within; stands = r.stands; at_head = r.head } in
-    let demand = asked _ _ _ _ _ _ _ _ _ _ _ called c.clause_at-clause.ensures c.as_slice.ensures c.other-other.ensures c.demand_of.ensures c.in-Truth.is in
-    (may_be_forced _ _ _ _ _ _ r.state (demands_truth _ _ _ _ _ _ _ called demand) (ap (λ (h : NumberedClause). h.number) c.clause_at-clause.ensures)).literal
+    let demand = asked _ _ _ _ _ _ _ _ _ _ called c.lits.ensures c.other-other.ensures c.demand_of.ensures c.in-Truth.is in
+    (may_be_forced _ _ _ _ _ _ r.state (demands_truth _ _ _ _ _ _ _ called demand) c.number.ensures).literal
 
 pub force-requires-clause-comes : goal.force-requires-clause-comes
 force-requires-clause-comes c =
     let r = c.requires in
     let called : Called c.args.clauses.now c.args.trail.now c.args.state.now c.args.place c.args.l c.args.at =
     record { state = r.state; literal = r.literal; within = r.within; stands = r.stands; at_head = r.head } in
-    let demand = asked _ _ _ _ _ _ _ _ _ _ _ called c.clause_at-clause.ensures c.as_slice.ensures c.other-other.ensures c.demand_of.ensures c.in-Truth.is in
-    (may_be_forced _ _ _ _ _ _ r.state (demands_truth _ _ _ _ _ _ _ called demand) (ap (λ (h : NumberedClause). h.number) c.clause_at-clause.ensures)).comes
+    let demand = asked _ _ _ _ _ _ _ _ _ _ called c.lits.ensures c.other-other.ensures c.demand_of.ensures c.in-Truth.is in
+    (may_be_forced _ _ _ _ _ _ r.state (demands_truth _ _ _ _ _ _ _ called demand) c.number.ensures).comes
 
 pub returns-in-Move-clause-leads : goal.returns-in-Move-clause-leads
 returns-in-Move-clause-leads c =
     let r = c.requires in
     let called : Called c.args.clauses.now c.args.trail.now c.args.state.now c.args.place c.args.l c.args.at =
     record { state = r.state; literal = r.literal; within = r.within; stands = r.stands; at_head = r.head } in
-    let demand = asked _ _ _ _ _ _ _ _ _ _ _ called c.clause_at-clause.ensures c.as_slice.ensures c.other-other.ensures c.demand_of.ensures c.in-Move.is in
-    move_leads _ _ _ _ _ _ c.in-Move.to c.in-Move.found _ called demand (record {
-      from = c.in-Move.found;
-      watches = ap (λ (k : ℤ). set c.args.state.now.watches.items c.args.place (record { first = c.in-Move.to; second = k; from = c.in-Move.found })) c.other-other.ensures;
+    let demand = asked _ _ _ _ _ _ _ _ _ _ called c.lits.ensures c.other-other.ensures c.demand_of.ensures c.in-Move.is in
+    move_leads _ _ _ _ _ _ c.in-Move.to _ called demand (record {
+      watches = ap (λ (k : ℤ). set c.args.state.now.watches.items c.args.place (record { first = c.in-Move.to; second = k })) c.other-other.ensures;
       lists = c.shift.ensures.lists;
       counts = c.shift.ensures.counts;
       waiting = refl;
@@ -72,10 +70,9 @@ returns-in-Move-clause-settles c =
     let r = c.requires in
     let called : Called c.args.clauses.now c.args.trail.now c.args.state.now c.args.place c.args.l c.args.at =
     record { state = r.state; literal = r.literal; within = r.within; stands = r.stands; at_head = r.head } in
-    let demand = asked _ _ _ _ _ _ _ _ _ _ _ called c.clause_at-clause.ensures c.as_slice.ensures c.other-other.ensures c.demand_of.ensures c.in-Move.is in
-    move_settles _ _ _ _ _ _ c.in-Move.to c.in-Move.found _ called demand (record {
-      from = c.in-Move.found;
-      watches = ap (λ (k : ℤ). set c.args.state.now.watches.items c.args.place (record { first = c.in-Move.to; second = k; from = c.in-Move.found })) c.other-other.ensures;
+    let demand = asked _ _ _ _ _ _ _ _ _ _ called c.lits.ensures c.other-other.ensures c.demand_of.ensures c.in-Move.is in
+    move_settles _ _ _ _ _ _ c.in-Move.to _ called demand (record {
+      watches = ap (λ (k : ℤ). set c.args.state.now.watches.items c.args.place (record { first = c.in-Move.to; second = k })) c.other-other.ensures;
       lists = c.shift.ensures.lists;
       counts = c.shift.ensures.counts;
       waiting = refl;
@@ -87,14 +84,14 @@ returns-in-Truth-clause-leads c =
     let r = c.requires in
     let called : Called c.args.clauses.now c.args.trail.now c.args.state.now c.args.place c.args.l c.args.at =
     record { state = r.state; literal = r.literal; within = r.within; stands = r.stands; at_head = r.head } in
-    let demand = asked _ _ _ _ _ _ _ _ _ _ _ called c.clause_at-clause.ensures c.as_slice.ensures c.other-other.ensures c.demand_of.ensures c.in-Truth.is in
-    (forced _ _ _ _ _ _ _ r.state (demands_truth _ _ _ _ _ _ _ called demand) (ap (λ (h : NumberedClause). h.number) c.clause_at-clause.ensures) c.force.ensures).leads
+    let demand = asked _ _ _ _ _ _ _ _ _ _ called c.lits.ensures c.other-other.ensures c.demand_of.ensures c.in-Truth.is in
+    (forced _ _ _ _ _ _ _ r.state (demands_truth _ _ _ _ _ _ _ called demand) c.number.ensures c.force.ensures).leads
 
 pub returns-in-Truth-clause-settles : goal.returns-in-Truth-clause-settles
 returns-in-Truth-clause-settles c =
     let r = c.requires in
     let called : Called c.args.clauses.now c.args.trail.now c.args.state.now c.args.place c.args.l c.args.at =
     record { state = r.state; literal = r.literal; within = r.within; stands = r.stands; at_head = r.head } in
-    let demand = asked _ _ _ _ _ _ _ _ _ _ _ called c.clause_at-clause.ensures c.as_slice.ensures c.other-other.ensures c.demand_of.ensures c.in-Truth.is in
-    let made = forced _ _ _ _ _ _ _ r.state (demands_truth _ _ _ _ _ _ _ called demand) (ap (λ (h : NumberedClause). h.number) c.clause_at-clause.ensures) c.force.ensures in
+    let demand = asked _ _ _ _ _ _ _ _ _ _ called c.lits.ensures c.other-other.ensures c.demand_of.ensures c.in-Truth.is in
+    let made = forced _ _ _ _ _ _ _ r.state (demands_truth _ _ _ _ _ _ _ called demand) c.number.ensures c.force.ensures in
     stays_settled _ _ _ _ _ _ _ _ demand.0 made.truth

@@ -1,3 +1,4 @@
+use Rattle.workbench.proofs.GeneralOutcomes.{general_outcomes}
 use Rattle.workbench.proofs.LinearOutcomes.{linear_outcomes}
 use Rattle.workbench.proofs.Outcomes.{pure_outcomes, matching_outcomes}
 use Rattle.workbench.proofs.laws.reduce_law.Goals as goal
@@ -10,3 +11,6 @@ returns-clause-matching c = matching_outcomes
 
 pub returns-clause-linear : goal.returns-clause-linear
 returns-clause-linear c = linear_outcomes
+
+pub returns-clause-general : goal.returns-clause-general
+returns-clause-general c = general_outcomes

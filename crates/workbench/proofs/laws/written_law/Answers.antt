@@ -1,5 +1,8 @@
-use Rattle.workbench.proofs.Agreement.{written_accepted}
+use Rattle.workbench.proofs.Agreement.{written_accepted, stopped_unfinished}
 use Rattle.workbench.proofs.laws.written_law.Goals as goal
 
-pub returns : goal.returns
-returns c = written_accepted
+pub returns-clause-done : goal.returns-clause-done
+returns-clause-done c = written_accepted
+
+pub returns-clause-budget : goal.returns-clause-budget
+returns-clause-budget c = stopped_unfinished

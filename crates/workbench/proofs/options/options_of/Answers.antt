@@ -1,11 +1,11 @@
-use Rattle.std.proofs.Common.{◌<◌, ◌∙◌, map, ap, sym, arith, subst, Some, Bool, not, ◌&&◌, is_some}
+use Rattle.std.proofs.Common.{◌<◌, ◌^◌, ◌∙◌, map, ap, sym, arith, subst, Some, Bool, not, ◌&&◌, is_some}
 use Rattle.std.proofs.Math.Bool.{and-false}
 use Rattle.workbench.specs.Commands.{keys_of}
 use Rattle.workbench.specs.OptionPlaces.{is_word_of}
 use Rattle.workbench.specs.Settings.{Options}
 use Rattle.workbench.specs.OptionKeys.{given_for}
 use Rattle.workbench.specs.OptionKeys.{text_of}
-use Rattle.workbench.proofs.OptionWords.{word_for, workers_of}
+use Rattle.workbench.proofs.OptionWords.{word_for, conflicts_of, workers_of}
 use Rattle.workbench.proofs.OptionSteps.{nothing, unknown, may_not, no_value, another, all_given}
 use Rattle.workbench.proofs.options.options_of.Goals as goal
 use Rattle.workbench.proofs.options.options_of.Goals.{then-not-takes-via-then-not-takes, then-not-takes-via-else-not-takes+then-has}
@@ -39,6 +39,14 @@ loop-place-preserved c =
 pub returns-clause-options : goal.returns-clause-options
 returns-clause-options c =
     all_given c.args.command c.args.words.now c.loop-place.given c.loop-place.place c.loop-place.invariant (omega (arith, c.loop-place-test.false)) ∙ ap Some (sym c.options.ensures)
+
+pub returns-clause-conflicts : goal.returns-clause-conflicts
+returns-clause-conflicts c =
+    subst (λ (o : Options). 0 < o.conflicts) (sym c.options.ensures) (conflicts_of (text_of c.loop-place.given.conflicts)).0
+
+pub returns-clause-most : goal.returns-clause-most
+returns-clause-most c =
+    subst (λ (o : Options). o.conflicts < 2 ^ 63) (sym c.options.ensures) (conflicts_of (text_of c.loop-place.given.conflicts)).1
 
 pub returns-clause-workers : goal.returns-clause-workers
 returns-clause-workers c =

@@ -1,7 +1,7 @@
 use Rattle.std.proofs.Common.{map}
 use Rattle.workbench.specs.Endings.{shelved}
 use Rattle.workbench.specs.Lawful.{request_of}
-use Rattle.workbench.proofs.EndingLaws.{result_allowed, result_decided, told_allowed, told_decided}
+use Rattle.workbench.proofs.EndingLaws.{result_allowed, result_decided, result_well, told_allowed, told_decided, told_well}
 use Rattle.workbench.proofs.program.ending.Goals as goal
 
 pub returns-in-Ok-clause-allowed : goal.returns-in-Ok-clause-allowed
@@ -23,3 +23,10 @@ pub returns-in-Err-clause-decided : goal.returns-in-Err-clause-decided
 returns-in-Err-clause-decided g c =
     told_decided c.text_law.ensures.once c.text_law.ensures.never (map (λ w. w.now) c.args.words.now) (g.H.Shelf.told c.args.shelf.now) (g.H.Shelf.ailing c.perform.new.shelf) (g.H.Shelf.current c.perform.new.shelf) c.in-Err.stop
     c.ending_of.result c.ending_of.ensures.status c.in-Err.ensures.stop
+
+pub returns-in-Ok-clause-well : goal.returns-in-Ok-clause-well
+returns-in-Ok-clause-well g c = result_well c.in-Ok.ending.status (request_of (map (λ w. w.now) c.args.words.now)) (g.H.Shelf.ailing c.perform.new.shelf) c.in-Ok.ensures.well
+
+pub returns-in-Err-clause-well : goal.returns-in-Err-clause-well
+returns-in-Err-clause-well g c =
+    told_well c.in-Err.stop (request_of (map (λ w. w.now) c.args.words.now)) (g.H.Shelf.ailing c.perform.new.shelf) c.ending_of.result c.ending_of.ensures.status c.in-Err.ensures.well

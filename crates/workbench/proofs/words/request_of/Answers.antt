@@ -3,7 +3,7 @@ use Rattle.std.proofs.lemmas.List.{length-map}
 use Rattle.std.proofs.lemmas.Result.{err_from_is_err_and}
 use Rattle.workbench.specs.OptionKeys.{values_of}
 use Rattle.workbench.proofs.LawfulLists.{unknown}
-use Rattle.workbench.proofs.RequestWords.{lawful_request, refused_request, missing_in}
+use Rattle.workbench.proofs.RequestWords.{lawful_request, refused_request, missing_in, opened, number_refused}
 use Rattle.workbench.proofs.words.request_of.Goals as goal
 
 pub returns-in_err-command-clause-asked : goal.returns-in_err-command-clause-asked
@@ -11,19 +11,34 @@ returns-in_err-command-clause-asked c =
     let p = err_from_is_err_and c.from_residual.result c.from_residual.ensures.1 in
     rw (p.1, p.2) (unknown (map (λ w. w.now) c.args.words.now) c.in_err-command.field-0.0 c.in_err-command.ensures)
 
+pub returns-in_default-clause-asked : goal.returns-in_default-clause-asked
+returns-in_default-clause-asked c =
+    let size = sym (length-map c.words-front.result.now (λ w. w.now)) ∙ ap length c.words-front.ensures in
+    let front = length c.words-front.result.now in
+    number_refused c.args.words.now c.in_ok-command.command c.numbers-numbers.result front c.in_ok-command.ensures size c.numbers-numbers.ensures c.in_default.ensures
+
 pub returns-then-words-end-clause-asked : goal.returns-then-words-end-clause-asked
 returns-then-words-end-clause-asked c =
     let size = sym (length-map c.words-front.result.now (λ w. w.now)) ∙ ap length c.words-front.ensures in
-    missing_in c.args.words.now c.in_ok-command.command c.in_ok-command.ensures (omega (arith, c.if-words-end.true, size, c.inputs.ensures))
+    let front = length c.words-front.result.now in
+    let command = c.in_ok-command.command in
+    let is_open = opened c.args.words.now command c.numbers-numbers.result front c.number_words.result c.in-Some.number c.in_ok-command.ensures size c.numbers-numbers.ensures c.in-Some.ensures c.number_words.ensures.value in
+    missing_in c.args.words.now command (front + c.number_words.result) c.in-Some.number is_open (omega (arith, c.if-words-end.true, c.inputs.ensures))
 
 pub returns-in-Ok-clause-asked : goal.returns-in-Ok-clause-asked
 returns-in-Ok-clause-asked c =
     let size = sym (length-map c.words-front.result.now (λ w. w.now)) ∙ ap length c.words-front.ensures in
     let front = length c.words-front.result.now in
-    lawful_request c.args.words.now c.in_ok-command.command front (front + c.inputs.result) (values_of c.in-Ok.options) c.in_ok-command.ensures size (omega (arith, c.inputs.ensures)) (omega (arith, c.if-words-end.false)) c.in-Ok.ensures.options
+    let command = c.in_ok-command.command in
+    let is_open = opened c.args.words.now command c.numbers-numbers.result front c.number_words.result c.in-Some.number c.in_ok-command.ensures size c.numbers-numbers.ensures c.in-Some.ensures c.number_words.ensures.value in
+    let begin = front + c.number_words.result in
+    lawful_request c.args.words.now command begin (begin + c.inputs.result) c.in-Some.number (values_of c.in-Ok.options) is_open (omega (arith, c.inputs.ensures)) (omega (arith, c.if-words-end.false)) c.in-Ok.ensures.options
 
 pub returns-in-Err-clause-asked : goal.returns-in-Err-clause-asked
 returns-in-Err-clause-asked c =
     let size = sym (length-map c.words-front.result.now (λ w. w.now)) ∙ ap length c.words-front.ensures in
     let front = length c.words-front.result.now in
-    refused_request c.args.words.now c.in_ok-command.command front (front + c.inputs.result) c.in-Err.place c.in_ok-command.ensures size (omega (arith, c.inputs.ensures)) (omega (arith, c.if-words-end.false)) c.in-Err.ensures.options
+    let command = c.in_ok-command.command in
+    let is_open = opened c.args.words.now command c.numbers-numbers.result front c.number_words.result c.in-Some.number c.in_ok-command.ensures size c.numbers-numbers.ensures c.in-Some.ensures c.number_words.ensures.value in
+    let begin = front + c.number_words.result in
+    refused_request c.args.words.now command begin (begin + c.inputs.result) c.in-Some.number c.in-Err.place is_open (omega (arith, c.inputs.ensures)) (omega (arith, c.if-words-end.false)) c.in-Err.ensures.options

@@ -1,10 +1,9 @@
-use Rattle.std.proofs.Common.{◌≡◌, ◌∙◌, ℕ, ◌+◌, ◌≤◌, ◌++◌, ◌∷◌, [], List, None, length, length-append, refl, sym, ap, subst, arith, IsTrue, IsNone, vec_len}
+use Rattle.std.proofs.Common.{◌≡◌, ◌∙◌, ℕ, ◌+◌, ◌≤◌, ◌++◌, ◌∷◌, [], None, length, length-append, refl, sym, ap, subst, arith, IsTrue, IsNone, vec_len}
 use Rattle.lk_model.specs.Formulas.Literal.{variable, is_literal}
 use Rattle.watch_prop.specs.declared.entry.Entry.{Entry}
 use Rattle.watch_prop.specs.Trail.{Path, entry_of, present_level}
 use Rattle.watch_prop.specs.Propagation.{Propagation, assigned, is_quiet, with_assigned}
-use Rattle.watch_prop.specs.declared.entry.NumberedClause.{NumberedClause}
-use Rattle.watch_prop.specs.States.{Leads, Passes, propagation_of, unseen}
+use Rattle.watch_prop.specs.States.{propagation_of}
 use Rattle.watch_prop.proofs.Paths.{present_le}
 use Rattle.watch_prop.proofs.Trails.{trail_path, may_come_of, unset_none}
 use Rattle.watch_prop.proofs.Assigning.{ready, opened_state}
@@ -12,28 +11,24 @@ use Rattle.watch_prop.proofs.propagator.Propagator.assign.Goals as goal
 
 pub put-requires : goal.put-requires
 put-requires c =
-    let clauses = c.self.inside.clauses.items in
+    let clauses = c.self.inside.clauses in
     let e : Entry = record { lit = c.args.l; level = c.level-level.result + 1; reason = None } in
     let level : e.level ≡ present_level c.propagate-quiet.new.trail.entries + 1 = ap (λ (n : ℕ). n + 1) c.level-level.ensures.value in
     let quiet = subst (λ (q : Propagation). IsTrue (is_quiet (assigned q) q.clauses)) (sym c.self.view_is) c.requires.quiet in
     let lit = subst (λ (q : Propagation). IsTrue (is_literal q.vars c.args.l)) (sym c.self.view_is) c.requires.within in
     let unset = subst (λ (q : Propagation). IsNone (assigned q (variable c.args.l))) (sym c.self.view_is) c.requires.unset in
-    let leads = subst (λ (cs : List NumberedClause). Leads cs c.self.inside.trail c.propagate-quiet.new.trail c.self.inside.state c.propagate-quiet.new.state) c.deref.ensures.value
-    c.propagate-quiet.ensures.leads in
-    let done = subst (λ (cs : List NumberedClause). Passes cs c.propagate-quiet.new.trail c.propagate-quiet.result
-    ((unseen c.propagate-quiet.new.state ≡ 0) × (c.propagate-quiet.new.state.head ≡ length c.propagate-quiet.new.trail.entries))) c.deref.ensures.value
-    c.propagate-quiet.ensures.done in
+    let leads = c.propagate-quiet.ensures.leads in
+    let done = c.propagate-quiet.ensures.done in
     let r = ready clauses c.self.inside.trail c.propagate-quiet.new.trail c.self.inside.state c.propagate-quiet.new.state c.propagate-quiet.result e c.self.invariant
     leads done quiet lit (unset_none (entry_of c.self.inside.trail.entries (variable c.args.l)) unset) level refl in
     may_come_of c.propagate-quiet.new.trail.vars clauses c.propagate-quiet.new.trail.entries e r.may
 
 pub push_reserved-requires : goal.push_reserved-requires
 push_reserved-requires c =
-    let clauses = c.self.inside.clauses.items in
+    let clauses = c.self.inside.clauses in
     let path = c.propagate-quiet.new.trail in
     let w = c.propagate-quiet.new.state in
-    let state = (subst (λ (cs : List NumberedClause). Leads cs c.self.inside.trail c.propagate-quiet.new.trail c.self.inside.state c.propagate-quiet.new.state) c.deref.ensures.value
-    c.propagate-quiet.ensures.leads).state in
+    let state = c.propagate-quiet.ensures.leads.state in
     let e : Entry = record { lit = c.args.l; level = c.level-level.result + 1; reason = None } in
     let low = present_le path.vars path.entries (trail_path path.vars clauses path.entries state.propagation.trail) in
     let room : length (path.entries ++ e ∷ []) ≤ path.vars = subst (λ (p : Path). length p.entries ≤ p.vars) c.put.ensures.value c.put.ensures.room in
@@ -43,17 +38,14 @@ push_reserved-requires c =
 
 pub invariant_of-self : goal.invariant_of-self
 invariant_of-self c =
-    let clauses = c.self.inside.clauses.items in
+    let clauses = c.self.inside.clauses in
     let e : Entry = record { lit = c.args.l; level = c.level-level.result + 1; reason = None } in
     let level : e.level ≡ present_level c.propagate-quiet.new.trail.entries + 1 = ap (λ (n : ℕ). n + 1) c.level-level.ensures.value in
     let quiet = subst (λ (q : Propagation). IsTrue (is_quiet (assigned q) q.clauses)) (sym c.self.view_is) c.requires.quiet in
     let lit = subst (λ (q : Propagation). IsTrue (is_literal q.vars c.args.l)) (sym c.self.view_is) c.requires.within in
     let unset = subst (λ (q : Propagation). IsNone (assigned q (variable c.args.l))) (sym c.self.view_is) c.requires.unset in
-    let leads = subst (λ (cs : List NumberedClause). Leads cs c.self.inside.trail c.propagate-quiet.new.trail c.self.inside.state c.propagate-quiet.new.state) c.deref.ensures.value
-    c.propagate-quiet.ensures.leads in
-    let done = subst (λ (cs : List NumberedClause). Passes cs c.propagate-quiet.new.trail c.propagate-quiet.result
-    ((unseen c.propagate-quiet.new.state ≡ 0) × (c.propagate-quiet.new.state.head ≡ length c.propagate-quiet.new.trail.entries))) c.deref.ensures.value
-    c.propagate-quiet.ensures.done in
+    let leads = c.propagate-quiet.ensures.leads in
+    let done = c.propagate-quiet.ensures.done in
     let r = ready clauses c.self.inside.trail c.propagate-quiet.new.trail c.self.inside.state c.propagate-quiet.new.state c.propagate-quiet.result e c.self.invariant
     leads done quiet lit (unset_none (entry_of c.self.inside.trail.entries (variable c.args.l)) unset) level refl in
     let count : c.len.result ≡ length c.propagate-quiet.new.state.waiting.items = c.len.ensures ∙ c.propagate-quiet.new.state.waiting.ok.0 in
@@ -75,17 +67,14 @@ invariant_of-self c =
 
 pub returns : goal.returns
 returns c =
-    let clauses = c.self.inside.clauses.items in
+    let clauses = c.self.inside.clauses in
     let e : Entry = record { lit = c.args.l; level = c.level-level.result + 1; reason = None } in
     let level : e.level ≡ present_level c.propagate-quiet.new.trail.entries + 1 = ap (λ (n : ℕ). n + 1) c.level-level.ensures.value in
     let quiet = subst (λ (q : Propagation). IsTrue (is_quiet (assigned q) q.clauses)) (sym c.self.view_is) c.requires.quiet in
     let lit = subst (λ (q : Propagation). IsTrue (is_literal q.vars c.args.l)) (sym c.self.view_is) c.requires.within in
     let unset = subst (λ (q : Propagation). IsNone (assigned q (variable c.args.l))) (sym c.self.view_is) c.requires.unset in
-    let leads = subst (λ (cs : List NumberedClause). Leads cs c.self.inside.trail c.propagate-quiet.new.trail c.self.inside.state c.propagate-quiet.new.state) c.deref.ensures.value
-    c.propagate-quiet.ensures.leads in
-    let done = subst (λ (cs : List NumberedClause). Passes cs c.propagate-quiet.new.trail c.propagate-quiet.result
-    ((unseen c.propagate-quiet.new.state ≡ 0) × (c.propagate-quiet.new.state.head ≡ length c.propagate-quiet.new.trail.entries))) c.deref.ensures.value
-    c.propagate-quiet.ensures.done in
+    let leads = c.propagate-quiet.ensures.leads in
+    let done = c.propagate-quiet.ensures.done in
     let r = ready clauses c.self.inside.trail c.propagate-quiet.new.trail c.self.inside.state c.propagate-quiet.new.state c.propagate-quiet.result e c.self.invariant
     leads done quiet lit (unset_none (entry_of c.self.inside.trail.entries (variable c.args.l)) unset) level refl in
     let at : ℕ → Path → Propagation = λ n p. propagation_of clauses (record p { entries = p.entries ++ (record { lit = c.args.l; level = n; reason = None }) ∷ [] }) in

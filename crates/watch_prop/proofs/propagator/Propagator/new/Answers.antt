@@ -30,7 +30,7 @@ hold-requires-clause-clause c =
     let split : crossed_clauses over ≡ c.loop-clause.yielded ++ x ∷ into_iter_items c.next.new.self = sym inv.rest ∙ ap (λ (cs : List NumberedClause). c.loop-clause.yielded ++ cs) steps in
     let here = all_middle (λ (d : NumberedClause). not (is_empty d.lits) && is_clause F.vars d.lits) c.loop-clause.yielded x (into_iter_items c.next.new.self)
     (subst (λ (cs : List NumberedClause). IsTrue (list_all (λ (d : NumberedClause). not (is_empty d.lits) && is_clause F.vars d.lits) cs)) split start.clauses) in
-    subst (λ (n : ℕ). IsTrue (not (is_empty x.lits) && is_clause n x.lits)) (sym inv.vars) here
+    rw c.as_slice.ensures (subst (λ (n : ℕ). IsTrue (not (is_empty x.lits) && is_clause n x.lits)) (sym inv.vars) here)
 
 pub hold-requires-clause-fresh : goal.hold-requires-clause-fresh
 hold-requires-clause-fresh c =
@@ -49,7 +49,7 @@ loop-clause-preserved c =
     let x = c.in-Some.clause in
     let inv = c.loop-clause.invariant in
     let steps : into_iter_items c.loop-clause.clause-iterator ≡ x ∷ into_iter_items c.next.new.self = c.in-Some.ensures.steps.0 in
-    let held : c.hold.new.self ≡ with_held c.loop-clause.propagator x.number x.lits = c.in_ok-hold.ensures.ok in
+    let held : c.hold.new.self ≡ with_held c.loop-clause.propagator x.number x.lits = c.in_ok-hold.ensures.ok ∙ ap (with_held c.loop-clause.propagator x.number) c.as_slice.ensures in
     record {
       vars = ap (λ (p : Propagation). p.vars) held ∙ inv.vars;
       trail = ap (λ (p : Propagation). p.trail) held ∙ inv.trail;

@@ -14,7 +14,7 @@ invariant_of-self c =
     let s = c.self.inside.state in
     let below : c.args.level < length s.marks.items = omega (arith, c.if-place-len.true, c.len.ensures) in
     let read = get_or_read s.marks.items c.args.level c.index.result.now below c.index.ensures 0 in
-    returned_state c.self.inside.clauses.items c.self.inside.trail c.retract.new.self s _ c.args.level c.self.invariant
+    returned_state c.self.inside.clauses c.self.inside.trail c.retract.new.self s _ c.args.level c.self.invariant
     (record {
       below = below;
       path_is = c.retract.ensures;

@@ -1,10 +1,21 @@
-use Rattle.std.proofs.Common.{◌≡◌, ◌∙◌, ℕ, true, ◌+◌, ◌-◌, ◌<◌, ◌++◌, ◌∷◌, [], List, Some, None, length, length-set, length-append, take, get_or, set, sum_by, ap, subst, sym, arith}
-use Rattle.lk_model.specs.Formulas.Literal.{variable}
+use Rattle.std.proofs.Common.{◌≡◌, ◌∙◌, ℕ, true, false, ◌+◌, ◌*◌, ◌-◌, ◌<◌, ◌++◌, ◌∷◌, [], List, Some, None, length, length-set, length-append, take, get_or, set, sum_by, ap, subst, sym, arith}
+use Rattle.lk_model.specs.Formulas.Literal.{variable, is_literal}
 use Rattle.watch_prop.specs.declared.entry.Entry.{Entry}
-use Rattle.watch_prop.specs.KeptTrail.{seen, unset_one}
+use Rattle.watch_prop.specs.KeptTrail.{seen, unset_one, AreValues, place_of}
 use Rattle.watch_prop.specs.Trail.{Path, literals_of, entry_of, is_path}
 use Rattle.watch_prop.proofs.Paths.{path_less, table_less, unset_more, literals_take, entry_here, Tells}
+use Rattle.watch_prop.proofs.Values.{literal_between, values_less, within_values}
 use Rattle.watch_prop.proofs.trail.Trail.take_back.Goals as goal
+
+pub place-at-requires : goal.place-at-requires
+place-at-requires c =
+    let p : Path = seen c.self.inside in
+    let e : Entry = c.index.result.now in
+    let some : 0 < length p.entries = subst (λ (q : Path). 0 < length q.entries) (sym c.self.view_is) c.requires in
+    let long : c.len-last.result ≡ length p.entries = omega arith in
+    let here : e ≡ get_or p.entries (length p.entries - 1) e = subst (λ n. e ≡ get_or p.entries (n - 1) e) long c.index.ensures in
+    let less = path_less p.vars p.entries e c.self.invariant.path some here in
+    subst (λ (q : Path). is_literal q.vars e.lit ≡ true) c.self.view_is (literal_between p.vars e.lit less.low less.high)
 
 pub index_mut-requires : goal.index_mut-requires
 index_mut-requires c =
@@ -15,6 +26,18 @@ index_mut-requires c =
     let here : e ≡ get_or p.entries (length p.entries - 1) e = subst (λ n. e ≡ get_or p.entries (n - 1) e) long c.index.ensures in
     let less = path_less p.vars p.entries e c.self.invariant.path some here in
     omega (arith, less.low, less.high, c.var.ensures.value)
+
+pub index_mut-requires-2 : goal.index_mut-requires-2
+index_mut-requires-2 c =
+    let p : Path = seen c.self.inside in
+    let e : Entry = c.index.result.now in
+    let some : 0 < length p.entries = subst (λ (q : Path). 0 < length q.entries) (sym c.self.view_is) c.requires in
+    let long : c.len-last.result ≡ length p.entries = omega arith in
+    let here : e ≡ get_or p.entries (length p.entries - 1) e = subst (λ n. e ≡ get_or p.entries (n - 1) e) long c.index.ensures in
+    let less = path_less p.vars p.entries e c.self.invariant.path some here in
+    let stands : c.place-at.result ≡ place_of p.vars e.lit = c.place-at.ensures ∙ ap (λ (q : Path). place_of q.vars e.lit) (sym c.self.view_is) in
+    let within = within_values p.vars c.self.inside.values.items e.lit c.self.invariant.places (literal_between p.vars e.lit less.low less.high) in
+    omega (arith, stands, within)
 
 pub invariant_of-self : goal.invariant_of-self
 invariant_of-self c =
@@ -40,6 +63,8 @@ invariant_of-self c =
     let more : sum_by unset_one table ≡ sum_by unset_one old + 1 =
     subst (λ (k : ℕ). sum_by unset_one (set old (k - 1) None) ≡ sum_by unset_one old + 1) (sym place) (unset_more old (variable e.lit - 1) e within found) in
     let shorter : length p.entries ≡ length rest + 1 = ap length less.split ∙ length-append rest (e ∷ []) in
+    let stands : c.place-at.result ≡ place_of p.vars e.lit = c.place-at.ensures ∙ ap (λ (q : Path). place_of q.vars e.lit) (sym c.self.view_is) in
+    let values = set c.self.inside.values.items c.place-at.result false in
     let rest_long : length c.truncate.new.self.items ≡ length rest = ap length trail in
     record {
       vars = omega (arith, n, inv.vars);
@@ -47,6 +72,10 @@ invariant_of-self c =
       lits = lits ∙ ap literals_of (sym trail);
       table = subst (λ (t : List Entry). Tells t table) (sym trail)
           (subst (λ (k : ℕ). Tells rest (set old (k - 1) None)) (sym place) (table_less rest old e tells less.low less.high less.absent));
+      places = length-set c.self.inside.values.items c.place-at.result false ∙ inv.places ∙ ap (λ (k : ℕ). 2 * k + 1) (sym n);
+      values = subst (λ (v : ℕ). AreValues v c.truncate.new.self.items values) (sym n) (subst (λ (t : List Entry). AreValues p.vars t values) (sym trail)
+          (subst (λ (k : ℕ). AreValues p.vars rest (set c.self.inside.values.items k false)) (sym stands) (values_less p.vars rest c.self.inside.values.items e inv.places (subst (λ (t : List Entry). AreValues p.vars t c.self.inside.values.items) less.split inv.values)
+          (literal_between p.vars e.lit less.low less.high) less.absent)));
       unset = omega (arith, more, inv.unset, n, shorter, rest_long);
       entries_room = omega (arith, n, inv.entries_room, c.truncate.ensures.capacity);
       lits_room = omega (arith, n, inv.lits_room, c.truncate-2.ensures.capacity);

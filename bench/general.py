@@ -1,0 +1,85 @@
+#!/usr/bin/env python3
+"""Measures `reduce general` beside `reduce matching` on formulas of many parts.
+
+    bench/general.py LEANK [KIND ...]
+
+LEANK is the built program (crates/leank/out holds it after `bin/leank` ran once). Needs python3. Each
+figure is the least wall time of some runs; `reading` is what leank takes to read the formula alone. Both
+documents are checked. Nothing fails by time.
+"""
+import os
+import random
+import sys
+import tempfile
+
+from matching import checked, least_seconds, put, square
+
+SEED = 1
+PARTS = 100000
+
+
+def head(out, variables, clauses):
+    out.write(f"p cnf {variables} {clauses}\n")
+
+
+def parts(out):
+    """Parts of four clauses, of which all are kept."""
+    head(out, 2 * PARTS, 4 * PARTS)
+    for v in range(1, 2 * PARTS, 2):
+        for clause in square(v, v + 1):
+            put(out, clause)
+
+
+def within(out):
+    """The same, with variables and positions of all parts among one another."""
+    head(out, 2 * PARTS, 4 * PARTS)
+    draw = random.Random(SEED)
+    names = draw.sample(range(1, 2 * PARTS + 1), 2 * PARTS)
+    clauses = [clause for k in range(PARTS) for clause in square(names[2 * k], names[2 * k + 1])]
+    draw.shuffle(clauses)
+    for clause in clauses:
+        put(out, clause)
+
+
+def gone(out):
+    """Parts of three clauses of which none is kept."""
+    head(out, 2 * PARTS, 3 * PARTS)
+    for v in range(1, 2 * PARTS, 2):
+        for clause in square(v, v + 1)[:3]:
+            put(out, clause)
+
+
+def chain(out):
+    """One part: implications from a unit clause to the complement of the last variable."""
+    head(out, 2 * PARTS, 2 * PARTS + 1)
+    put(out, [1])
+    for v in range(2, 2 * PARTS + 1):
+        put(out, [1 - v, v])
+    put(out, [-2 * PARTS])
+
+
+KINDS = {"parts": parts, "within": within, "gone": gone, "chain": chain}
+
+
+def main():
+    if len(sys.argv) < 2:
+        sys.exit(__doc__)
+    leank, kinds = os.path.abspath(sys.argv[1]), sys.argv[2:] or list(KINDS)
+    with tempfile.TemporaryDirectory() as folder:
+        formula, ours, beside = (os.path.join(folder, name) for name in ("formula", "ours", "beside"))
+        for kind in kinds:
+            with open(formula, "w") as out:
+                KINDS[kind](out)
+            reading = least_seconds([leank, "check", formula, os.devnull], os.devnull)
+            print(f"{kind:7} {os.path.getsize(formula):9} bytes  reading {reading:.2f} s")
+            for workers in ("1", "2"):
+                others = [formula, "--workers", workers]
+                matching = least_seconds([leank, "reduce", "matching", *others], beside)
+                checked(leank, formula, beside)
+                general = least_seconds([leank, "reduce", "general", *others], ours)
+                kept = checked(leank, formula, ours)
+                print(f"    {workers} worker(s), {len(kept.split()) - 3} kept  general {general:6.2f} s  matching {matching:6.2f} s  ratio {general / matching:.2f}")
+
+
+if __name__ == "__main__":
+    main()

@@ -1,0 +1,28 @@
+use Rattle.std.proofs.Common.{◌≡◌, ◌∷◌, [], ℕ, List, sym, subst, length}
+use Rattle.std.proofs.lemmas.Result.{err_from_is_err_and}
+use Rattle.lk_model.specs.declared.text_fault.Fault.{Fault}
+use Rattle.dimacs_reader.specs.ReadStates.{Leads, HasFault}
+use Rattle.dimacs_reader.specs.Stages.{StandsInNumbers, IsMet}
+use Rattle.dimacs_reader.specs.declared.numbers.NumberLine.{NumberLine}
+use Rattle.dimacs_reader.proofs.Cuts.{piece}
+use Rattle.dimacs_reader.proofs.NumberStands.{line_ends, word_ends_line, line_at_fault}
+use Rattle.dimacs_reader.proofs.numbers.end_line.Goals as goal
+
+pub returns-in_err-add_word-in-Word-clause-fault : goal.returns-in_err-add_word-in-Word-clause-fault
+returns-in_err-add_word-in-Word-clause-fault c fed e h =
+    let p = err_from_is_err_and c.from_residual.result c.from_residual.ensures.1 in
+    rw (p.1, p.2) (line_at_fault fed c.args.before c.args.state.now c.in-Word.word c.in_err-add_word-in-Word.field-0.0 e c.in_err-add_word-in-Word.ensures.fault
+    (subst (λ (l : NumberLine). StandsInNumbers fed c.args.state.now l) c.in-Word.is h))
+
+pub returns-in_ok-add_word-in-Word-clause-ok : goal.returns-in_ok-add_word-in-Word-clause-ok
+returns-in_ok-add_word-in-Word-clause-ok c fed e h =
+    word_ends_line fed c.args.state.now c.add_word.new.state c.in-Word.word
+    (λ bytes so. subst (λ (n : ℕ). Leads (piece bytes n ∷ []) c.args.state.now c.add_word.new.state) (sym e) (c.in_ok-add_word-in-Word.ensures.ok bytes so))
+    (subst (λ (l : NumberLine). StandsInNumbers fed c.args.state.now l) c.in-Word.is h)
+
+pub returns-in_default : goal.returns-in_default
+returns-in_default c = record {
+  fits = c.requires;
+  ok = λ fed e h. line_ends c.args.line c.in_default.not-Ended c.in_default.not-Word fed c.args.state.now h;
+  fault = λ fed e h. tt;
+}

@@ -1,0 +1,4 @@
+pub mod Places
+pub mod Naming
+pub mod Copying
+pub mod Within

@@ -1,0 +1,48 @@
+//! The general kernel of a part of a formula.
+//!
+//! A search over clauses makes tables as long as the formula's variables, so for each of many small parts it
+//! would cost the whole formula. Here the part is first copied into a formula of its own, whose size is the
+//! part's.
+ghost use Rattle.std.specs.Prelude.{◌≡◌, ◌<◌, ◌^◌, length, IfOk, IsTrue};
+ghost use Rattle.lk_model.specs.Formulas.Formula.{Cnf, is_formula, positions_of};
+ghost use Rattle.lk_model.specs.Formulas.Lean.{are_positions};
+ghost use Rattle.general_kernel.specs.Found.{IsFound};
+ghost use Rattle.renaming_laws.specs.Renaming.{IsDense};
+ghost use Rattle.part_formula.specs.Names.{AreNames};
+
+use crate::dense::dense_formula;
+use crate::names::names_of;
+use crate::renaming::Renaming;
+use general_kernel::{General, general_kernel};
+use lk_model::{Formula, OutOfMemory};
+use std::alloc::Global;
+
+/// What `general_kernel` finds in the part of a formula at some positions, which ascend and count from 1, by
+/// at most so many learned clauses, from 1 to 2^63 - 1. Variables, positions and steps have the formula's
+/// numbers. Time and memory are those of the part's clauses. The error is that there is no memory; more steps
+/// than have numbers of 64 bits count as that.
+pub fn kernel_of_part(
+    alloc: Global,
+    f: &Formula,
+    part: &[u32],
+    conflicts: u64,
+) -> Result<General, OutOfMemory>
+    requires part { IsTrue (are_positions f.now part.now) }
+    requires some { 0 < conflicts }
+    requires most { conflicts < 2 ^ 63 }
+    ensures { IfOk result (IsFound f.now part.now conflicts) }
+{
+    let clauses = u64::from(f.len());
+    let names = names_of(alloc, f, part)?;
+    let dense = dense_formula(alloc, f, part, &names)?;
+    let all = dense.positions(alloc)?;
+    let renaming = Renaming {
+        clauses,
+        part,
+        names: &names,
+    };
+    match general_kernel(alloc, &dense, all.as_slice(), conflicts)? {
+        General::Done(r) => Ok(General::Done(renaming.result(alloc, r)?)),
+        General::Unfinished(rounds) => Ok(General::Unfinished(renaming.rounds(alloc, rounds)?)),
+    }
+}

@@ -1,0 +1,79 @@
+//! General kernels of formulas, found by parts.
+ghost use Rattle.std.specs.Prelude.{◌<◌, ◌≤◌, ◌^◌, ◌↔◌, IsTrue};
+
+use crate::telling::text_of;
+use gate_samples::Meeting;
+use lk_model::Formula;
+use lk_outside::OpenGate;
+use lk_samples::formula_of_text;
+use par_parts::Gate;
+use part_kernels::{General, general_by_parts};
+use std::alloc::Global;
+use std::test::Fail;
+use std::thread::Threads;
+
+/// Whether so many clauses may be learned.
+pub(crate) fn is_budget(conflicts: u64) -> bool
+    ensures { IsTrue result ↔ ((0 < conflicts) × (conflicts < 2 ^ 63)) }
+{
+    0 < conflicts && conflicts < 1 << 63
+}
+
+/// What so many workers find.
+pub(crate) fn found<R: Threads + Sync, G: Gate>(
+    rt: &R,
+    alloc: Global,
+    gate: &G,
+    f: &Formula,
+    conflicts: u64,
+    workers: u32,
+) -> Result<General, Fail>
+    requires workers { 1 ≤ workers }
+{
+    if !is_budget(conflicts) {
+        return Err(Fail::from("no budget"));
+    }
+    Ok(general_by_parts(rt, alloc, gate, f, conflicts, workers)?)
+}
+
+/// Tells what one worker finds in the formula over n variables with the clauses of a text, and whether 2, 3
+/// and 8 workers find the same.
+pub(crate) fn tell_general<R: Threads + Sync>(
+    rt: &R,
+    alloc: Global,
+    n: u32,
+    conflicts: u64,
+    text: &str,
+    out: &mut String,
+) -> Result<(), Fail> {
+    let f = formula_of_text(alloc, n, text)?;
+    let first = text_of(alloc, &found(rt, alloc, &OpenGate, &f, conflicts, 1)?)?;
+    let mut same = true;
+    for workers in [2, 3, 8] {
+        let other = text_of(alloc, &found(rt, alloc, &OpenGate, &f, conflicts, workers)?)?;
+        same = same && other == first;
+    }
+    write!(out, "{first}= the same {same}\n")?;
+    Ok(())
+}
+
+/// Tells what two workers find, and whether their halves meet at a gate.
+pub(crate) fn tell_meeting<R: Threads + Sync>(
+    rt: &R,
+    alloc: Global,
+    n: u32,
+    conflicts: u64,
+    text: &str,
+    out: &mut String,
+) -> Result<(), Fail> {
+    let f = formula_of_text(alloc, n, text)?;
+    let gate = Meeting::new();
+    let text = text_of(alloc, &found(rt, alloc, &gate, &f, conflicts, 2)?)?;
+    writeln!(
+        out,
+        "{text}= entered {:?}; met {:?}",
+        gate.times(),
+        gate.met()
+    )?;
+    Ok(())
+}

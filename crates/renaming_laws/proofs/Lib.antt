@@ -1,0 +1,11 @@
+pub mod Mapped
+pub mod RenamedClauses
+pub mod RenamedChains
+pub mod RenamedRounds
+pub mod RenamedForms
+pub mod Told
+pub mod Copies
+pub mod Telling
+pub mod RenamedSets
+pub mod CopiedResults
+pub mod RenamingLaws

@@ -1,0 +1,62 @@
+-- A part of a formula under variables and positions numbered anew from 1, and what is found there told in the numbers of
+-- the formula.
+use Rattle.std.specs.Prelude.{◌≡◌, ℕ, ◌+◌, ◌-◌, ◌^◌, ◌<◌, List, map, length, slice_index_or, if◌then◌else◌, nat_le, ℤ, IsTrue}
+use Rattle.lk_model.specs.Lists.{rises_within}
+use Rattle.lk_model.specs.Formulas.Literal.{variable, is_positive, literal_of}
+use Rattle.lk_model.specs.Formulas.Formula.{Cnf, is_formula, positions_of, clauses_at}
+use Rattle.lk_model.specs.Formulas.Lean.{are_positions}
+use Rattle.lk_model.specs.Documents.Documents.{steps_of}
+use Rattle.lk_model.specs.declared.document.Turn.{Turn}
+use Rattle.lk_model.specs.declared.document.Step.{Step}
+use Rattle.lk_model.specs.declared.document.Round.{Round}
+use Rattle.lk_model.specs.declared.result.GeneralResult.{GeneralResult}
+use Rattle.general_kernel.specs.Found.{IsDone, IsUnfinished}
+
+-- what stands at a place that counts from 1
+abbrev pub nth : List ℕ → ℕ → ℕ
+nth ns k = slice_index_or ns (k - 1) 0
+
+-- the literal on the variable of that name
+abbrev pub named : List ℕ → ℤ → ℤ
+named names l = literal_of (nth names (variable l)) (is_positive l)
+
+-- G has the clauses of F at the positions of the part, in their order, under the numbers of these names, which ascend
+pub record IsDense (F : Cnf) (part names : List ℕ) (G : Cnf) : Type 0 where
+  pub ascend : IsTrue (rises_within 0 F.vars names)
+  pub vars : G.vars ≡ length names
+  pub formula : IsTrue (is_formula G)
+  pub clauses : map (map (named names)) G.clauses ≡ (clauses_at F part).clauses
+
+-- A number in a chain, told for a formula of m clauses: a position of the part, or a step, whose numbers count on from m.
+abbrev pub number_in : List ℕ → ℕ → ℕ → ℕ
+number_in part m k = if nat_le k (length part) then nth part k else (k - length part + m)
+
+abbrev pub renamed_turn : ℕ → List ℕ → List ℕ → Turn → Turn
+renamed_turn m part names t = record { lit = named names t.lit; with = number_in part m t.with }
+
+abbrev pub renamed_step : ℕ → List ℕ → List ℕ → Step → Step
+renamed_step m part names s = record {
+  number = number_in part m s.number;
+  clause = map (named names) s.clause;
+  first = number_in part m s.first;
+  turns = map (renamed_turn m part names) s.turns;
+}
+
+abbrev pub renamed_round : ℕ → List ℕ → List ℕ → Round → Round
+renamed_round m part names r = record { steps = map (renamed_step m part names) r.steps }
+
+abbrev pub renamed_result : ℕ → List ℕ → List ℕ → GeneralResult → GeneralResult
+renamed_result m part names r = record {
+  kept = map (nth part) r.kept;
+  set = map (named names) r.set;
+  rounds = map (renamed_round m part names) r.rounds;
+}
+
+-- What is found in all of G is, told in the numbers of F, what is found in the part. The numbers of the steps have 64 bits.
+pub record RenamingLaw : Type 0 where
+  pub done : (F G : Cnf) (part names : List ℕ) (conflicts : ℕ) (r : GeneralResult) → IsTrue (is_formula F) → IsTrue (are_positions F part)
+      → IsDense F part names G → length F.clauses + length (steps_of r.rounds) < 2 ^ 64
+      → IsDone G (positions_of G) conflicts r → IsDone F part conflicts (renamed_result (length F.clauses) part names r)
+  pub unfinished : (F G : Cnf) (part names : List ℕ) (conflicts : ℕ) (rounds : List Round) → IsTrue (is_formula F) → IsTrue (are_positions F part)
+      → IsDense F part names G → length F.clauses + length (steps_of rounds) < 2 ^ 64
+      → IsUnfinished G (positions_of G) conflicts rounds → IsUnfinished F part conflicts (map (renamed_round (length F.clauses) part names) rounds)

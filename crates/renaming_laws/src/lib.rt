@@ -1,0 +1,6 @@
+//! The law that a part of a formula may be worked on under numbers of its own.
+#![tactic(auto)]
+
+mod laws;
+
+pub use laws::renaming_law;
