@@ -2,9 +2,11 @@
 //
 //     pure_strip reduce FORMULA
 //     pure_strip check FORMULA DOCUMENT
+//     pure_strip read FORMULA
 //
 // `reduce` writes the bytes that `leank reduce pure` writes. `check` reads the document of such a formula and
-// makes the same checks, but trusts that the document is in form; it writes what `leank check` writes.
+// makes the same checks, but trusts that the document is in form; it writes what `leank check` writes. `read`
+// reads a formula alone.
 #include <algorithm>
 #include <charconv>
 #include <cstdint>
@@ -265,6 +267,10 @@ int main(int count, char** words) {
     if (count == 3 && std::strcmp(words[1], "reduce") == 0) {
         const Formula f = formula_of(bytes_of(words[2]));
         return document(f, kernel_of(f)).put() ? 0 : 4;
+    }
+    if (count == 3 && std::strcmp(words[1], "read") == 0) {
+        const Formula f = formula_of(bytes_of(words[2]));
+        return std::printf("%u %zu\n", f.clauses(), f.literals.size()) < 0;
     }
     if (count == 4 && std::strcmp(words[1], "check") == 0) {
         const Formula f = formula_of(bytes_of(words[2]));

@@ -21,7 +21,7 @@ small_part F part r w = let a = rising_length 0 (length F.clauses) part (omega a
 pub position_in : (F : Cnf) (part : List ℕ) (i : ℕ) → IsTrue (are_positions F part) → i < length part → (0 < get_or part i 0) × (get_or part i 0 ≤ length F.clauses)
 position_in F part i r h = rising_bounds 0 (length F.clauses) part i r h
 
-mentions_at : (c : List ℤ) (k : ℕ) → k < length c → mentions c (variable (get_or c k (pos 0))) ≡ true
+pub mentions_at : (c : List ℤ) (k : ℕ) → k < length c → mentions c (variable (get_or c k (pos 0))) ≡ true
 mentions_at [] k h = absurd (omega (arith, h))
 mentions_at (l ∷ c) zero h = or_left (variable l == variable l) (mentions c (variable l)) (eq-eqb (variable l) (variable l) refl)
 mentions_at (l ∷ c) (suc k) h = or_right (variable l == variable (get_or c k (pos 0))) _ (mentions_at c k (omega (arith, h)))

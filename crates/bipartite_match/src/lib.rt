@@ -5,6 +5,7 @@
 mod matching;
 mod mates;
 mod paths;
+mod rarest;
 mod search;
 mod walk;
 

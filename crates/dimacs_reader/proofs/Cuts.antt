@@ -1,12 +1,11 @@
 -- Words and lines, one byte after the other.
-use Rattle.std.proofs.Common.{◌≡◌, ℕ, ◌+◌, ◌-◌, ◌<◌, ◌≤◌, ◌∙◌, Bool, true, false, not, cond, ◌&&◌, List, [], ◌∷◌, ◌++◌, length, refl, sym, ap, arith, inl, inr}
+use Rattle.std.proofs.Common.{◌≡◌, ℕ, ◌+◌, ◌-◌, ◌<◌, ◌∙◌, Bool, true, false, not, cond, ◌&&◌, List, [], ◌∷◌, ◌++◌, length, refl, ap, arith, inl, inr}
 use Rattle.std.specs.Prelude.{filter}
-use Rattle.std.specs.List.{slice_split, onto_first, list_all}
+use Rattle.std.specs.List.{slice_split, onto_first}
 use Rattle.std.proofs.lemmas.Bool.{cases_Bool}
-use Rattle.std.proofs.lemmas.List.{append-nil}
 use Rattle.std.proofs.lemmas.List.Splits.{slice_split_at, slice_split_none, slice_split-cons_yes}
 use Rattle.lk_model.specs.Lists.{is_empty}
-use Rattle.lk_model.specs.Texts.Lines.{Piece, Word, is_newline, is_blank, placed_after, words_of, texts}
+use Rattle.lk_model.specs.Texts.Lines.{Piece, Word, is_blank, placed_after, words_of, texts}
 use Rattle.lk_model.proofs.ListTests.{none_pass}
 use Rattle.dimacs_reader.specs.Contents.{words_in, words_after, has_no_blank}
 use Rattle.dimacs_reader.proofs.NumberLemmas.{split_part, HasPart}

@@ -1,5 +1,5 @@
 -- No fault of a text that has not been told must have been told.
-use Rattle.std.proofs.Common.{◌≡◌, ℕ, ◌+◌, ◌<◌, ◌≤◌, ◌∙◌, Bool, true, false, cond, not, ◌||◌, ◌&&◌, List, [], ◌∷◌, ◌++◌, length, Option, Some, None, refl, sym, ap, subst, arith, ℤ, nat_lt, nat_le}
+use Rattle.std.proofs.Common.{◌≡◌, ℕ, ◌+◌, ◌∙◌, Bool, true, false, cond, not, ◌||◌, ◌&&◌, List, [], ◌∷◌, ◌++◌, length, Option, Some, None, refl, sym, ap, subst, arith, ℤ, nat_lt, nat_le}
 use Rattle.std.specs.Prelude.{count_by}
 use Rattle.std.proofs.lemmas.Bool.{le-ltb, lt-leb}
 use Rattle.lk_model.specs.Formulas.Literal.{variable}
@@ -11,10 +11,10 @@ use Rattle.lk_model.specs.Texts.Dimacs.{stated_by, runs_of}
 use Rattle.lk_model.specs.Texts.Fault.{fault_if, number_faults, word_faults, numbers_of}
 use Rattle.lk_model.specs.declared.text_fault.Fault.{Fault}
 use Rattle.lk_model.specs.declared.text_fault.FaultKind.{FaultKind}
-use Rattle.lk_model.specs.declared.text_fault.FaultKind.TheVariants.{NoHeader, BadHeader, SecondHeader, BadToken, BeyondStated, TooManyClauses, TooFewClauses, Limit, TooLong}
+use Rattle.lk_model.specs.declared.text_fault.FaultKind.TheVariants.{NoHeader, BadHeader, BadToken, BeyondStated, TooManyClauses, TooFewClauses, Limit}
 use Rattle.dimacs_reader.specs.Contents.{words_in}
 use Rattle.dimacs_reader.specs.Faults.{is_due, shows_at_once}
-use Rattle.dimacs_reader.specs.FirstFaults.{first_or, fault_among}
+use Rattle.dimacs_reader.specs.FirstFaults.{first_or}
 use Rattle.dimacs_reader.specs.Outcomes.{Outcome, Faulty, Written, end_outcome, fault_or, outcome_behind, outcome_of_words, problem_outcome, text_outcome}
 use Rattle.dimacs_reader.specs.Stages.{Stands, StandsInHead, StandsInNumbers}
 use Rattle.dimacs_reader.specs.declared.clauses.ReadState.{ReadState}

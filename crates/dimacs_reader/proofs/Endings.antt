@@ -1,19 +1,18 @@
 -- Where a text ends.
-use Rattle.std.proofs.Common.{◌≡◌, ℕ, ◌+◌, ◌-◌, ◌<◌, ◌≤◌, ◌∙◌, Bool, true, false, cond, List, [], ◌∷◌, ◌++◌, length, Option, Some, None, refl, sym, ap, subst, arith, nat_lt}
+use Rattle.std.proofs.Common.{◌≡◌, ℕ, ◌+◌, ◌≤◌, ◌∙◌, Bool, true, false, cond, List, [], ◌∷◌, ◌++◌, length, Some, None, refl, sym, ap, subst, arith, nat_lt}
 use Rattle.std.specs.Prelude.{flat_map}
-use Rattle.std.specs.List.{slice_split}
 use Rattle.std.proofs.lemmas.List.{append-nil}
 use Rattle.lk_model.specs.Limits.{max_vars, max_clauses, max_bytes}
 use Rattle.lk_model.specs.Formulas.Formula.{Cnf}
-use Rattle.lk_model.specs.Texts.Lines.{Piece, Word, is_newline, placed_after, line_number, texts}
+use Rattle.lk_model.specs.Texts.Lines.{Piece, Word, line_number}
 use Rattle.lk_model.specs.Texts.Dimacs.{Spells, stated_by, runs_of}
 use Rattle.lk_model.specs.Texts.Fault.{numbers_of}
 use Rattle.lk_model.specs.declared.text_fault.Fault.{Fault}
 use Rattle.lk_model.specs.declared.text_fault.FaultKind.TheVariants.{NoHeader, TooFewClauses}
-use Rattle.dimacs_reader.specs.Contents.{words_in, content_of, IsWritten}
+use Rattle.dimacs_reader.specs.Contents.{words_in, IsWritten}
 use Rattle.dimacs_reader.specs.Faults.{ForFault}
 use Rattle.dimacs_reader.specs.FirstFaults.{fault_at_end}
-use Rattle.dimacs_reader.specs.Outcomes.{Outcome, Faulty, Written, end_outcome, outcome_behind, outcome_of_words, problem_outcome, text_outcome}
+use Rattle.dimacs_reader.specs.Outcomes.{Outcome, Faulty, Written, end_outcome, outcome_of_words, problem_outcome, text_outcome}
 use Rattle.dimacs_reader.specs.ProblemLines.{IsLineSoFar, problem_line_kind}
 use Rattle.dimacs_reader.specs.ReadStates.{HasRead, Leads, HasFault, Writes, HasFaultAtEnd, fault_in}
 use Rattle.dimacs_reader.specs.Stages.{StandsInHead, StandsInNumbers, EndsAs, IsMetAtEnd}

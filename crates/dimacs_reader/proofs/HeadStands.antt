@@ -1,23 +1,22 @@
 -- Where a text stands before the numbers, behind one more byte.
-use Rattle.std.proofs.Common.{◌≡◌, ◌≢◌, ℕ, ◌+◌, ◌-◌, ◌<◌, ◌≤◌, ◌∙◌, Bool, true, false, cond, List, [], ◌∷◌, ◌++◌, length, take, Option, Some, None, refl, sym, ap, subst, arith, length-append}
+use Rattle.std.proofs.Common.{◌≡◌, ℕ, ◌+◌, ◌-◌, ◌≤◌, ◌∙◌, Bool, true, false, cond, List, [], ◌∷◌, ◌++◌, length, take, Some, refl, sym, ap, subst, arith, length-append}
 use Rattle.std.specs.Prelude.{count_by, sum_by}
 use Rattle.std.specs.List.{slice_split}
 use Rattle.std.proofs.lemmas.List.{take_all, take-append-le}
 use Rattle.std.proofs.lemmas.List.Sums.{sum_by-cons, sum_by-append}
 use Rattle.lk_model.specs.Limits.{max_vars, max_clauses}
-use Rattle.lk_model.specs.Texts.Lines.{Piece, is_newline, is_blank, placed_after, line_number}
+use Rattle.lk_model.specs.Texts.Lines.{is_newline, is_blank, placed_after, line_number}
 use Rattle.lk_model.specs.Texts.Dimacs.{stated_by}
 use Rattle.lk_model.specs.declared.text_fault.Fault.{Fault}
-use Rattle.lk_model.specs.declared.text_fault.FaultKind.TheVariants.{NoHeader}
 use Rattle.dimacs_reader.specs.Contents.{words_in}
 use Rattle.dimacs_reader.specs.Outcomes.{Outcome, Faulty, outcome_behind, problem_outcome, text_outcome}
 use Rattle.dimacs_reader.specs.ProblemLines.{IsLineSoFar, problem_line_kind}
-use Rattle.dimacs_reader.specs.Stages.{IsInLine, IsHeadPart, StandsInHead, StandsBehind, IsMet, head_outcome}
+use Rattle.dimacs_reader.specs.Stages.{IsInLine, IsHeadPart, StandsInHead, StandsBehind, IsMet}
 use Rattle.dimacs_reader.specs.declared.head.HeadLine.{HeadLine}
 use Rattle.dimacs_reader.specs.declared.head.HeadLine.TheVariants as head
 use Rattle.dimacs_reader.specs.declared.problem.ProblemLine.{ProblemLine}
 use Rattle.dimacs_reader.specs.declared.problem.ProblemLine.TheVariants.{P}
-use Rattle.dimacs_reader.proofs.HeadSteps.{head_rest, next_rest, start_newline, start_blank, start_comment, start_problem, start_other, comment_newline, comment_other, problem_other, problem_newline, problem_at_fault, problem_passes}
+use Rattle.dimacs_reader.proofs.HeadSteps.{head_rest, next_rest, start_blank, start_problem, comment_other, problem_other, problem_newline, problem_at_fault, problem_passes}
 
 -- LINE NUMBERS
 
@@ -72,29 +71,12 @@ problem_goes_on p q fed b e step h =
     let so = h.is_part in
     steps fed b (head.Problem p) (head.Problem q) (h.part ++ b ∷ []) h (λ more. problem_other (length fed) b more h.part p q e) (step h.part so.0, in_line fed b e)
 
-pub comment_goes_on : (fed : List ℕ) (b : ℕ) → is_newline b ≡ false → StandsInHead fed head.Comment → StandsInHead (fed ++ b ∷ []) head.Comment
-comment_goes_on fed b e h = steps fed b head.Comment head.Comment h.part h (λ more. comment_other (length fed) b more h.part e) tt
-
-pub comment_begins : (fed : List ℕ) (b : ℕ) → is_newline b ≡ false → is_blank b ≡ false → b ≡ 99 → StandsInHead fed head.Start → StandsInHead (fed ++ b ∷ []) head.Comment
-comment_begins fed b e no_blank c h = steps fed b head.Start head.Comment [] h (λ more. start_comment (length fed) b more [] e no_blank c) tt
-
 pub problem_begins : (fed : List ℕ) (b : ℕ) → is_newline b ≡ false → is_blank b ≡ false → b ≡ 112 → StandsInHead fed head.Start → StandsInHead (fed ++ b ∷ []) (head.Problem P)
 problem_begins fed b e no_blank c h =
     steps fed b head.Start (head.Problem P) (b ∷ []) h (λ more. start_problem (length fed) b more P e no_blank c)
     (subst (λ (x : ℕ). IsLineSoFar (x ∷ []) P) (sym c) (λ more. refl), in_line fed b e)
 
-pub other_begins : (fed : List ℕ) (b : ℕ) (f : Fault) → is_newline b ≡ false → is_blank b ≡ false → b ≢ 99 → b ≢ 112 → f ≡ record { kind = NoHeader; place = length fed + 1 }
-    → StandsInHead fed head.Start → IsMet fed b f
-other_begins fed b f e no_blank no_comment no_problem is h =
-    subst (λ (g : Fault). IsMet fed b g) (sym is)
-    (met_at fed b (record { kind = NoHeader; place = length fed + 1 }) (head_rest head.Start h.part) refl h.rest (λ more. start_other (length fed) b more e no_blank no_comment no_problem))
-
 -- THE END OF A LINE
-
-pub line_ends : (line : HeadLine) → ((p : ProblemLine) → line ≡ head.Problem p → ⊥) → (fed : List ℕ) → StandsInHead fed line → StandsInHead (fed ++ 10 ∷ []) head.Start
-line_ends head.Start other fed h = steps fed 10 head.Start head.Start [] h (λ more. start_newline (length fed) 10 more refl) tt
-line_ends head.Comment other fed h = steps fed 10 head.Comment head.Start [] h (λ more. comment_newline (length fed) 10 more h.part refl) tt
-line_ends (head.Problem p) other fed h = absurd (other p refl)
 
 -- what a text comes to where the problem line ends
 line_ended : (fed : List ℕ) (p : ProblemLine) (h : StandsInHead fed (head.Problem p)) (more : List ℕ)

@@ -1,17 +1,16 @@
 -- Before the numbers, one byte after the other.
-use Rattle.std.proofs.Common.{◌≡◌, ◌≢◌, ℕ, ◌+◌, ◌-◌, ◌<◌, ◌≤◌, ◌∙◌, Bool, true, false, not, cond, ◌||◌, ◌==◌, List, [], ◌∷◌, ◌++◌, length, Option, Some, None, refl, sym, ap, arith, inl, inr, append_assoc, length-append, nat_lt}
+use Rattle.std.proofs.Common.{◌≡◌, ℕ, ◌+◌, ◌-◌, ◌≤◌, ◌∙◌, Bool, true, false, cond, ◌||◌, List, [], ◌∷◌, ◌++◌, length, Option, Some, None, refl, sym, ap, arith, append_assoc, length-append, nat_lt}
 use Rattle.std.specs.List.{slice_split}
-use Rattle.std.proofs.lemmas.Bool.{cases_Bool, eqb-true, eq-eqb, le-ltb}
+use Rattle.std.proofs.lemmas.Bool.{le-ltb}
 use Rattle.std.proofs.lemmas.List.{append-nil}
 use Rattle.std.proofs.lemmas.List.Splits.{slice_split-cons_yes}
 use Rattle.lk_model.specs.Limits.{max_vars, max_clauses}
 use Rattle.lk_model.specs.Texts.Lines.{Piece, Word, is_newline, is_blank, placed_after, words_of, texts}
 use Rattle.lk_model.specs.Texts.Dimacs.{stated_by}
-use Rattle.lk_model.specs.declared.text_fault.Fault.{Fault}
 use Rattle.lk_model.specs.declared.text_fault.FaultKind.{FaultKind}
-use Rattle.lk_model.specs.declared.text_fault.FaultKind.TheVariants.{NoHeader, BadHeader, Limit}
+use Rattle.lk_model.specs.declared.text_fault.FaultKind.TheVariants.{BadHeader, Limit}
 use Rattle.dimacs_reader.specs.Contents.{words_in, words_after}
-use Rattle.dimacs_reader.specs.LineKinds.{LineKind, Skipped, EndMark, Problem, Numbers, kind_at, kind_by}
+use Rattle.dimacs_reader.specs.LineKinds.{LineKind, kind_at, kind_by}
 use Rattle.dimacs_reader.specs.Outcomes.{Outcome, Faulty, outcome_behind, problem_outcome, first_line_outcome, outcome_from, text_outcome}
 use Rattle.dimacs_reader.specs.ProblemLines.{problem_line_kind}
 use Rattle.dimacs_reader.specs.Stages.{head_outcome}
@@ -19,7 +18,7 @@ use Rattle.dimacs_reader.specs.declared.head.HeadLine.{HeadLine}
 use Rattle.dimacs_reader.specs.declared.head.HeadLine.TheVariants as head
 use Rattle.dimacs_reader.specs.declared.problem.ProblemLine.{ProblemLine}
 use Rattle.dimacs_reader.proofs.NumberLemmas.{split_part, HasPart}
-use Rattle.dimacs_reader.proofs.Cuts.{piece, split_on, blank_first, Begins, begins, words_of_line, words_texts}
+use Rattle.dimacs_reader.proofs.Cuts.{piece, split_on, blank_first, begins, words_of_line, words_texts}
 
 -- ONE BYTE MORE
 
@@ -56,11 +55,6 @@ first_line n b bs o e =
     ap (λ (parts : List (List ℕ)). outcome_from (placed_after n parts) (n + length (b ∷ bs) + 1)) (split_on is_newline b bs o e)
     ∙ ap (λ (ws : List Piece). with_words ws (n + length line) (placed_after (n + length line + 1) o.1) (n + length (b ∷ bs) + 1)) (words_of_line n line)
 
-pub start_newline : (n b : ℕ) (bs : List ℕ) → is_newline b ≡ true → head_rest head.Start [] n (b ∷ bs) ≡ head_rest head.Start [] (n + 1) bs
-start_newline n b bs e =
-    ap (λ (parts : List (List ℕ)). outcome_from (placed_after n parts) (n + length (b ∷ bs) + 1)) (slice_split-cons_yes is_newline b bs e)
-    ∙ moved (λ m over. outcome_from (placed_after m (slice_split is_newline bs)) over) (n + 0 + 1) (n + 1) (n + length (b ∷ bs) + 1) (n + 1 + length bs + 1) (omega arith) (omega arith)
-
 pub start_blank : (n b : ℕ) (bs : List ℕ) → is_newline b ≡ false → is_blank b ≡ true → head_rest head.Start [] n (b ∷ bs) ≡ head_rest head.Start [] (n + 1) bs
 start_blank n b bs e h =
     let o = split_part is_newline bs in
@@ -85,15 +79,6 @@ start_word n b bs o e h =
     ∙ ap (λ (k : LineKind). with_kind k (texts (words_after n line)) (n + length line) lines over) kind
     ∙ ap (λ (ws : List Word). with_kind (kind_at b (n + 1)) ws (n + length line) lines over) (words_texts n line)
 
-pub start_comment : (n b : ℕ) (bs part : List ℕ) → is_newline b ≡ false → is_blank b ≡ false → b ≡ 99 → head_rest head.Start [] n (b ∷ bs) ≡ head_rest head.Comment part (n + 1) bs
-start_comment n b bs part e h c =
-    let o = split_part is_newline bs in
-    let over = n + length (b ∷ bs) + 1 in
-    start_word n b bs o e h
-    ∙ ap (λ (x : ℕ). with_kind (kind_at x (n + 1)) (words_in (b ∷ o.0)) (n + length (b ∷ o.0)) (placed_after (n + length (b ∷ o.0) + 1) o.1) over) c
-    ∙ moved (λ m k. outcome_from (placed_after m o.1) k) (n + length (b ∷ o.0) + 1) (n + 1 + length o.0 + 1) over (n + 1 + length bs + 1) (omega arith) (omega arith)
-    ∙ ap (λ (parts : List (List ℕ)). head_outcome head.Comment part (n + 1) parts (n + 1 + length bs + 1)) (sym o.2)
-
 pub start_problem : (n b : ℕ) (bs : List ℕ) (p : ProblemLine) → is_newline b ≡ false → is_blank b ≡ false → b ≡ 112
     → head_rest head.Start [] n (b ∷ bs) ≡ head_rest (head.Problem p) (b ∷ []) (n + 1) bs
 start_problem n b bs p e h c =
@@ -104,28 +89,7 @@ start_problem n b bs p e h c =
     ∙ moved (λ m k. problem_outcome (stated_by (words_in (b ∷ o.0))) m (placed_after (m + 1) o.1) k) (n + length (b ∷ o.0)) (n + 1 + length o.0) over (n + 1 + length bs + 1) (omega arith) (omega arith)
     ∙ ap (λ (parts : List (List ℕ)). head_outcome (head.Problem p) (b ∷ []) (n + 1) parts (n + 1 + length bs + 1)) (sym o.2)
 
-pub start_other : (n b : ℕ) (bs : List ℕ) → is_newline b ≡ false → is_blank b ≡ false → b ≢ 99 → b ≢ 112
-    → head_rest head.Start [] n (b ∷ bs) ≡ Faulty (record { kind = NoHeader; place = n + 1 })
-start_other n b bs e h no_comment no_problem =
-    let o = split_part is_newline bs in
-    start_word n b bs o e h ∙ by_tests (b == 37) (b == 99) (b == 112) _ _ (not_equal b 99 no_comment) (not_equal b 112 no_problem)
-  where
-    not_equal : (x y : ℕ) → x ≢ y → (x == y) ≡ false
-    not_equal x y ne = elim (cases_Bool (x == y)) [ inl t ↦ absurd (ne (eqb-true x y t)) | inr t ↦ t ]
-
-    by_tests : (mark skipped problem : Bool) (a c : Outcome) → skipped ≡ false → problem ≡ false
-        → first_line_outcome (cond mark (EndMark (n + 1)) (cond skipped Skipped (cond problem (Problem (n + 1)) (Numbers (n + 1))))) a c ≡ Faulty (record { kind = NoHeader; place = n + 1 })
-    by_tests true skipped problem a c s p = refl
-    by_tests false true problem a c s p = absurd (let f : ⊥ = cc in f)
-    by_tests false false true a c s p = absurd (let f : ⊥ = cc in f)
-    by_tests false false false a c s p = refl
-
 -- COMMENTS
-
-pub comment_newline : (n b : ℕ) (bs part : List ℕ) → is_newline b ≡ true → head_rest head.Comment part n (b ∷ bs) ≡ head_rest head.Start [] (n + 1) bs
-comment_newline n b bs part e =
-    ap (λ (parts : List (List ℕ)). head_outcome head.Comment part n parts (n + length (b ∷ bs) + 1)) (slice_split-cons_yes is_newline b bs e)
-    ∙ moved (λ m over. outcome_from (placed_after m (slice_split is_newline bs)) over) (n + 0 + 1) (n + 1) (n + length (b ∷ bs) + 1) (n + 1 + length bs + 1) (omega arith) (omega arith)
 
 pub comment_other : (n b : ℕ) (bs part : List ℕ) → is_newline b ≡ false → head_rest head.Comment part n (b ∷ bs) ≡ head_rest head.Comment part (n + 1) bs
 comment_other n b bs part e =

@@ -6,7 +6,7 @@ use Rattle.lk_model.specs.Lists.{is_empty}
 use Rattle.lk_model.specs.Texts.Lines.{Piece, is_blank, placed_after, words_of}
 use Rattle.lk_model.specs.Texts.Fault.{word_faults}
 use Rattle.lk_model.specs.declared.text_fault.Fault.{Fault}
-use Rattle.dimacs_reader.specs.LineKinds.{LineKind, Skipped, EndMark, Problem, Numbers, kind_by}
+use Rattle.dimacs_reader.specs.LineKinds.{Skipped, EndMark, Problem, Numbers, kind_by}
 use Rattle.dimacs_reader.specs.FirstFaults.{first_or, fault_among}
 use Rattle.dimacs_reader.proofs.Least.{At}
 use Rattle.dimacs_reader.proofs.Placing.{AreWords, room, room_split, placed, not_empty_words}

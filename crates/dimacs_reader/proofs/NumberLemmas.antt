@@ -1,5 +1,5 @@
 -- Numbers, cut into runs at each 0, and literals without repeats.
-use Rattle.std.proofs.Common.{◌≡◌, ◌+◌, ◌≤◌, ◌∙◌, Bool, true, false, not, cond, ◌&&◌, ◌||◌, List, [], ◌∷◌, ◌++◌, length, refl, sym, ap, arith, inl, inr, ℤ, append_assoc}
+use Rattle.std.proofs.Common.{◌≡◌, ◌+◌, ◌∙◌, Bool, true, false, not, cond, ◌&&◌, ◌||◌, List, [], ◌∷◌, ◌++◌, length, refl, sym, ap, arith, inl, inr, ℤ, append_assoc}
 use Rattle.std.specs.Prelude.{filter, count_by}
 use Rattle.std.specs.Ordering.{int_eq}
 use Rattle.std.specs.List.{slice_split, onto_first}
@@ -7,7 +7,7 @@ use Rattle.std.proofs.lemmas.Bool.{cases_Bool}
 use Rattle.std.proofs.lemmas.Bool.Decides.{Decides-int_eq}
 use Rattle.std.proofs.lemmas.List.{append-nil}
 use Rattle.std.proofs.lemmas.List.Elements.{filter-append}
-use Rattle.std.proofs.lemmas.List.Sums.{sum_by-cons, length-filter, count_by-le-length}
+use Rattle.std.proofs.lemmas.List.Sums.{sum_by-cons}
 use Rattle.lk_model.specs.Lists.{is_empty, is_zero}
 use Rattle.lk_model.specs.Formulas.Literal.{contains}
 use Rattle.lk_model.specs.Texts.Dimacs.{without_empty_last, without_repeats}
@@ -167,17 +167,6 @@ repeats-more (l ∷ ls) x =
     or_either : (a b : Bool) → b ≡ true → (a || b) ≡ true
     or_either true b e = refl
     or_either false b e = e
-
--- no more literals than numbers
-pub repeats-length : (ls : List ℤ) → length (without_repeats ls) ≤ length ls
-repeats-length [] = omega arith
-repeats-length (l ∷ ls) =
-    let rest = repeats-length ls in
-    let less = filter-length (λ k. not (int_eq l k)) (without_repeats ls) in
-    omega (arith, rest, less)
-  where
-    filter-length : (t : ℤ → Bool) (c : List ℤ) → length (filter t c) ≤ length c
-    filter-length t c = omega (arith, length-filter t c, count_by-le-length t c)
 
 -- a list without repeats is empty where the list is
 pub repeats-empty : (ls : List ℤ) → is_empty (without_repeats ls) ≡ is_empty ls

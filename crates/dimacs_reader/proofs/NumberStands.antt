@@ -1,6 +1,6 @@
 -- Where a text stands behind the problem line, behind one more byte.
-use Rattle.std.proofs.Common.{◌≡◌, ◌≢◌, ℕ, ◌+◌, ◌-◌, ◌<◌, ◌≤◌, ◌∙◌, Bool, true, false, not, cond, ◌&&◌, List, [], ◌∷◌, ◌++◌, length, Option, Some, None, refl, sym, ap, subst, arith, length-append, nat_lt}
-use Rattle.std.specs.List.{slice_split, list_all}
+use Rattle.std.proofs.Common.{◌≡◌, ◌≢◌, ℕ, ◌+◌, ◌∙◌, Bool, true, false, not, cond, ◌&&◌, List, [], ◌∷◌, ◌++◌, length, Some, refl, sym, ap, subst, arith, length-append, nat_lt}
+use Rattle.std.specs.List.{slice_split}
 use Rattle.std.proofs.lemmas.Bool.{and_from}
 use Rattle.std.proofs.lemmas.List.{append-nil}
 use Rattle.std.proofs.lemmas.List.Folds.{list_all-append}
@@ -8,26 +8,24 @@ use Rattle.lk_model.specs.Texts.Lines.{Piece, is_newline, is_blank, placed_after
 use Rattle.lk_model.specs.Texts.Dimacs.{runs_of}
 use Rattle.lk_model.specs.Texts.Fault.{numbers_of}
 use Rattle.lk_model.specs.declared.text_fault.Fault.{Fault}
-use Rattle.lk_model.specs.declared.text_fault.FaultKind.TheVariants.{SecondHeader, TooFewClauses}
-use Rattle.dimacs_reader.specs.Contents.{has_no_blank}
-use Rattle.dimacs_reader.specs.FirstFaults.{fault_among}
-use Rattle.dimacs_reader.specs.Outcomes.{Outcome, Faulty, Written, end_outcome, outcome_behind, outcome_of_words, text_outcome}
-use Rattle.dimacs_reader.specs.ReadStates.{HasRead, Leads, HasFault, fault_in, is_short_of}
+use Rattle.lk_model.specs.declared.text_fault.FaultKind.TheVariants.{TooFewClauses}
+use Rattle.dimacs_reader.specs.Outcomes.{Outcome, Faulty, Written, end_outcome, outcome_behind, text_outcome}
+use Rattle.dimacs_reader.specs.ReadStates.{Leads, HasFault, fault_in, is_short_of}
 use Rattle.dimacs_reader.specs.Faults.{ForFault}
 use Rattle.dimacs_reader.specs.Words.{IsWordSoFar}
 use Rattle.dimacs_reader.specs.declared.stop.Stop.{Stop}
 use Rattle.dimacs_reader.specs.declared.stop.Stop.TheVariants as stop
-use Rattle.dimacs_reader.specs.Stages.{IsInLine, IsNextPart, IsNumberPart, StandsBehind, StandsInNumbers, IsMet, number_outcome}
+use Rattle.dimacs_reader.specs.Stages.{IsInLine, IsNextPart, IsNumberPart, StandsInNumbers, IsMet}
 use Rattle.dimacs_reader.specs.declared.clauses.ReadState.{ReadState}
 use Rattle.dimacs_reader.specs.declared.numbers.NumberLine.{NumberLine}
 use Rattle.dimacs_reader.specs.declared.numbers.NumberLine.TheVariants as numbers
 use Rattle.dimacs_reader.specs.declared.word.WordSoFar.{WordSoFar}
 use Rattle.dimacs_reader.proofs.Cuts.{piece}
 use Rattle.dimacs_reader.proofs.HeadSteps.{next_rest}
-use Rattle.dimacs_reader.proofs.HeadStands.{next_line, in_line, met_at}
+use Rattle.dimacs_reader.proofs.HeadStands.{in_line, met_at}
 use Rattle.dimacs_reader.proofs.WordFaults.{fault_place}
 use Rattle.dimacs_reader.proofs.StateLemmas.{short_read}
-use Rattle.dimacs_reader.proofs.NumberSteps.{number_rest, start_newline, start_blank, start_comment, start_problem, start_end, start_number, comment_newline, comment_other, gap_newline, gap_blank, gap_word, word_taken, word_at_fault, word_newline, word_end, WordAndLine, word_blank, word_more}
+use Rattle.dimacs_reader.proofs.NumberSteps.{number_rest, start_newline, start_blank, start_end, start_number, comment_newline, comment_other, gap_newline, gap_blank, gap_word, word_taken, word_at_fault, word_newline, word_blank, word_more}
 
 -- the outcome of the bytes behind so many, over what a state read
 abbrev rest_in : ReadState → NumberLine → List Piece → List ℕ → ℕ → List ℕ → Outcome
@@ -56,20 +54,10 @@ one_byte fed b e h = record {
 
 -- THE START OF A LINE
 
-pub comment_begins : (fed : List ℕ) (b : ℕ) (state : ReadState) → is_newline b ≡ false → is_blank b ≡ false → b ≡ 99 → StandsInNumbers fed state numbers.Start → StandsInNumbers (fed ++ b ∷ []) state numbers.Comment
-comment_begins fed b state e no_blank c h =
-    steps fed b state numbers.Start numbers.Comment h.word h (λ more. start_comment state.formula.vars state.stated h.earlier (length fed) b more h.word e no_blank c) tt
-
 pub number_begins : (fed : List ℕ) (b : ℕ) (state : ReadState) (w : WordSoFar) → is_newline b ≡ false → is_blank b ≡ false → b ≢ 99 → b ≢ 112 → b ≢ 37 → IsWordSoFar (b ∷ []) w
     → StandsInNumbers fed state numbers.Start → StandsInNumbers (fed ++ b ∷ []) state (numbers.Word w)
 number_begins fed b state w e no_blank n1 n2 n3 so h =
     steps fed b state numbers.Start (numbers.Word w) (b ∷ []) h (λ more. start_number state.formula.vars state.stated h.earlier (length fed) b more w e no_blank n1 n2 n3) (so, one_byte fed b e no_blank)
-
-pub problem_met : (fed : List ℕ) (b : ℕ) (state : ReadState) (f : Fault) → is_newline b ≡ false → is_blank b ≡ false → b ≡ 112 → f ≡ record { kind = SecondHeader; place = length fed + 1 }
-    → StandsInNumbers fed state numbers.Start → IsMet fed b f
-problem_met fed b state f e no_blank c is h =
-    subst (λ (g : Fault). IsMet fed b g) (sym is)
-    (met_at fed b (record { kind = SecondHeader; place = length fed + 1 }) (rest_in state numbers.Start h.earlier h.word) refl h.rest (λ more. start_problem state.formula.vars state.stated h.earlier (length fed) b more e no_blank c))
 
 -- words end with too few clauses, or with enough
 short_end : (vars clauses : ℕ) (words : List Piece) (end : ℕ) → nat_lt (length (runs_of (numbers_of words))) clauses ≡ true → end_outcome vars clauses words end ≡ Faulty (record { kind = TooFewClauses; place = end })
@@ -241,17 +229,6 @@ fault_ends fed b state w f e blank has h =
     word_met fed b state f h.word h.earlier part.in_line at
     (λ more. let a = word_blank state.formula.vars state.stated h.earlier h.word n b more w e blank part.some part.within part.no_blank in
     h.rest (b ∷ more) ∙ a.first ∙ word_at_fault state.formula.vars state.stated h.earlier word a.words a.lines a.over f at)
-
--- THE FIRST LINE OF NUMBERS
-
-pub numbers_begin : (fed : List ℕ) (state : ReadState) (vars clauses : ℕ) → HasRead [] state → state.formula.vars ≡ vars → state.stated ≡ clauses → StandsBehind fed vars clauses → StandsInNumbers fed state numbers.Start
-numbers_begin fed state vars clauses r v s h = record {
-  earlier = [];
-  word = [];
-  read = r;
-  is_part = tt;
-  rest = λ more. h.rest more ∙ ap (λ (x : ℕ). number_rest numbers.Start x clauses [] [] (length fed) more) (sym v) ∙ ap (λ (x : ℕ). number_rest numbers.Start state.formula.vars x [] [] (length fed) more) (sym s);
-}
 
 -- STOPS
 

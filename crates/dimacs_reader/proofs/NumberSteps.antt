@@ -1,5 +1,5 @@
 -- Behind the problem line, one byte after the other.
-use Rattle.std.proofs.Common.{◌≡◌, ◌≢◌, ℕ, ◌+◌, ◌-◌, ◌<◌, ◌≤◌, ◌∙◌, Bool, true, false, not, cond, ◌||◌, ◌==◌, List, [], ◌∷◌, ◌++◌, length, Option, Some, None, refl, sym, ap, arith, inl, inr, append_assoc, length-append, nat_lt}
+use Rattle.std.proofs.Common.{◌≡◌, ◌≢◌, ℕ, ◌+◌, ◌-◌, ◌<◌, ◌≤◌, ◌∙◌, Bool, true, false, cond, ◌==◌, List, [], ◌∷◌, ◌++◌, length, Option, Some, None, refl, sym, ap, arith, inl, inr, append_assoc, length-append}
 use Rattle.std.specs.List.{slice_split}
 use Rattle.std.proofs.lemmas.Bool.{cases_Bool, eqb-true}
 use Rattle.std.proofs.lemmas.List.{append-nil}
@@ -7,17 +7,16 @@ use Rattle.std.proofs.lemmas.List.Splits.{slice_split-cons_yes}
 use Rattle.lk_model.specs.Texts.Lines.{Piece, is_newline, is_blank, placed_after, words_of}
 use Rattle.lk_model.specs.Texts.Fault.{word_faults}
 use Rattle.lk_model.specs.declared.text_fault.Fault.{Fault}
-use Rattle.lk_model.specs.declared.text_fault.FaultKind.TheVariants.{SecondHeader}
 use Rattle.dimacs_reader.specs.Contents.{words_after, has_no_blank}
 use Rattle.dimacs_reader.specs.LineKinds.{LineKind, Skipped, EndMark, Problem, Numbers, kind_at, kind_by}
 use Rattle.dimacs_reader.specs.FirstFaults.{first_or, fault_among}
-use Rattle.dimacs_reader.specs.Outcomes.{Outcome, Faulty, Written, end_outcome, fault_or, line_outcome, outcome_behind, outcome_of_words}
+use Rattle.dimacs_reader.specs.Outcomes.{Outcome, Faulty, end_outcome, fault_or, line_outcome, outcome_behind, outcome_of_words}
 use Rattle.dimacs_reader.specs.Stages.{number_outcome}
 use Rattle.dimacs_reader.specs.declared.numbers.NumberLine.{NumberLine}
 use Rattle.dimacs_reader.specs.declared.numbers.NumberLine.TheVariants as numbers
 use Rattle.dimacs_reader.specs.declared.word.WordSoFar.{WordSoFar}
 use Rattle.dimacs_reader.proofs.NumberLemmas.{split_part, HasPart}
-use Rattle.dimacs_reader.proofs.Cuts.{piece, moved_words, split_on, blank_first, Begins, begins, words_of_line, word_then, word_last}
+use Rattle.dimacs_reader.proofs.Cuts.{piece, split_on, blank_first, begins, words_of_line, word_then, word_last}
 use Rattle.dimacs_reader.proofs.HeadSteps.{moved}
 
 -- the outcome of the bytes behind so many
@@ -70,23 +69,6 @@ start_word vars clauses earlier n b bs o e h =
     ap kind_by w.words ∙ ap (kind_at b) (let p : n + length (b ∷ w.rest) + 1 - length (b ∷ w.rest) ≡ n + 1 = omega arith in p) in
     first_line vars clauses earlier n b bs o e
     ∙ ap (λ (k : LineKind). with_kind vars clauses earlier k (words_after n line) (placed_after (n + length line + 1) o.1) (n + length (b ∷ bs) + 1)) kind
-
-pub start_comment : (vars clauses : ℕ) (earlier : List Piece) (n b : ℕ) (bs word : List ℕ) → is_newline b ≡ false → is_blank b ≡ false → b ≡ 99
-    → number_rest numbers.Start vars clauses earlier [] n (b ∷ bs) ≡ number_rest numbers.Comment vars clauses earlier word (n + 1) bs
-start_comment vars clauses earlier n b bs word e h c =
-    let o = split_part is_newline bs in
-    let over = n + length (b ∷ bs) + 1 in
-    start_word vars clauses earlier n b bs o e h
-    ∙ ap (λ (x : ℕ). with_kind vars clauses earlier (kind_at x (n + 1)) (words_after n (b ∷ o.0)) (placed_after (n + length (b ∷ o.0) + 1) o.1) over) c
-    ∙ moved (λ m k. outcome_behind vars clauses earlier (placed_after m o.1) k) (n + length (b ∷ o.0) + 1) (n + 1 + length o.0 + 1) over (n + 1 + length bs + 1) (omega arith) (omega arith)
-    ∙ ap (λ (parts : List (List ℕ)). number_outcome numbers.Comment vars clauses earlier word (n + 1) parts (n + 1 + length bs + 1)) (sym o.2)
-
-pub start_problem : (vars clauses : ℕ) (earlier : List Piece) (n b : ℕ) (bs : List ℕ) → is_newline b ≡ false → is_blank b ≡ false → b ≡ 112
-    → number_rest numbers.Start vars clauses earlier [] n (b ∷ bs) ≡ Faulty (record { kind = SecondHeader; place = n + 1 })
-start_problem vars clauses earlier n b bs e h c =
-    let o = split_part is_newline bs in
-    start_word vars clauses earlier n b bs o e h
-    ∙ ap (λ (x : ℕ). with_kind vars clauses earlier (kind_at x (n + 1)) (words_after n (b ∷ o.0)) (placed_after (n + length (b ∷ o.0) + 1) o.1) (n + length (b ∷ bs) + 1)) c
 
 pub start_end : (vars clauses : ℕ) (earlier : List Piece) (n b : ℕ) (bs : List ℕ) → is_newline b ≡ false → is_blank b ≡ false → b ≡ 37
     → number_rest numbers.Start vars clauses earlier [] n (b ∷ bs) ≡ end_outcome vars clauses earlier (n + 1)

@@ -1,8 +1,8 @@
 -- What a text comes to is its first fault, or else what its lines write.
-use Rattle.std.proofs.Common.{◌≡◌, ℕ, suc, ◌+◌, ◌≤◌, ◌∙◌, Bool, true, false, not, cond, ◌||◌, ◌==◌, List, [], ◌∷◌, ◌++◌, length, take, map, Option, Some, None, refl, sym, ap, subst, arith, inl, inr, append_assoc, get_or, nat_lt}
-use Rattle.std.specs.Prelude.{filter, flat_map, take_while}
+use Rattle.std.proofs.Common.{◌≡◌, ℕ, suc, ◌+◌, ◌≤◌, ◌∙◌, Bool, true, false, not, cond, ◌||◌, ◌==◌, List, [], ◌∷◌, ◌++◌, length, take, Option, Some, None, refl, sym, ap, subst, arith, inl, inr, append_assoc, get_or, nat_lt}
+use Rattle.std.specs.Prelude.{filter, flat_map}
 use Rattle.std.specs.List.{slice_split, prefix_len}
-use Rattle.std.proofs.lemmas.Bool.{cases_Bool, leb-true, lt-ltb, le-ltb, cases_lt}
+use Rattle.std.proofs.lemmas.Bool.{cases_Bool, lt-ltb, cases_lt}
 use Rattle.std.proofs.lemmas.List.{append-nil, map-append}
 use Rattle.lk_model.specs.Lists.{is_empty}
 use Rattle.lk_model.specs.Limits.{max_vars, max_clauses}
@@ -10,9 +10,9 @@ use Rattle.lk_model.specs.Texts.Lines.{Piece, Word, is_newline, placed_after, li
 use Rattle.lk_model.specs.Texts.Dimacs.{stated_by, runs_of}
 use Rattle.lk_model.specs.Texts.Fault.{numbers_of}
 use Rattle.lk_model.specs.declared.text_fault.Fault.{Fault}
-use Rattle.lk_model.specs.declared.text_fault.FaultKind.TheVariants.{NoHeader, BadHeader, SecondHeader, TooFewClauses, Limit}
+use Rattle.lk_model.specs.declared.text_fault.FaultKind.TheVariants.{TooFewClauses, Limit}
 use Rattle.dimacs_reader.specs.Contents.{words_in, words_after, first_of, is_end, is_content, content_of}
-use Rattle.dimacs_reader.specs.LineKinds.{LineKind, Skipped, EndMark, Problem, Numbers, kind_at, kind_by}
+use Rattle.dimacs_reader.specs.LineKinds.{LineKind, Skipped, EndMark, Problem, Numbers, kind_by}
 use Rattle.dimacs_reader.specs.FirstFaults.{or_behind, fault_among, fault_at_end, line_fault, fault_behind, problem_line_fault, first_line_fault, fault_from, text_fault}
 use Rattle.dimacs_reader.specs.Outcomes.{Outcome, Faulty, Written, end_outcome, fault_or, line_outcome, outcome_behind, problem_outcome, first_line_outcome, outcome_from, text_outcome, fault_in_outcome}
 use Rattle.dimacs_reader.proofs.Cuts.{piece, words_of_line, words_texts}

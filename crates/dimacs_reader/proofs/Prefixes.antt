@@ -6,7 +6,7 @@ use Rattle.lk_model.specs.Texts.Lines.{Piece, is_newline, placed_after, words_of
 use Rattle.lk_model.specs.Texts.Dimacs.{stated_by}
 use Rattle.lk_model.specs.declared.text_fault.Fault.{Fault}
 use Rattle.lk_model.specs.declared.text_fault.FaultKind.TheVariants.{NoHeader, Limit}
-use Rattle.dimacs_reader.specs.LineKinds.{LineKind, Skipped, EndMark, Problem, Numbers, kind_by}
+use Rattle.dimacs_reader.specs.LineKinds.{LineKind, kind_by}
 use Rattle.dimacs_reader.specs.FirstFaults.{or_behind, fault_among, fault_at_end, line_fault, fault_behind, problem_line_fault, first_line_fault, fault_from, text_fault}
 use Rattle.dimacs_reader.proofs.Placing.{room, room_split}
 use Rattle.dimacs_reader.proofs.LineSteps.{kind_placed}

@@ -1,26 +1,23 @@
 -- The problem line, one byte after the other.
-use Rattle.std.proofs.Common.{◌≡◌, ◌≢◌, ◌⊎◌, ℕ, suc, ◌+◌, ◌-◌, ◌*◌, ◌^◌, ◌<◌, ◌≤◌, ◌∙◌, min, Bool, true, false, not, cond, ◌||◌, ◌&&◌, ◌==◌, List, [], ◌∷◌, ◌++◌, length, Option, Some, None, refl, sym, ap, subst, arith, inl, inr, append_assoc, length-append, nat_lt}
+use Rattle.std.proofs.Common.{◌≡◌, ◌⊎◌, ℕ, ◌+◌, ◌-◌, ◌*◌, ◌^◌, ◌<◌, ◌≤◌, ◌∙◌, min, Bool, true, false, not, cond, ◌||◌, ◌&&◌, List, [], ◌∷◌, ◌++◌, length, Option, Some, None, refl, sym, ap, subst, arith, inl, inr, append_assoc, length-append, nat_lt}
 use Rattle.std.specs.Prelude.{codes}
 use Rattle.std.specs.Str.{bytes_eq}
 use Rattle.std.specs.Option.{option_zip}
 use Rattle.std.specs.Char.{is_ascii_digit}
-use Rattle.std.specs.List.{list_all}
-use Rattle.std.proofs.lemmas.Bool.{cases_Bool, eqb-true, and_from, lt-ltb}
+use Rattle.std.proofs.lemmas.Bool.{and_from, lt-ltb}
 use Rattle.std.proofs.lemmas.List.{append-nil}
 use Rattle.std.proofs.lemmas.List.Folds.{list_all-append}
 use Rattle.lk_model.specs.Limits.{max_vars, max_clauses}
 use Rattle.lk_model.specs.Texts.Lines.{Word, is_blank}
 use Rattle.lk_model.specs.Texts.Dimacs.{stated_by}
 use Rattle.lk_model.specs.Texts.NumberWords.{digits_value, natural}
-use Rattle.lk_model.specs.declared.text_fault.FaultKind.{FaultKind}
-use Rattle.lk_model.specs.declared.text_fault.FaultKind.TheVariants.{BadHeader, Limit}
-use Rattle.lk_model.proofs.Booleans.{and_true}
+use Rattle.lk_model.specs.declared.text_fault.FaultKind.TheVariants.{Limit}
 use Rattle.dimacs_reader.specs.Contents.{words_in, has_no_blank}
 use Rattle.dimacs_reader.specs.Words.{AreDigits}
-use Rattle.dimacs_reader.specs.ProblemLines.{BeginsAs, BeginsWithVars, BeginsWithBoth, IsLineSoFar, problem_line_kind}
+use Rattle.dimacs_reader.specs.ProblemLines.{BeginsAs, IsLineSoFar, problem_line_kind}
 use Rattle.dimacs_reader.specs.declared.problem.ProblemLine.{ProblemLine}
 use Rattle.dimacs_reader.specs.declared.problem.ProblemLine.TheVariants.{P, BehindP, C, Cn, Cnf, BehindCnf, Vars, BehindVars, Clauses, BehindClauses, Other}
-use Rattle.dimacs_reader.proofs.Cuts.{blank_before, word_before, one_word, Grows, grows}
+use Rattle.dimacs_reader.proofs.Cuts.{blank_before, word_before, one_word, grows}
 use Rattle.dimacs_reader.proofs.Digits.{not_equal, digits_no_blank, digits_more, one_digit, natural_is, natural_wrong}
 
 -- BYTES BEHIND

@@ -1,12 +1,12 @@
 -- The refusal of a text is that of its first fault.
-use Rattle.std.proofs.Common.{◌≡◌, ◌⊎◌, ℕ, ◌+◌, ◌-◌, ◌<◌, ◌≤◌, ◌∙◌, Bool, true, false, cond, ◌||◌, ◌&&◌, List, [], ◌∷◌, ◌++◌, length, take, drop, refl, sym, ap, subst, arith, inl, inr, Option, Some, None, append_assoc}
+use Rattle.std.proofs.Common.{◌≡◌, ℕ, ◌+◌, ◌-◌, ◌<◌, ◌≤◌, ◌∙◌, Bool, true, false, cond, ◌||◌, ◌&&◌, List, [], ◌∷◌, ◌++◌, length, refl, sym, ap, subst, arith, inl, inr, Option, Some, None, append_assoc}
 use Rattle.std.specs.Prelude.{option_map, count_by, nat_le, nat_lt, Result, Ok, Err, OnOk, IfErr}
 use Rattle.std.proofs.lemmas.Bool.{le-ltb, lt-ltb, le-leb, lt-leb, cases_lt}
-use Rattle.std.proofs.lemmas.List.{take-append-le, length-append, take_all}
+use Rattle.std.proofs.lemmas.List.{take-append-le, length-append}
 use Rattle.lk_model.specs.Limits.{max_bytes}
 use Rattle.lk_model.specs.Texts.Lines.{is_newline, line_number}
 use Rattle.lk_model.specs.Texts.Dimacs.{content_lines}
-use Rattle.lk_model.specs.Texts.Fault.{fault_if, content_faults, stop as stop_of, faults, least, earlier_of, fault_of, IsSettled}
+use Rattle.lk_model.specs.Texts.Fault.{fault_if, content_faults, stop as stop_of, least, earlier_of, fault_of, IsSettled}
 use Rattle.lk_model.specs.declared.text_fault.Fault.{Fault}
 use Rattle.lk_model.specs.declared.text_fault.FaultKind.{FaultKind}
 use Rattle.lk_model.specs.declared.text_fault.FaultKind.TheVariants.{NoHeader, BadHeader, SecondHeader, BadToken, BeyondStated, TooManyClauses, TooFewClauses, Limit, TooLong}
@@ -14,9 +14,8 @@ use Rattle.dimacs_reader.specs.FirstFaults.{text_fault}
 use Rattle.dimacs_reader.specs.Outcomes.{Outcome, Faulty, Written, text_outcome, fault_in_outcome}
 use Rattle.dimacs_reader.specs.Faults.{refusal_by, refusal_at, refusal_of, IsRefusalOf, IsSettledAs, ForFault, first_fault_of, is_due, shows_at_once, HasNoneDue}
 use Rattle.dimacs_reader.specs.Stages.{Stands, IsMet, IsMetAtEnd}
-use Rattle.dimacs_reader.specs.Taken.{too_long, IsFirstOf, HasTaken}
+use Rattle.dimacs_reader.specs.Taken.{too_long, IsFirstOf}
 use Rattle.dimacs_reader.specs.declared.reading.Stage.{Stage}
-use Rattle.dimacs_reader.specs.declared.refusal.Refused.{Refused}
 use Rattle.dimacs_reader.specs.declared.stop.Stop.{Stop}
 use Rattle.dimacs_reader.specs.declared.stop.Stop.TheVariants as stop
 use Rattle.dimacs_reader.proofs.FirstFaultLaws.{first_fault}

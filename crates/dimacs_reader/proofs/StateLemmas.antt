@@ -15,7 +15,7 @@ use Rattle.lk_model.specs.Texts.NumberWords.{number}
 use Rattle.lk_model.specs.Texts.Dimacs.{runs_of, without_repeats, without_empty_last}
 use Rattle.lk_model.specs.Texts.Fault.{fault_if, number_faults, numbers_of}
 use Rattle.lk_model.specs.declared.text_fault.Fault.{Fault}
-use Rattle.lk_model.specs.declared.text_fault.FaultKind.TheVariants.{BadToken, BeyondStated, TooManyClauses, Limit}
+use Rattle.lk_model.specs.declared.text_fault.FaultKind.TheVariants.{BeyondStated, TooManyClauses, Limit}
 use Rattle.lk_model.proofs.FaultConverse.{numbers_read}
 use Rattle.dimacs_reader.specs.Contents.{IsWritten}
 use Rattle.dimacs_reader.specs.FirstFaults.{first_or}
@@ -82,9 +82,6 @@ by_number words word state x h e =
     ap (λ (o : Option ℤ). first_or (number_faults state.formula.vars state.stated (numbers_of words) o word.last) None) e
     ∙ ap (λ (n : ℕ). first_or (faults_by state.formula.vars state.stated n (count_by is_nonzero (numbers_of words)) x word.last) None) (zeros_read words state h)
     ∙ ap (λ (n : ℕ). first_or (faults_by state.formula.vars state.stated (length state.formula.clauses) n x word.last) None) (written_read words state h)
-
-pub no_number : (word : Piece) (state : ReadState) → number word.bytes ≡ None → HasFault (word ∷ []) state (record { kind = BadToken; place = word.last })
-no_number word state e earlier h = ap (λ (o : Option ℤ). first_or (number_faults state.formula.vars state.stated (numbers_of earlier) o word.last) None) e
 
 -- the number behind what a word is
 number_behind : (n : ℕ) (o : Option ℤ) (num : Number) → IsNumber n o num → (x : ℤ) × (o ≡ Some x)

@@ -1,7 +1,6 @@
 -- Words of numbers, one byte after the other.
-use Rattle.std.proofs.Common.{◌≡◌, ◌<◌, arith, ℕ, ◌∙◌, Bool, true, false, cond, List, [], ◌∷◌, ◌++◌, length, Option, Some, None, refl, sym, ap, append_assoc, ◌==◌}
+use Rattle.std.proofs.Common.{◌≡◌, ◌<◌, arith, ℕ, ◌∙◌, Bool, true, false, cond, List, [], ◌∷◌, ◌++◌, length, Option, None, refl, sym, ap, append_assoc, ◌==◌}
 use Rattle.std.specs.Char.{is_ascii_digit}
-use Rattle.std.proofs.lemmas.Bool.{cases_Bool, eqb-true}
 use Rattle.std.proofs.lemmas.List.{append-nil}
 use Rattle.lk_model.specs.Texts.NumberWords.{natural, number, negated, not_negated}
 use Rattle.dimacs_reader.specs.Words.{IsWordSoFar}

@@ -1,5 +1,5 @@
 -- The problem line of a text.
-use Rattle.std.specs.Prelude.{◌≡◌, ◌≤◌, ◌||◌, nat_lt, [], ◌∷◌, ◌++◌, ℕ, List, Option, Some, None, if◌then◌else◌, codes}
+use Rattle.std.specs.Prelude.{◌≡◌, ◌||◌, nat_lt, [], ◌∷◌, ◌++◌, ℕ, List, Option, Some, None, if◌then◌else◌, codes}
 use Rattle.lk_model.specs.Limits.{max_vars, max_clauses}
 use Rattle.lk_model.specs.Texts.Lines.{Word}
 use Rattle.lk_model.specs.Texts.Dimacs.{stated_by}
@@ -14,12 +14,6 @@ use Rattle.dimacs_reader.specs.declared.problem.ProblemLine.TheVariants.{P, Behi
 abbrev pub problem_line_kind : Option (ℕ × ℕ) → Option FaultKind
 problem_line_kind None = Some BadHeader
 problem_line_kind (Some (vars, clauses)) = if nat_lt max_vars vars || nat_lt max_clauses clauses then Some Limit else None
-
--- the words are a problem line that states these numbers, within the limits
-pub record States (words : List Word) (numbers : ℕ × ℕ) : Type 0 where
-  pub stated : stated_by words ≡ Some numbers
-  pub vars : numbers.0 ≤ max_vars
-  pub clauses : numbers.1 ≤ max_clauses
 
 -- the bytes begin with these words, and with bytes of one more, however they go on
 abbrev pub BeginsAs : List ℕ → List Word → List ℕ → Type 0

@@ -6,17 +6,18 @@ ghost use Rattle.lk_model.specs.Formulas.Lean.{are_positions};
 
 use cdcl_core::{Decided, decide};
 use dimacs_reader::Reader;
-use lk_model::{Crossed, Formula, OutOfMemory, VarSet};
+use lk_model::{Crossed, Formula, OutOfMemory, Step, VarSet};
 use std::alloc::Global;
 use std::rt::Files;
 use std::test::Fail;
 use std::{env, fs};
 
-/// What is answered, and how many steps the log has.
+/// What is answered, how many steps the log has, and how many literals their clauses have.
 #[derive(Clone, Copy)]
 struct Answer {
     word: &'static str,
     steps: usize,
+    literals: usize,
 }
 
 /// Prints the answer for the formula of a file. The words are the budget and the file's name.
@@ -36,7 +37,7 @@ fn print_answer<R: Files + AllocGlobal + Print>(
     let text = fs::read(rt, file)?;
     let left = budget.parse().unwrap_or(0);
     match answer_in(rt.alloc(), text.as_slice(), left) {
-        Some(answer) => Ok(println!(rt; "{} {}", answer.word, answer.steps)?),
+        Some(answer) => Ok(println!(rt; "{} {} {}", answer.word, answer.steps, answer.literals)?),
         None => Err(Fail::from("no answer")),
     }
 }
@@ -84,17 +85,26 @@ fn decide_over(
 /// The answer that tells what is decided.
 fn answer_of(decided: &Decided) -> Answer {
     match decided {
-        Decided::Sat(_) => Answer {
-            word: "sat",
-            steps: 0,
-        },
-        Decided::Refuted(log) => Answer {
-            word: "refuted",
-            steps: log.steps().len(),
-        },
-        Decided::Stopped(log) => Answer {
-            word: "stopped",
-            steps: log.steps().len(),
-        },
+        Decided::Sat(_) => answer_with("sat", &[]),
+        Decided::Refuted(log) => answer_with("refuted", log.steps()),
+        Decided::Stopped(log) => answer_with("stopped", log.steps()),
     }
+}
+
+/// The answer with the steps of a log.
+fn answer_with(word: &'static str, steps: &[Step]) -> Answer {
+    Answer {
+        word,
+        steps: steps.len(),
+        literals: literals_in(steps),
+    }
+}
+
+/// How many literals the clauses of steps have.
+fn literals_in(steps: &[Step]) -> usize {
+    let mut literals: usize = 0;
+    for step in steps {
+        literals = literals.saturating_add(step.clause.len());
+    }
+    literals
 }

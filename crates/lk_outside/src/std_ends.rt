@@ -1,4 +1,8 @@
-ghost use Rattle.std.specs.Prelude.{◌≡◌, None, false};
+ghost use Rattle.std.specs.Prelude.{◌≡◌, ◌≢◌, ◌↔◌, ℕ, ◌<◌, ◌≤◌, length, IsTrue, IsErr, IsErrOf, IfOk, OnOk, None, Some, Err, false, is_some};
+ghost use Rattle.std.specs.Result.{is_err};
+ghost use Rattle.lk_outside.specs.Causes.{HasCause, TellsTheSame};
+ghost use Rattle.lk_outside.specs.Reads.{ReadTakes};
+ghost use Rattle.lk_outside.specs.Calls.{faults_after};
 
 use crate::shelf::{Failed, Shelf, StartStop};
 use crate::sink::Sink;
@@ -52,8 +56,23 @@ impl<'a, R: Files> Shelf for FileShelf<'a, R> {
 
     ghost faults = { λ s. s.tally.faults };
 
-    /// Fails where the file does not open.
-    fn start(&mut self, name: &str) -> Result<(), StartStop> {
+    /// Fails where the file does not open. Exactly then one more fault is counted.
+    fn start(&mut self, name: &str) -> Result<(), StartStop>
+        ensures exact { result ≢ Err StartStop.OutOfMemory →
+            self.new.tally.faults ≡ faults_after (is_err result) self.old.tally.faults }
+        ensures told { TellsTheSame
+            (⟦<FileShelf<'a, R> as Shelf>⟧.told self.old) (⟦<FileShelf<'a, R> as Shelf>⟧.told self.new) }
+        ensures ok { OnOk result (IsTrue (is_some self.new.file) ×
+            (⟦<FileShelf<'a, R> as Shelf>⟧.left self.new ≡ ⟦<FileShelf<'a, R> as Shelf>⟧.told self.old name.now)) }
+        ensures failed { IsErrOf result StartStop.Failed → is_some self.new.file ≡ false }
+        ensures memory { IsErrOf result StartStop.OutOfMemory → self.new ≡ self.old }
+        ensures current { result ≢ Err StartStop.OutOfMemory →
+            self.new.current ≡ Some name.now }
+        ensures ailing { result ≢ Err StartStop.OutOfMemory →
+            (IsTrue self.new.tally.ailing ↔ IsErrOf result StartStop.Failed) }
+        ensures cause { HasCause self.old.tally.faults self.new.tally.faults
+            (IsErrOf result StartStop.Failed) }
+    {
         let current = Name::of(self.alloc, name)?;
         self.current = Some(current);
         match fs::open(self.rt, name) {
@@ -70,8 +89,22 @@ impl<'a, R: Files> Shelf for FileShelf<'a, R> {
         }
     }
 
-    /// Fails where the system's read does.
-    fn read(&mut self, piece: &mut [u8]) -> Result<usize, Failed> {
+    /// Fails where the system's read does. Exactly then one more fault is counted.
+    fn read(&mut self, piece: &mut [u8]) -> Result<usize, Failed>
+        requires started { IsTrue (is_some self.old.file) }
+        requires room { 0 < length piece.old }
+        ensures exact { self.new.tally.faults ≡
+            faults_after (is_err result) self.old.tally.faults }
+        ensures told { TellsTheSame
+            (⟦<FileShelf<'a, R> as Shelf>⟧.told self.old) (⟦<FileShelf<'a, R> as Shelf>⟧.told self.new) }
+        ensures bound { IfOk result (λ k. k ≤ length piece.new) }
+        ensures bytes { IfOk result (λ k. ReadTakes
+            (⟦<FileShelf<'a, R> as Shelf>⟧.left self.old) (⟦<FileShelf<'a, R> as Shelf>⟧.left self.new) k piece.new) }
+        ensures started { OnOk result (IsTrue (is_some self.new.file)) }
+        ensures current { self.new.current ≡ self.old.current }
+        ensures cause { HasCause self.old.tally.faults self.new.tally.faults (IsErr result) }
+        ensures ailing { IsTrue self.new.tally.ailing ↔ IsErr result }
+    {
         // A read asks that a file is open, so there is one.
         let Some(file) = &mut self.file else {
             return Ok(0)
@@ -115,8 +148,15 @@ impl<W: Write> Sink for StdSink<W> {
 
     ghost faults = { λ s. s.tally.faults };
 
-    /// Fails where the stream's write does, or takes nothing.
-    fn write(&mut self, piece: &[u8]) -> Result<usize, Failed> {
+    /// Fails where the stream's write does, or takes nothing. Exactly then one more fault is
+    /// counted.
+    fn write(&mut self, piece: &[u8]) -> Result<usize, Failed>
+        requires { 0 < length piece.now }
+        ensures exact { self.new.tally.faults ≡
+            faults_after (is_err result) self.old.tally.faults }
+        ensures count { IfOk result (λ k. (0 < k) × (k ≤ length piece.now)) }
+        ensures cause { HasCause self.old.tally.faults self.new.tally.faults (IsErr result) }
+    {
         match self.stream.write(piece) {
             Ok(count) if 0 < count => {
                 self.tally.note(false);

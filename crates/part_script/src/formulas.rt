@@ -1,7 +1,7 @@
 //! What the parts of formulas are.
 use crate::plain_parts::put_plain;
 use lk_model::{Formula, List};
-use lk_samples::{append, drawn_formula, formula_of_text};
+use lk_samples::{append, drawn_formula, formula_of_text, set_of};
 use par_parts::{part_groups, parts};
 use std::alloc::Global;
 use std::test::Fail;
@@ -25,6 +25,32 @@ pub(crate) fn tell_parts(alloc: Global, n: u32, text: &str, out: &mut String) ->
     let f = formula_of_text(alloc, n, text)?;
     write!(out, "=")?;
     put_parts(alloc, &f, out)?;
+    writeln!(out, "")?;
+    Ok(())
+}
+
+/// The formula over n variables with the clauses of a text, without the literals on the variables of another.
+fn rest_of(alloc: Global, n: u32, texts: (&str, &str)) -> Result<Formula, Fail> {
+    let f = formula_of_text(alloc, n, texts.0)?;
+    let words = texts
+        .1
+        .split_whitespace()
+        .map(|word| word.parse().unwrap_or(0));
+    let variables: Vec<u32> = words.collect(alloc)?;
+    let set = set_of(alloc, n, variables.as_slice())?;
+    Ok(f.without(alloc, &set)?)
+}
+
+/// Tells the parts of the formula that is left of a text.
+pub(crate) fn tell_without(
+    alloc: Global,
+    n: u32,
+    texts: (&str, &str),
+    out: &mut String,
+) -> Result<(), Fail> {
+    let rest = rest_of(alloc, n, texts)?;
+    write!(out, "=")?;
+    put_parts(alloc, &rest, out)?;
     writeln!(out, "")?;
     Ok(())
 }

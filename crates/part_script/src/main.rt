@@ -5,6 +5,7 @@
 //!
 //! - `parts N; CLAUSES` tells the parts of a formula: the number of its variables, and its clauses with
 //!   commas between them, 0 for an empty one.
+//! - `parts-without N; CLAUSES; VARIABLES` tells the parts of the formula without the literals on these.
 //! - `drawn N` compares the parts of so many drawn formulas with those that a plain program finds.
 //! - `units N` counts the parts of a unit clause for each of so many variables, and `chain N` those of the
 //!   clauses of two neighbouring ones, each four times.
@@ -41,7 +42,7 @@ mod squares;
 mod telling;
 
 use crate::alone::{tell_alone, tell_drawn_alone};
-use crate::formulas::{tell_chain, tell_drawn, tell_groups, tell_parts, tell_units};
+use crate::formulas::{tell_chain, tell_drawn, tell_groups, tell_parts, tell_units, tell_without};
 use crate::general::{tell_general, tell_meeting};
 use crate::halves::tell_halves;
 use crate::kernels::{tell_fours, tell_kernel, tell_workers};
@@ -62,8 +63,10 @@ fn tell<R: Threads + Sync>(
     let (number, conflicts) = number.trim().split_once(" ").unwrap_or((number.trim(), ""));
     let number = number.parse().unwrap_or(0);
     let conflicts = conflicts.parse().unwrap_or(0);
+    let texts = others.split_once(";").unwrap_or((others, ""));
     match word {
         "parts" => tell_parts(alloc, number, others, out),
+        "parts-without" => tell_without(alloc, number, texts, out),
         "drawn" => tell_drawn(alloc, number, out),
         "units" => tell_units(alloc, number, out),
         "chain" => tell_chain(alloc, number, out),
@@ -72,10 +75,7 @@ fn tell<R: Threads + Sync>(
         "workers" => tell_workers(rt, alloc, number, others, out),
         "general" => tell_general(rt, alloc, number, conflicts, others, out),
         "general-workers" => tell_meeting(rt, alloc, number, conflicts, others, out),
-        "alone" => {
-            let texts = others.split_once(";").unwrap_or((others, ""));
-            tell_alone(alloc, number, conflicts, texts, out)
-        }
+        "alone" => tell_alone(alloc, number, conflicts, texts, out),
         "alone-drawn" => tell_drawn_alone(alloc, number, conflicts, out),
         "squares" => tell_squares(rt, alloc, number, conflicts, out),
         "fours" => tell_fours(rt, alloc, number, out),

@@ -1,3 +1,4 @@
+pub mod Heaps
 pub mod Selections
 pub mod ListLemmas
 pub mod PairLemmas

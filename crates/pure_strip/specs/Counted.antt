@@ -1,8 +1,5 @@
 -- How many clauses hold each literal, and the variables that occur in one sign only.
-use Rattle.std.specs.Prelude.{◌≡◌, ◌≤◌, ◌<◌, ℕ, if◌then◌else◌, IsTrue, ◌+◌, ◌*◌, ◌-◌, Bool, ◌&&◌, ◌||◌, ◌==◌, nat_lt, List, length, ℤ, pos, neg_ℤ, slice_index, slice_set, Option, find}
-use Rattle.std.specs.Ordering.{nat_cmp}
-use Rattle.std.specs.BTreeSet.{BTreeSet, contains}
-use Rattle.lk_model.specs.Lists.{is_between}
+use Rattle.std.specs.Prelude.{◌≡◌, ◌≤◌, ◌<◌, ℕ, if◌then◌else◌, IsTrue, ◌+◌, ◌*◌, ◌-◌, Bool, ◌&&◌, ◌||◌, ◌==◌, nat_lt, List, [], ◌∷◌, length, Contains, ℤ, pos, neg_ℤ, slice_index, slice_set, Option, Some, None, find}
 use Rattle.lk_model.specs.Formulas.Literal.{complement, rank_of, is_literal, contains as holds}
 use Rattle.lk_model.specs.Formulas.PureRun.{literals_to}
 
@@ -22,11 +19,32 @@ is_lone counts l = nat_lt 0 (count_of counts l) && count_of counts (complement l
 abbrev pub is_lone_variable : List ℕ → ℕ → Bool
 is_lone_variable counts v = is_lone counts (pos v) || is_lone counts (neg_ℤ (pos v))
 
--- the set has just the variables that occur in one sign only
-pub record AreLone (vars : ℕ) (counts : List ℕ) (lone : BTreeSet ℕ) : Type 0 where
+-- the literal that occurs, of a variable that occurs in one sign only
+abbrev pub lone_of : List ℕ → ℕ → Option ℤ
+lone_of counts v = find (is_lone counts) (pos v ∷ neg_ℤ (pos v) ∷ [])
+
+-- the variables below next that occur in one sign only stand in back, where all are below next
+pub record AreLone (vars : ℕ) (counts : List ℕ) (next : ℕ) (back : List ℕ) : Type 0 where
   pub small : vars ≤ 1000000
   pub size : length counts ≡ 2 * vars + 2
-  pub told : (v : ℕ) → contains nat_cmp lone v ≡ (is_between 1 vars v && is_lone_variable counts v)
+  pub first : 0 < next
+  pub last : next ≤ vars + 1
+  pub within : (v : ℕ) → Contains back v → (0 < v) × (v < next)
+  pub told : (v : ℕ) → 0 < v → v < next → IsTrue (is_lone_variable counts v) → Contains back v
+
+-- the least of some numbers
+abbrev pub IsLeast : List ℕ → ℕ → Type 0
+IsLeast xs x = Contains xs x × ((y : ℕ) → Contains xs y → x ≤ y)
+
+-- of some variables those are left that occur in one sign only, and maybe more of them
+pub record AreStill (counts before after : List ℕ) : Type 0 where
+  pub kept : (v : ℕ) → Contains before v → IsTrue (is_lone_variable counts v) → Contains after v
+  pub among : (v : ℕ) → Contains after v → Contains before v
+
+-- the literal of the least of some variables, if there are any
+abbrev pub IsFirstLone : List ℕ → List ℕ → Option ℤ → Type 0
+IsFirstLone counts vs None = vs ≡ []
+IsFirstLone counts vs (Some l) = (v : ℕ) × IsLeast vs v × (lone_of counts v ≡ Some l)
 
 -- one less at a literal
 abbrev pub lowered : Counted → ℤ → Counted

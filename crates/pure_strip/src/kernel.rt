@@ -34,7 +34,7 @@ pub fn pure_kernel(alloc: Global, f: &Formula) -> Result<PureResult, OutOfMemory
     let holders = OccurrenceLists::new(alloc, f)?;
     let mut live = vec![in alloc; true; f.len() as usize]?;
     let lengths = holders.counts(alloc)?;
-    let mut counts = Counts::new(alloc, f.vars(), lengths)?;
+    let mut counts = Counts::new(alloc, f.vars(), lengths);
     let order = pure_order(alloc, f, &holders, &mut live, &mut counts)?;
     let kept = live_positions(alloc, live.as_slice())?;
     let pairs = pairs_of(alloc, f, &holders, live.as_slice())?;

@@ -3,6 +3,7 @@
 
 mod counts;
 mod kernel;
+mod least_first;
 mod pairs;
 mod run;
 

@@ -4,8 +4,8 @@
 //! again: a literal whose complement occurs nowhere is made true, and the clauses that it touches go.
 //!
 //! Here the least variable is taken each time, so the order is determined. Each clause knows whether it was touched,
-//! each literal how many untouched clauses hold it, and the variables in one sign are kept in an ordered set
-//! (`counts`): no step goes through the formula.
+//! each literal how many untouched clauses hold it. The variables are gone through once, and one that is left in one
+//! sign after it was passed waits in a heap (`counts`): no step goes through the formula.
 ghost use Rattle.std.specs.Prelude.{◌≡◌, ◌<◌, ◌≤◌, [], length, slice_set, false, IfOk, OnOk, IsTrue, All, ◌-◌, ◌+◌, ◌*◌};
 ghost use Rattle.lk_model.specs.Formulas.Literal.{is_clause};
 ghost use Rattle.lk_model.specs.Formulas.PureRun.{IsPureRun};

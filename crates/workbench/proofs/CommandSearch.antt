@@ -6,7 +6,6 @@ use Rattle.workbench.specs.Commands.{commands, words_of}
 use Rattle.workbench.specs.Requests.{common, IsUnknownAt}
 use Rattle.workbench.specs.declared.command.Command.{Command}
 use Rattle.workbench.specs.declared.command.Command.TheVariants.{ReducePure}
-use Rattle.workbench.proofs.CommandTable.{listed}
 use Rattle.workbench.proofs.CommonWords.{common_within}
 
 -- not all of the command's words stand at the front, and no more than so many
@@ -20,14 +19,6 @@ pub record IsSearched (words : List Word) (items : List Command) (index known : 
   pub short : (i : ℕ) → i < index → IsShort words known (get_or items i ReducePure)
   pub best : ((index ≡ 0) × (known ≡ 0)) ⊎ ((command : Command) × (known ≡ common words (words_of command)))
   pub within : known ≤ length words
-
-pub none_searched : (words : List Word) → IsSearched words commands 0 0
-none_searched words = record {
-  all = refl;
-  short = λ i h. absurd (omega (arith, h));
-  best = inl (refl, refl);
-  within = omega arith;
-}
 
 -- one command more
 pub one_searched : (words : List Word) (items : List Command) (index known next : ℕ) (command : Command) → IsSearched words items index known → get_or items index ReducePure ≡ command
@@ -59,20 +50,3 @@ one_searched words items index known next command s is part low high best = reco
     chosen (inr e) b = (command, e)
     chosen (inl e) (inr b) = (b.0, e ∙ b.1)
     chosen (inl e) (inl zero) = (command, let none = zero.1 in omega (arith, e, none, high))
-
-pub unknown_after : (words : List Word) (items : List Command) (index known : ℕ) → IsSearched words items index known → length items ≤ index → IsUnknownAt words (known + 1)
-unknown_after words items index known s end = record {
-  none = λ c. (short c).part;
-  fewer = λ c. let few = (short c).few in omega (arith, few);
-  known = elim s.best [
-    | inl zero ↦ let size = ap (λ (cs : List Command). length cs) s.all in let first = zero.0 in absurd (omega (arith, first, end, size))
-    | inr b ↦ (b.0, ap (λ (n : ℕ). n + 1) b.1)
-  ];
-}
-  where
-    short : (c : Command) → IsShort words known c
-    short c =
-        let l = listed c in
-        let at = l.1 in
-        let size = ap (λ (cs : List Command). length cs) s.all in
-        subst (IsShort words known) (ap (λ (cs : List Command). get_or cs l.0 ReducePure) s.all ∙ l.2) (s.short l.0 (omega (arith, at, end, size)))

@@ -47,17 +47,6 @@ takes_one Extend = refl
 takes_one Report = refl
 takes_one Demo = refl
 
--- its place in the list
-pub listed : (command : Command) → (i : ℕ) × (i < length commands) × (get_or commands i ReducePure ≡ command)
-listed ReducePure = (0, omega arith, refl)
-listed ReduceMatching = (1, omega arith, refl)
-listed ReduceLinear = (2, omega arith, refl)
-listed ReduceGeneral = (3, omega arith, refl)
-listed Check = (4, omega arith, refl)
-listed Extend = (5, omega arith, refl)
-listed Report = (6, omega arith, refl)
-listed Demo = (7, omega arith, refl)
-
 -- its options, as the code names them
 pub options_named : (command : Command) → (keys : List Key) × (keys_of command ≡ map named keys)
 options_named ReducePure = (Conflicts ∷ Pivots ∷ Workers ∷ Protect ∷ [], refl)

@@ -56,11 +56,6 @@ all_common words front e =
     sym (take-append-drop (length front) words)
     ∙ ap (λ (ws : List Word). ws ++ drop (length front) words) (ap (λ (n : ℕ). take n words) (sym e) ∙ common_same words front ∙ take_all (common words front) front (omega (arith, e)))
 
--- what stands behind words at the front
-pub behind_front : (front rest : List Word) → behind front (front ++ rest) ≡ Some rest
-behind_front [] rest = refl
-behind_front (word ∷ front) rest = rw (same_word word) (behind_front front rest)
-
 pub front_of : (front words rest : List Word) → behind front words ≡ Some rest → words ≡ front ++ rest
 front_of [] words rest e = cc e
 front_of (word ∷ front) [] rest e = absurd (let f : ⊥ = cc e in f)
@@ -86,11 +81,6 @@ another words front count here h l e =
 pub differs : (words front : List (Bor Word)) (count : ℕ) → CountsUp words front count → count < length words → count < length front → bytes_eq (text_at words count) (text_at front count) ≡ false → count ≡ common (texts words) (texts front)
 differs words front count here h l e =
     let none : common (drop count (texts words)) (drop count (texts front)) ≡ 0 = rw (one_more words count h, one_more front count l, e) refl in
-    omega (arith, here, none)
-
-pub words_end : (words front : List (Bor Word)) (count : ℕ) → CountsUp words front count → length words ≤ count → count ≡ common (texts words) (texts front)
-words_end words front count here h =
-    let none : common (drop count (texts words)) (drop count (texts front)) ≡ 0 = rw (no_more words count h) refl in
     omega (arith, here, none)
 
 pub front_end : (words front : List (Bor Word)) (count : ℕ) → CountsUp words front count → length front ≤ count → count ≡ common (texts words) (texts front)

@@ -41,10 +41,6 @@ result_allowed words shelf s written said h = by s h (result_is (request_of word
     by status.WriteFault h is = absurd (let f : ⊥ = cc is in f)
     by status.Memory h is = absurd (let f : ⊥ = cc is in f)
 
--- so it is never a failed write
-pub not_write_fault : (words : List Word) (shelf : Shelved) (s : Status) (written said : List ℕ) → Allows words shelf s written said → s ≢ status.WriteFault
-not_write_fault words shelf s written said h e = subst (λ (t : Status). Allows words shelf t written said) e h
-
 read_fault : (o : Option Request) (shelf : Shelved) → Rose shelf.before shelf.after → StopsAsRead o shelf.told shelf.ailing shelf.current stop.Read → HasReadFault o shelf
 read_fault None shelf rose h = h
 read_fault (Some request) shelf rose h = (rose, h)

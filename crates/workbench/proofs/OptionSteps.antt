@@ -136,9 +136,6 @@ no_value command xs given place key h l e takes free none = by (drop (place + 1)
 
 -- AND GOES ON
 
-same_key : (key : Key) → bytes_eq (word_for key) (word_for key) ≡ true
-same_key key = (bytes_eq-Decides (word_for key) (word_for key)).1 refl
-
 -- the value of the option, and those of the others
 own_value : (given : Given) (key : Key) (w : Bor Word) → given_for (with_value given key w) key ≡ Some w.now
 own_value given Conflicts w = refl

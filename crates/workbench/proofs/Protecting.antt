@@ -128,12 +128,6 @@ none_protected F = record { formula = refl; line = refl; left = sym (formula_sam
 pub left_without : (F : Cnf) (o : Option (List ℕ)) (p : Problem) → IsProblem F o p → left_of p ≡ formula_without F (protected_by (protect_line_of F o))
 left_without F o p is = is.left ∙ ap (λ (l : Option (List ℕ)). formula_without F (protected_by l)) is.line
 
--- positions of what is left are those of the formula
-pub positions_left : (F : Cnf) (o : Option (List ℕ)) (p : Problem) (kept : List ℕ) → IsProblem F o p → IsTrue (are_positions (left_of p) kept) → IsTrue (are_positions p.formula kept)
-positions_left F o p kept is e =
-    subst (λ (G : Cnf). IsTrue (are_positions G kept)) (sym is.formula)
-    (subst (λ (n : ℕ). IsTrue (rises_within 0 n kept)) (same_count F (protected_by (line_of p))) (subst (λ (G : Cnf). IsTrue (are_positions G kept)) is.left e))
-
 -- the document of what was found in what is left reduces the formula
 pub problem_writes : (F : Cnf) (class : Class) (o : Option (List ℕ)) (p : Problem) (found : Found) (pivots : ℕ) (d : DoneDocument) (written : List ℕ) → IsProblem F o p → IsTrue (is_formula p.formula) → IsWithinLimits p.formula
     → TellsReduction class pivots (left_of p) found → d ≡ document_of p.formula (line_of p) found → written ≡ text_of (Finished d) → WritesReduction F class o pivots written

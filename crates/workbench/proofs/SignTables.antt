@@ -33,10 +33,6 @@ read_above x range = let fits : SFits w128 x = fits_in_range x range in simp to_
     above : (z : ℤ) → lt_z (pos 0) z ≡ int_lt (pos 0) z
     above z = grind (arith, ints)
 
--- no weight more
-pub weights_none : (n : ℕ) (weights : List Weight) (i : ℕ) (table : List (Option ℤ)) → length weights ≤ i → NotesSigns n (drop i weights) table table
-weights_none n weights i table le = subst (λ (ws : List Weight). NotesSigns n ws table table) (sym (drop_all i weights le)) (record { size = refl; noted = λ v first last. refl })
-
 -- one weight more before the others
 pub weights_more : (n : ℕ) (weights : List Weight) (i j : ℕ) (d : Weight) (before table : List (Option ℤ)) → j ≡ i + 1 → i < length weights → 1 ≤ (get_or weights i d).var → (get_or weights i d).var ≤ n → n ≤ length table
     → NotesSigns n (drop j weights) before table → NotesSigns n (drop i weights) before (slice_set table ((get_or weights i d).var - 1) (Some (weight_literal (get_or weights i d))))
@@ -60,13 +56,6 @@ weights_more n weights i j d before table next lt low high room h =
     })
 
 -- ALL STAGES
-
--- no stage
-pub signs_none : (n : ℕ) (stages : List Stage) (k : ℕ) (table : List (Option ℤ)) → table ≡ replicate n None → length stages ≤ k → AreSigns n (drop k stages) table
-signs_none n stages k table e le = subst (λ (ss : List Stage). AreSigns n ss table) (sym (drop_all k stages le)) (record {
-  size = ap length e ∙ length-replicate n None;
-  told = λ v first last. ap (λ (os : List (Option ℤ)). get_or os (v - 1) None) e ∙ get_or-replicate n (v - 1) None None (omega (arith, first, last));
-})
 
 -- a weight that is not 0 gives the sign
 sign_of : (x : ℤ) (o : Option Bool) (v : ℕ) → is_nonzero x ≡ true → Some (literal_of v (int_lt (pos 0) x)) ≡ option_map (literal_of v) (elim x [ pos zero ↦ o | pos (suc _) ↦ Some true | negsuc _ ↦ Some false ])

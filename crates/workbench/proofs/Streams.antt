@@ -48,9 +48,3 @@ Cause-then a b c p q = record { later = omega (arith, p.later, q.later); failed 
 -- what was taken, up to the end, is all of the text
 pub all_taken : (a b bytes : List ℕ) → a ≡ bytes ++ b → b ≡ [] → a ≡ bytes
 all_taken a b bytes p e = p ∙ ap (λ (s : List ℕ). bytes ++ s) e ∙ append-nil bytes
-
--- so it is the text that was told
-pub is_all : (before now : Option (List ℕ)) (bytes : List ℕ) → Consumes before now bytes → IsAtEnd now → IfSome before (λ text. bytes ≡ text)
-is_all None now bytes p e = tt
-is_all (Some a) None bytes p e = absurd p
-is_all (Some a) (Some b) bytes p e = sym (all_taken a b bytes p e)

@@ -1,6 +1,6 @@
 use Rattle.std.proofs.Common.{◌∷◌, [], sym, ◌∙◌, subst, arith}
 use Rattle.lk_model.specs.Texts.NumberWords.{number}
-use Rattle.dimacs_reader.specs.Numbers.{IsNumber, IsOver}
+use Rattle.dimacs_reader.specs.Numbers.{IsNumber}
 use Rattle.dimacs_reader.specs.ReadStates.{Leads, HasFault}
 use Rattle.dimacs_reader.specs.declared.clauses.ReadState.{ReadState}
 use Rattle.dimacs_reader.specs.declared.word.Number.{Number}

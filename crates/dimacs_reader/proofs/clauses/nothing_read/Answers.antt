@@ -1,4 +1,4 @@
-use Rattle.std.proofs.Common.{◌≡◌, refl, ap}
+use Rattle.std.proofs.Common.{refl, ap}
 use Rattle.dimacs_reader.proofs.StateLemmas.{at_first}
 use Rattle.dimacs_reader.proofs.clauses.nothing_read.Goals as goal
 

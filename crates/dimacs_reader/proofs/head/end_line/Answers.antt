@@ -1,8 +1,5 @@
-use Rattle.std.proofs.Common.{◌≡◌, ℕ, List, ◌∙◌, sym, subst, Some, length}
+use Rattle.std.proofs.Common.{◌∙◌, sym, subst}
 use Rattle.std.proofs.lemmas.Result.{err_from_is_err_and}
-use Rattle.lk_model.specs.Texts.Dimacs.{stated_by}
-use Rattle.dimacs_reader.specs.Contents.{words_in}
-use Rattle.dimacs_reader.specs.ProblemLines.{IsLineSoFar, problem_line_kind}
 use Rattle.dimacs_reader.specs.Stages.{StandsInHead}
 use Rattle.dimacs_reader.specs.declared.head.HeadLine.{HeadLine}
 use Rattle.dimacs_reader.proofs.HeadStands.{problem_ends, problem_at_fault_ends}

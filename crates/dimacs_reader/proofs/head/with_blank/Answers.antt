@@ -1,4 +1,4 @@
-use Rattle.std.proofs.Common.{◌≡◌, subst}
+use Rattle.std.proofs.Common.{subst}
 use Rattle.dimacs_reader.specs.Stages.{StandsInHead}
 use Rattle.dimacs_reader.specs.declared.head.HeadLine.{HeadLine}
 use Rattle.dimacs_reader.proofs.HeadStands.{problem_goes_on, blank_head}

@@ -1,8 +1,7 @@
-use Rattle.std.proofs.Common.{◌≡◌, ◌∷◌, [], ℕ, List, sym, subst, length}
+use Rattle.std.proofs.Common.{◌∷◌, [], ℕ, sym, subst}
 use Rattle.std.proofs.lemmas.Result.{err_from_is_err_and}
-use Rattle.lk_model.specs.declared.text_fault.Fault.{Fault}
-use Rattle.dimacs_reader.specs.ReadStates.{Leads, HasFault}
-use Rattle.dimacs_reader.specs.Stages.{StandsInNumbers, IsMet}
+use Rattle.dimacs_reader.specs.ReadStates.{Leads}
+use Rattle.dimacs_reader.specs.Stages.{StandsInNumbers}
 use Rattle.dimacs_reader.specs.declared.numbers.NumberLine.{NumberLine}
 use Rattle.dimacs_reader.proofs.Cuts.{piece}
 use Rattle.dimacs_reader.proofs.NumberStands.{line_ends, word_ends_line, line_at_fault}

@@ -1,4 +1,4 @@
-use Rattle.std.proofs.Common.{◌≡◌, ◌∷◌, [], ℕ, List, sym, subst, length}
+use Rattle.std.proofs.Common.{◌∷◌, [], ℕ, sym, subst}
 use Rattle.std.proofs.lemmas.Result.{err_from_is_err_and}
 use Rattle.dimacs_reader.specs.ReadStates.{Leads}
 use Rattle.dimacs_reader.specs.Stages.{StandsInNumbers}

@@ -1,4 +1,4 @@
-use Rattle.std.proofs.Common.{◌≡◌, List, subst}
+use Rattle.std.proofs.Common.{subst}
 use Rattle.dimacs_reader.specs.Stages.{StandsInNumbers}
 use Rattle.dimacs_reader.specs.declared.numbers.NumberLine.{NumberLine}
 use Rattle.dimacs_reader.proofs.NumberStands.{gap_begins, word_goes_on, byte_stays}

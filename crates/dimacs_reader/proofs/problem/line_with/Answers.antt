@@ -1,6 +1,5 @@
-use Rattle.std.proofs.Common.{◌≡◌, ℕ, ◌+◌, ◌-◌, List, ◌++◌, ◌∷◌, [], refl, sym, ap, subst, arith}
+use Rattle.std.proofs.Common.{ℕ, ◌++◌, ◌∷◌, [], refl, subst}
 use Rattle.dimacs_reader.specs.ProblemLines.{IsLineSoFar}
-use Rattle.dimacs_reader.specs.declared.problem.ProblemLine.TheVariants.{BehindP, C, Cn}
 use Rattle.dimacs_reader.proofs.Digits.{digit_back}
 use Rattle.dimacs_reader.proofs.ProblemSteps.{other_byte}
 use Rattle.dimacs_reader.proofs.problem.line_with.Goals as goal

@@ -1,5 +1,4 @@
-use Rattle.std.proofs.Common.{◌≡◌, ℕ, ◌+◌, ◌-◌, ◌*◌, ◌^◌, ◌∙◌, min, List, ◌++◌, ◌∷◌, [], true, sym, ap, subst, arith}
-use Rattle.std.specs.Char.{is_ascii_digit}
+use Rattle.std.proofs.Common.{◌≡◌, ℕ, ◌+◌, ◌-◌, ◌*◌, ◌^◌, ◌∙◌, min, ◌++◌, ◌∷◌, [], sym, ap, subst, arith}
 use Rattle.dimacs_reader.specs.ProblemLines.{IsLineSoFar}
 use Rattle.dimacs_reader.specs.declared.problem.ProblemLine.{ProblemLine}
 use Rattle.dimacs_reader.specs.declared.problem.ProblemLine.TheVariants.{Vars, Clauses}

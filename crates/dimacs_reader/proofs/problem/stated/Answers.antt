@@ -1,4 +1,4 @@
-use Rattle.std.proofs.Common.{◌≡◌, ℕ, List, ap, sym, subst, inl, inr}
+use Rattle.std.proofs.Common.{ℕ, ap, sym, subst, inl, inr}
 use Rattle.dimacs_reader.specs.Contents.{words_in}
 use Rattle.dimacs_reader.specs.ProblemLines.{IsLineSoFar, problem_line_kind}
 use Rattle.dimacs_reader.specs.declared.problem.ProblemLine.{ProblemLine}

@@ -1,4 +1,4 @@
-use Rattle.std.proofs.Common.{◌≡◌, ◌+◌, ℕ, sym, ap}
+use Rattle.std.proofs.Common.{◌+◌, ℕ, sym, ap}
 use Rattle.std.proofs.lemmas.Result.{IfErr-weaker, IfOk-weaker}
 use Rattle.dimacs_reader.proofs.Endings.{spelled, fault_at_the_end}
 use Rattle.dimacs_reader.proofs.reading.finished.Goals as goal

@@ -1,4 +1,4 @@
-use Rattle.std.proofs.Common.{◌≡◌, sym, subst}
+use Rattle.std.proofs.Common.{sym, subst}
 use Rattle.dimacs_reader.specs.Faults.{IsRefusalOf}
 use Rattle.dimacs_reader.specs.declared.refusal.Refused.{Refused}
 use Rattle.dimacs_reader.proofs.Refusals.{refusal_at_end}

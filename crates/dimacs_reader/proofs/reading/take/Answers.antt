@@ -1,4 +1,4 @@
-use Rattle.std.proofs.Common.{◌≡◌, sym}
+use Rattle.std.proofs.Common.{sym}
 use Rattle.std.proofs.lemmas.Result.{err_from_is_err_and}
 use Rattle.dimacs_reader.proofs.Refusals.{settled_stop}
 use Rattle.dimacs_reader.proofs.reading.take.Goals as goal

@@ -1,4 +1,4 @@
-use Rattle.std.proofs.Common.{◌≡◌, subst}
+use Rattle.std.proofs.Common.{subst}
 use Rattle.std.proofs.lemmas.Result.{err_from_is_err_and}
 use Rattle.dimacs_reader.specs.Stages.{StandsInHead}
 use Rattle.dimacs_reader.specs.declared.head.HeadLine.{HeadLine}

@@ -1,4 +1,4 @@
-use Rattle.std.proofs.Common.{◌≡◌, sym, subst}
+use Rattle.std.proofs.Common.{sym, subst}
 use Rattle.std.proofs.lemmas.Result.{err_from_is_err_and}
 use Rattle.dimacs_reader.specs.Stages.{StandsInNumbers, EndsAs}
 use Rattle.dimacs_reader.specs.declared.clauses.ReadState.{ReadState}

@@ -1,4 +1,3 @@
-use Rattle.std.proofs.Common.{◌≡◌}
 use Rattle.dimacs_reader.proofs.WordSteps.{no_number}
 use Rattle.dimacs_reader.proofs.word.number_of.Goals as goal
 

@@ -18,7 +18,7 @@ use Rattle.pure_strip.proofs.kernel.pure_kernel.Goals as goal
 pub pure_order-requires-clause-counted : goal.pure_order-requires-clause-counted
 pure_order-requires-clause-counted c =
     let up = c.in_ok-live.ensures.items_if_clones_equal (λ y e. e) ∙ ap (λ (m : ℕ). replicate m true) c.len.ensures.value in
-    let counts = c.in_ok-counts.ensures ∙ (λ i. record { vars = c.vars.ensures.value i; counts = c.in_ok-lengths.ensures i }) in
+    let counts = c.new-counts.ensures ∙ (λ i. record { vars = c.vars.ensures.value i; counts = c.in_ok-lengths.ensures i }) in
     Counted-start c.args.f.now _ _ _ up c.in_ok-holders.ensures counts
 
 pub pure_order-requires-clause-untouched : goal.pure_order-requires-clause-untouched

@@ -9,22 +9,22 @@ use Rattle.pure_strip.proofs.run.pure_order.Goals as goal
 
 pub positions-requires : goal.positions-requires
 positions-requires c =
-    let e = sym (least_is _ _ _ _ c.loop-l.invariant.counted c.loop-l.invariant.untouched) ∙ sym c.least_lone.ensures ∙ c.in-Some.is in
+    let e = sym (least_is _ _ _ _ c.loop-l.invariant.counted c.loop-l.invariant.untouched) ∙ sym c.least_lone.ensures.value ∙ c.in-Some.is in
     omega (arith, c.requires.holders.size, rank_small c.args.f.now.vars c.in-Some.l (least_literal c.args.f.now (untouched c.args.f.now c.loop-l.order) c.in-Some.l e))
 
 pub touch_all-requires-clause-within : goal.touch_all-requires-clause-within
 touch_all-requires-clause-within c =
-    let e = sym (least_is _ _ _ _ c.loop-l.invariant.counted c.loop-l.invariant.untouched) ∙ sym c.least_lone.ensures ∙ c.in-Some.is in
+    let e = sym (least_is _ _ _ _ c.loop-l.invariant.counted c.loop-l.invariant.untouched) ∙ sym c.least_lone.ensures.value ∙ c.in-Some.is in
     listed_within c.args.f.now c.in-Some.l _ (listed c.args.f.now c.args.holders.now c.in-Some.l _ c.requires.holders (least_literal c.args.f.now (untouched c.args.f.now c.loop-l.order) c.in-Some.l e) c.positions.ensures)
 
 pub loop-l-smaller : goal.loop-l-smaller
 loop-l-smaller c =
-    let e = sym (least_is _ _ _ _ c.loop-l.invariant.counted c.loop-l.invariant.untouched) ∙ sym c.least_lone.ensures ∙ c.in-Some.is in
+    let e = sym (least_is _ _ _ _ c.loop-l.invariant.counted c.loop-l.invariant.untouched) ∙ sym c.least_lone.ensures.value ∙ c.in-Some.is in
     subst (λ (ls : List ℤ). length (untouched c.args.f.now ls) < length (untouched c.args.f.now c.loop-l.order)) (sym c.in_ok-push.ensures.ok) (fewer_untouched c.args.f.now c.loop-l.order c.in-Some.l e)
 
 pub loop-l-preserved : goal.loop-l-preserved
 loop-l-preserved c =
-    let e = sym (least_is _ _ _ _ c.loop-l.invariant.counted c.loop-l.invariant.untouched) ∙ sym c.least_lone.ensures ∙ c.in-Some.is in
+    let e = sym (least_is _ _ _ _ c.loop-l.invariant.counted c.loop-l.invariant.untouched) ∙ sym c.least_lone.ensures.value ∙ c.in-Some.is in
     let list = listed c.args.f.now c.args.holders.now c.in-Some.l _ c.requires.holders (least_literal c.args.f.now (untouched c.args.f.now c.loop-l.order) c.in-Some.l e) c.positions.ensures in
     record {
       counted = c.in_ok-touch_all.ensures.counted;
@@ -36,5 +36,5 @@ loop-l-preserved c =
 
 pub returns-clause-run : goal.returns-clause-run
 returns-clause-run c =
-    let e = sym (least_is _ _ _ _ c.loop-l.invariant.counted c.loop-l.invariant.untouched) ∙ sym c.least_lone.ensures ∙ c.in_default.is in
+    let e = sym (least_is _ _ _ _ c.loop-l.invariant.counted c.loop-l.invariant.untouched) ∙ sym c.least_lone.ensures.value ∙ c.in_default.is in
     runs_end c.args.f.now c.loop-l.order e c.loop-l.invariant.run

@@ -1,4 +1,4 @@
-use Rattle.std.proofs.Common.{◌≡◌, ◌++◌, ◌∙◌, sym, subst}
+use Rattle.std.proofs.Common.{◌++◌, ◌∙◌, sym, subst}
 use Rattle.dimacs_reader.specs.Taken.{HasTaken, HasBeenFed}
 use Rattle.dimacs_reader.specs.declared.reading.Held.{Held}
 use Rattle.dimacs_reader.proofs.Refusals.{none_due}

@@ -1,0 +1,59 @@
+//! Asks the shelf over files and the sink over streams, as a script on standard input says, and prints what they
+//! answer through a sink over standard output.
+//!
+//! A line of the script is printed again, with its answers. A line that begins with `#` is a remark.
+//!
+//! - `shelf CALLS` asks one shelf, with commas between the calls: `start NAME`, `read SIZE`, which shows the bytes of
+//!   one piece, and `all SIZE`, which reads to the end in pieces of that size.
+//! - `sink NAME PIECES` writes the pieces into a file that is opened for writing, and is not made or cut for it.
+//! - `reader NAME PIECES` writes them into a file that is opened for reading alone.
+#![tactic(auto)]
+
+mod shelves;
+mod sinks;
+mod sums;
+
+use crate::shelves::put_calls;
+use crate::sinks::{print_all, put_reader, put_sink};
+use lk_outside::{FileShelf, StdSink};
+use std::alloc::AllocError;
+use std::rt::Files;
+use std::test::Fail;
+
+/// Writes what is answered to a line of the script.
+fn put_answer<R: Files + AllocGlobal>(
+    rt: &R,
+    line: &str,
+    out: &mut String,
+) -> Result<(), AllocError> {
+    let (word, rest) = line.split_once(" ").unwrap_or((line, ""));
+    match word {
+        "shelf" => put_calls(rt.alloc(), &mut FileShelf::new(rt, rt.alloc()), rest, out),
+        "sink" => put_sink(rt, rest, out),
+        "reader" => put_reader(rt, rest, out),
+        _ => Ok(()),
+    }
+}
+
+/// A line of the script, with what is answered to it.
+fn answered<R: Files + AllocGlobal>(rt: &R, line: &str) -> Result<String, AllocError> {
+    let mut out = String::new(rt.alloc());
+    write!(out, "{line}")?;
+    if !line.starts_with("#") {
+        write!(out, " ->")?;
+        put_answer(rt, line, &mut out)?;
+    }
+    writeln!(out)?;
+    Ok(out)
+}
+
+fn main(rt: HostRuntime) -> Result<(), Fail> {
+    let mut out = StdSink::new(rt.stdout());
+    for line in rt.lines(rt.alloc()) {
+        let text = answered(&rt, line?.as_str())?;
+        if print_all(&mut out, text.as_bytes()).is_err() {
+            return Err(Fail::from("standard output takes no more"));
+        }
+    }
+    Ok(())
+}
