@@ -56,7 +56,8 @@ set_rises F parts found t all j = rises_to_bound 0 (2 ^ 32) F.vars (map variable
     let w = key_found variable t.set v e in
     subst (λ (n : ℕ). n ≤ F.vars) w.at (set_bounds F parts found w.value all (j.set.only w.value w.there)).1)
 
-joined_in : (F : Cnf) (parts : List (List ℕ)) (found : List GeneralResult) (t : GeneralResult) → AreGeneralResults F parts found
+-- joined, as the laws on general results say it
+pub joined_in : (F : Cnf) (parts : List (List ℕ)) (found : List GeneralResult) (t : GeneralResult) → AreGeneralResults F parts found
     → AreJoined (length F.clauses) found t → AreJoinedIn F found t
 joined_in F parts found t all j = record {
   positions = subst (λ (ps : List ℕ). rises_within 0 (length F.clauses) ps ≡ true) (map-id t.kept) j.kept.rising;

@@ -17,7 +17,7 @@ pub enum Decided {
     Sat(Partial),
     /// A refutation: its last step states the empty clause.
     Refuted(Log),
-    /// As many learned clauses as were allowed.
+    /// As many learned clauses as were allowed, where a further conflict stands above level 0.
     Stopped(Log),
 }
 

@@ -7,17 +7,22 @@
 //! - `shelf`, `out` or `say`, and then `chunk N`, how many bytes move at a time; `room N`, how many a sink
 //!   takes; or `fails N..`, the numbers of the calls that fail.
 //! - `run WORDS`: the commands run with these words.
+//! - `calls WORDS`: the same, and it tells the calls on the shelf and the sinks, in their order, as below.
 //! - `meet WORDS`: the same at a gate where halves of the work meet, which tells how often each entered.
 //! - `keep NAME`: what the last run wrote stands under that name.
 //! - `verdict WORDS`: the line that tells this verdict.
+//!
+//! Calls are told as `start NAME`, and as `read`, `out` or `say` with how many bytes each call moved. One
+//! that failed is told as `failed`.
 #![tactic(auto)]
 
+mod calls;
 mod outside;
 mod runs;
 mod script;
 mod verdicts;
 
-use crate::runs::{print_meeting, print_run};
+use crate::runs::{print_calls, print_meeting, print_run};
 use crate::script::Script;
 use crate::verdicts::print_verdict;
 use std::test::Fail;
@@ -32,6 +37,7 @@ fn take<R: Threads + Sync + AllocGlobal + Print>(
     let (word, rest) = line.split_once(" ").unwrap_or((line, ""));
     match word {
         "run" => print_run(rt, script, rest),
+        "calls" => print_calls(rt, script, rest),
         "meet" => print_meeting(rt, script, rest),
         "verdict" => print_verdict(rt, rest),
         _ => script.take(rt.alloc(), word, rest),

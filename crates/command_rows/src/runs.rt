@@ -1,9 +1,10 @@
 //! Runs of the commands, and what they leave.
-use crate::outside::{Sinks, shelf_of, sinks_of};
+use crate::calls::Calls;
+use crate::outside::{Outside, outside_of};
 use crate::script::Script;
 use gate_samples::Meeting;
 use lk_model::OutOfMemory;
-use lk_outside::{Gate, MemoryShelf, OpenGate};
+use lk_outside::{Gate, OpenGate};
 use std::alloc::{AllocError, Global};
 use std::io::{self, Write};
 use std::test::Fail;
@@ -17,20 +18,31 @@ pub(crate) fn print_run<R: Threads + Sync + AllocGlobal + Print>(
     script: &mut Script,
     line: &str,
 ) -> Result<(), Fail> {
-    let mut sinks = sinks_of(rt.alloc(), script)?;
-    print_over(rt, script, line, &mut sinks, &OpenGate)
+    let calls = Calls::new(rt.alloc());
+    print_over(rt, script, line, &calls, &OpenGate)
 }
 
-/// The same at a gate that holds each half of the work until the other one has entered, and how often each
-/// has entered and whether it met the other.
+/// The same, and behind a line `-- calls` the calls on the shelf and the sinks.
+pub(crate) fn print_calls<R: Threads + Sync + AllocGlobal + Print>(
+    rt: &R,
+    script: &mut Script,
+    line: &str,
+) -> Result<(), Fail> {
+    let calls = Calls::new(rt.alloc());
+    print_over(rt, script, line, &calls, &OpenGate)?;
+    calls.print(rt)
+}
+
+/// The same as `print_run` at a gate that holds each half of the work until the other one has entered, and
+/// how often each has entered and whether it met the other.
 pub(crate) fn print_meeting<R: Threads + Sync + AllocGlobal + Print>(
     rt: &R,
     script: &mut Script,
     line: &str,
 ) -> Result<(), Fail> {
-    let mut sinks = sinks_of(rt.alloc(), script)?;
+    let calls = Calls::new(rt.alloc());
     let gate = Meeting::new();
-    print_over(rt, script, line, &mut sinks, &gate)?;
+    print_over(rt, script, line, &calls, &gate)?;
     println!(rt; "-- entered {:?}; met {:?}", gate.times(), gate.met())?;
     Ok(())
 }
@@ -39,12 +51,13 @@ fn print_over<R: Threads + Sync + AllocGlobal + Print, G: Gate>(
     rt: &R,
     script: &mut Script,
     line: &str,
-    sinks: &mut Sinks,
+    calls: &Calls,
     gate: &G,
 ) -> Result<(), Fail> {
-    let status = run_line(rt, script, line, sinks, gate)?;
-    print_left(rt, line, status, sinks)?;
-    replace(&mut script.written, sinks.out.bytes())?;
+    let mut outside = outside_of(rt.alloc(), script, calls)?;
+    let status = run_line(rt, line, &mut outside, gate)?;
+    print_left(rt, line, status, &outside)?;
+    replace(&mut script.written, outside.out.bytes())?;
     Ok(())
 }
 
@@ -57,39 +70,36 @@ fn replace(held: &mut Vec<u8>, bytes: &[u8]) -> Result<(), AllocError> {
 /// Runs the commands with the words of a line.
 fn run_line<R: Threads + Sync + AllocGlobal, G: Gate>(
     rt: &R,
-    script: &Script,
     line: &str,
-    sinks: &mut Sinks,
+    outside: &mut Outside<'_>,
     gate: &G,
 ) -> Result<u8, OutOfMemory> {
     let words: Vec<&str> = line.split_whitespace().collect(rt.alloc())?;
-    let mut shelf = shelf_of(rt.alloc(), script)?;
-    Ok(run_over(rt, rt.alloc(), words.as_slice(), &mut shelf, sinks, gate))
+    Ok(run_over(rt, rt.alloc(), words.as_slice(), outside, gate))
 }
 
 fn run_over<R: Threads + Sync, G: Gate>(
     rt: &R,
     alloc: Global,
     words: &[&str],
-    shelf: &mut MemoryShelf,
-    sinks: &mut Sinks,
+    outside: &mut Outside<'_>,
     gate: &G,
 ) -> u8 {
     run(
         rt,
         alloc,
         words,
-        shelf,
-        &mut sinks.out,
-        &mut sinks.say,
+        &mut outside.shelf,
+        &mut outside.out,
+        &mut outside.say,
         gate,
     )
 }
 
 /// Prints the words, the status, and what was written and said.
-fn print_left<R: Print>(rt: &R, line: &str, status: u8, sinks: &Sinks) -> io::Result<()> {
+fn print_left<R: Print>(rt: &R, line: &str, status: u8, outside: &Outside<'_>) -> io::Result<()> {
     println!(rt; "== {line}\nstatus {status}")?;
-    io::writer(rt).write_all(sinks.out.bytes())?;
+    io::writer(rt).write_all(outside.out.bytes())?;
     println!(rt; "-- said")?;
-    io::writer(rt).write_all(sinks.say.bytes())
+    io::writer(rt).write_all(outside.say.bytes())
 }

@@ -10,6 +10,7 @@ use std::test::Fail;
 const KINDS: &[(&str, Kind)] = &[
     ("other-formula", Kind::OtherFormula),
     ("kept-clause", Kind::KeptClause),
+    ("protected-set", Kind::ProtectedSet),
     ("not-autarky", Kind::NotAutarky),
     ("not-exactly-removed", Kind::NotExactlyRemoved),
     ("bad-order", Kind::BadOrder),
@@ -26,6 +27,7 @@ const KINDS: &[(&str, Kind)] = &[
     ("not-blocked", Kind::NotBlocked),
     ("not-learned", Kind::NotLearned),
     ("model-fails", Kind::ModelFails),
+    ("bad-without", Kind::BadWithout),
 ];
 
 /// Prints the line that tells a verdict, and says so where it is not all there is.

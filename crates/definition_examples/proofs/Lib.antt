@@ -9,6 +9,8 @@ pub mod Verdicts
 pub mod SingleSteps
 pub mod LinearRuns
 pub mod RoundsOfParts
+pub mod SearchesAtRest
+pub mod MinimalSets
 pub mod WrittenTexts
 -- Protected variables.
 pub mod ProtectedDocuments

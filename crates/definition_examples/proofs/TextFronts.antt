@@ -1,10 +1,10 @@
--- Texts that go on as documents, and texts that stop being one.
+-- Texts that go on as documents, and texts that stop being one; the same for another set of texts.
 use Rattle.std.specs.Prelude.{◌≡◌, ◌<◌, ℕ, zero, suc, refl, List, [], ◌∷◌, take, codes, Some}
 use Rattle.std.specs.Fmt.{digits}
-use Rattle.std.proofs.Common.{arith}
+use Rattle.std.proofs.Common.{arith, ap, ◌∙◌}
 use Rattle.lk_model.specs.Documents.Form.{is_body, are_clause_lines, is_done_in_form, is_open_in_form}
 use Rattle.lk_model.specs.Documents.Text.{text_lines}
-use Rattle.lk_model.specs.Documents.Reading.{GoesOn, StopsAt, cut_lines}
+use Rattle.lk_model.specs.Documents.Reading.{GoesOn, StopsAt, GoesOnAs, StopsAs, cut_lines}
 use Rattle.lk_model.specs.declared.document.Document.{Document}
 use Rattle.lk_model.specs.declared.document.Document.TheVariants.{Done, Unfinished}
 use Rattle.definition_examples.proofs.WorkedDocuments.{pure_done}
@@ -32,3 +32,21 @@ any_front bytes (suc k) h = absurd (omega (arith, h))
 empty_text : StopsAt [] 1
 unfolding cut_lines
 empty_text = record { stops = λ g. has_a_line g.document g.same; first = any_front [] }
+
+-- a text whose second line is empty leaves the one text of two lines there
+abbrev two_lines : List ℕ → Type 0
+two_lines text = text ≡ codes "a\nb\n"
+
+one_line : (k : ℕ) → k < 2 → GoesOnAs two_lines (codes "a\n\n") k
+unfolding cut_lines
+one_line zero h = record { text = codes "a\nb\n"; admitted = refl; same = refl }
+one_line (suc zero) h = record { text = codes "a\nb\n"; admitted = refl; same = refl }
+one_line (suc (suc k)) h = absurd (omega (arith, h))
+
+no_second_line : (text : List ℕ) → two_lines text → take 2 (cut_lines (codes "a\n\n")) ≡ take 2 (cut_lines text) → ⊥
+unfolding cut_lines
+no_second_line text is same =
+    let e : take 2 (cut_lines (codes "a\n\n")) ≡ take 2 (cut_lines (codes "a\nb\n")) = same ∙ ap (λ (t : List ℕ). take 2 (cut_lines t)) is in cc
+
+leaves_second : StopsAs two_lines (codes "a\n\n") 2
+leaves_second = record { stops = λ g. no_second_line g.text g.admitted g.same; first = one_line }

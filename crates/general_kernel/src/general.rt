@@ -24,9 +24,9 @@ use std::alloc::Global;
 /// What is found of the general kernel in a part.
 #[derive(Drop)]
 pub enum General {
-    /// The kernel, with literals that satisfy the other clauses of the part, and trimmed rounds.
+    /// The kernel, with literals that satisfy the other clauses of the part, and trimmed rounds, of which none is needless.
     Done(GeneralResult),
-    /// Whole rounds and an open one, with as many learned clauses as were allowed.
+    /// Whole rounds and an open one that is not at its end, with as many learned clauses as were allowed.
     Unfinished(List<Round>),
 }
 

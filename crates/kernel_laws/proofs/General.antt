@@ -7,6 +7,7 @@ pub mod Stated
 pub mod Reaching
 pub mod Blocking
 pub mod GeneralLaws
+pub mod Refuting
 -- How many clauses rounds learn.
 pub mod Codes
 pub mod Passing
@@ -20,6 +21,7 @@ pub mod Wholes
 pub mod JoinLaws
 pub mod Growing
 pub mod PartLaws
+pub mod Foreign
 pub mod SetUnions
 pub mod PartResults
 -- What is found.

@@ -12,6 +12,14 @@ pub mod ApartLiterals
 pub mod FirstChecks
 pub mod Passed
 pub mod Reductions
+-- Minimally unsatisfiable sets.
+pub mod Flips
+pub mod MinimalLaws
+pub mod WitnessLaws
+-- Tables and lists that code fills in a loop.
+pub mod FirstTables
+pub mod WeightLines
+pub mod Overwritten
 -- Of one class.
 pub mod Pure
 pub mod Matching
@@ -19,3 +27,7 @@ pub mod Linear
 pub mod General
 -- Under protected variables.
 pub mod Protected
+-- Of all of these.
+pub mod SameKept
+pub mod KernelLaws
+pub mod Existence

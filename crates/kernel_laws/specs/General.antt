@@ -1,8 +1,10 @@
 -- The class general: rounds, what they show and how many clauses they learn, and rounds over parts.
 pub mod GeneralLaw
+pub mod RefutationLaw
 pub mod CountLaw
 pub mod GrowLaw
 pub mod JoinLaw
 pub mod PartLaw
+pub mod ForeignLaw
 pub mod GeneralResults
 pub mod OpenResults

@@ -1,6 +1,10 @@
 -- Of every class.
 pub mod OneKernel
+pub mod SameKept
+pub mod KernelLaw
 pub mod Accepted
+pub mod MinimalLaw
+pub mod FirstTables
 -- Of one class.
 pub mod Pure
 pub mod Matching

@@ -1,14 +1,18 @@
 //! Laws on kernels and on the checks and the reducers of each class.
 ghost use Rattle.kernel_laws.specs.General.CountLaw.{CountLaw};
+ghost use Rattle.kernel_laws.specs.General.ForeignLaw.{ForeignLaw};
 ghost use Rattle.kernel_laws.specs.General.GeneralLaw.{GeneralLaw};
 ghost use Rattle.kernel_laws.specs.General.GeneralResults.{GeneralResultLaw};
 ghost use Rattle.kernel_laws.specs.General.GrowLaw.{GrowLaw};
 ghost use Rattle.kernel_laws.specs.General.JoinLaw.{JoinLaw};
 ghost use Rattle.kernel_laws.specs.General.OpenResults.{OpenResultLaw};
 ghost use Rattle.kernel_laws.specs.General.PartLaw.{PartLaw};
+ghost use Rattle.kernel_laws.specs.General.RefutationLaw.{RefutationLaw};
+ghost use Rattle.kernel_laws.specs.KernelLaw.{ExistenceLaw, KernelLaw};
 ghost use Rattle.kernel_laws.specs.Linear.LinearLaw.{LinearLaw};
 ghost use Rattle.kernel_laws.specs.Matching.MatchingLaw.{MatchingLaw};
 ghost use Rattle.kernel_laws.specs.Matching.MatchingResults.{MatchingResultLaw};
+ghost use Rattle.kernel_laws.specs.MinimalLaw.{MinimalLaw, WitnessLaw};
 ghost use Rattle.kernel_laws.specs.OneKernel.{HasOneKernel, HasOneKernelUnder};
 ghost use Rattle.kernel_laws.specs.Pure.PureLaw.{PureLaw};
 ghost use Rattle.kernel_laws.specs.Pure.PureResults.{PureResultLaw};
@@ -18,11 +22,31 @@ ghost use Rattle.kernel_laws.specs.Protected.AcceptedLaw.{AcceptedLaw};
 ghost use Rattle.kernel_laws.specs.Protected.FoundLaw.{FoundLaw};
 ghost use Rattle.kernel_laws.specs.Protected.ModelLaw.{ModelLaw};
 ghost use Rattle.kernel_laws.specs.Protected.EmptyLaw.{EmptyLaw};
+ghost use Rattle.kernel_laws.specs.SameKept.{SameKeptLaw};
 
 /// A formula has one kernel of a class at most, and so it has under protected variables.
 pub fn one_kernel()
     ensures one { HasOneKernel }
     ensures under { HasOneKernelUnder }
+{}
+
+/// Two lean sets are lean together, so it is refuted that a formula has no kernel of a class.
+#[tactic(auto, using(crate::proofs::KernelLaws::kernel_law))]
+pub fn kernel_law()
+    ensures { KernelLaw }
+{}
+
+/// A formula has a pure, a matching and a general kernel.
+#[tactic(auto, using(crate::proofs::Existence::ExistenceLaws::existence_law))]
+pub fn existence_law()
+    ensures { ExistenceLaw }
+{}
+
+/// Whatever made them, two documents of one class that reduce a formula under the same protected variables keep
+/// the same clauses.
+#[tactic(auto, using(crate::proofs::SameKept::same_kept_law))]
+pub fn same_kept()
+    ensures { SameKeptLaw }
 {}
 
 /// A pure run leaves the kernel of the formula. Pairs make the kept set of a pure document lean, and
@@ -105,6 +129,33 @@ pub fn join_law()
 #[tactic(auto, using(crate::proofs::General::PartLaws::part_law))]
 pub fn part_law()
     ensures { PartLaw }
+{}
+
+/// What the rounds of a part state and learn they do over all positions, where each other clause has a variable
+/// that the part does not have.
+#[tactic(auto, using(crate::proofs::General::Foreign::foreign_law))]
+pub fn foreign_law()
+    ensures { ForeignLaw }
+{}
+
+/// Clauses that a round refutes have no model.
+#[tactic(auto, using(crate::proofs::General::Refuting::refutation_law))]
+pub fn refutation_law()
+    ensures { RefutationLaw }
+{}
+
+/// A set of clauses without a model, of which each can be left out for a model, is minimally unsatisfiable, and
+/// so is in the general kernel.
+#[tactic(auto, using(crate::proofs::MinimalLaws::minimal_law))]
+pub fn minimal_law()
+    ensures { MinimalLaw }
+{}
+
+/// What satisfies all clauses of a set but one shows that this one is needed, and may be turned into what
+/// satisfies all but another one.
+#[tactic(auto, using(crate::proofs::WitnessLaws::witness_law))]
+pub fn witness_law()
+    ensures { WitnessLaw }
 {}
 
 /// A document that the checks accept is a reduction of the formula, of each class and with any

@@ -87,10 +87,6 @@ balance_sum F ((p, y) ∷ ys) v form =
 
 -- ONE MORE
 
--- what is written over a whole list
-pub whole : {X : Type 0} (n : ℕ) (xs ys : List X) → length xs ≡ n → length ys ≤ length xs → take n (xs ++ drop (length xs) ys) ≡ xs
-whole n xs ys size short = ap (λ (zs : List _). take n (xs ++ zs)) (drop_all (length xs) ys short) ∙ ap (take n) (append-nil xs) ∙ take_all n xs (omega (arith, size))
-
 -- the numbers of two clauses together, and of two lists of positions
 numbers_in_both : (y : ℤ) (c d : List ℤ) (v : ℕ) → numbers_in y (c ++ d) v ≡ numbers_in y c v ++ numbers_in y d v
 numbers_in_both y [] d v = refl

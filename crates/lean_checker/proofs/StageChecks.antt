@@ -21,23 +21,9 @@ use Rattle.lk_model.proofs.Booleans.{and_true}
 use Rattle.lk_model.proofs.Flags.{same_false}
 use Rattle.lk_model.proofs.ListTests.{all_at}
 use Rattle.lk_model.proofs.Rising.{rising_bounds}
+use Rattle.kernel_laws.proofs.WeightLines.{IsWeightWithin}
 use Rattle.lean_checker.specs.Linear.{weight_in, first_stage, first_weight, AreFirsts, NotesStage, sign_of, is_bad_sign}
 use Rattle.lean_checker.proofs.KeptFlags.{find_to}
-
--- its variable is one of the formula, and its number is not 0
-pub record IsWeightWithin (n : ℕ) (w : Weight) : Type 0 where
-  pub first : 1 ≤ w.var
-  pub last : w.var ≤ n
-  pub nonzero : is_nonzero w.x ≡ true
-  pub range : is_in_range w.x ≡ true
-
-pub weight_within : (n : ℕ) (weights : List Weight) (i : ℕ) (d : Weight) → rises_within 0 n (map (λ (w : Weight). w.var) weights) ≡ true → list_all (λ (w : Weight). is_weight w.x) weights ≡ true → i < length weights
-    → IsWeightWithin n (get_or weights i d)
-weight_within n weights i d rising all lt =
-    let b = rising_bounds 0 n (map (λ (w : Weight). w.var) weights) i rising (omega (arith, lt, length-map weights (λ (w : Weight). w.var))) in
-    let at = get_or-map (λ (w : Weight). w.var) weights i d 0 lt in
-    let parts = and_true (is_nonzero (get_or weights i d).x) (is_in_range (get_or weights i d).x) (all_at (λ (w : Weight). is_weight w.x) weights i d all lt) in
-    record { first = omega (arith, b.0, at); last = omega (arith, b.1, at); nonzero = parts.0; range = parts.1 }
 
 -- no weight more
 pub stage_none : (n k : ℕ) (stage : List Weight) (i : ℕ) (places : List ℕ) (weights : List ℤ) → length stage ≤ i → NotesStage n k (drop i stage) places weights places weights

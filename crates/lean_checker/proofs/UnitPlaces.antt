@@ -10,7 +10,7 @@ use Rattle.lk_model.specs.Lists.{up_to}
 use Rattle.lk_model.specs.Documents.Documents.{unit_of}
 use Rattle.lk_model.specs.declared.document.Unit.{Unit}
 use Rattle.lean_checker.specs.Linear.{AreUnitPlaces, HasUnitPlaces, no_unit, unit_line, unit_numbered}
-use Rattle.lean_checker.proofs.FirstTables.{first_more, first_none}
+use Rattle.kernel_laws.proofs.FirstTables.{first_more, first_none}
 
 -- the first number whose unit passes is that of the first unit that passes
 listed : (t : Unit → Bool) (all : List Unit) (a : ℕ) (us : List Unit) → 0 < a → ((j : ℕ) → j < length us → unit_numbered all (a + j) ≡ get_or us j no_unit)

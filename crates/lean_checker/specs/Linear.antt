@@ -16,7 +16,7 @@ use Rattle.lk_model.specs.declared.document.Dual.{Dual}
 use Rattle.lk_model.specs.declared.document.Share.{Share}
 use Rattle.lk_model.specs.declared.document.Unit.{Unit}
 use Rattle.lean_checker.specs.Flags.{is_flagged}
-use Rattle.lean_checker.specs.Matching.{IsFirstTable}
+use Rattle.kernel_laws.specs.FirstTables.{IsFirstTable}
 
 -- DUALS
 

@@ -10,12 +10,8 @@ use Rattle.lk_model.specs.Held.VariableSets.{is_in}
 use Rattle.lk_model.specs.Checks.Check.{line_fails}
 use Rattle.lk_model.specs.declared.document.Own.{Own}
 use Rattle.lk_model.specs.declared.document.MatchRow.{MatchRow}
+use Rattle.kernel_laws.specs.FirstTables.{IsFirstTable}
 use Rattle.lean_checker.specs.Flags.{is_flagged}
-
--- Of each key from 1 to size stands there what the first line with the key has; `none` where no line has it.
-pub record IsFirstTable {X Y : Type 0} (size : ℕ) (key : X → ℕ) (entry : X → Y) (outside none : Y) (lines : List X) (table : List Y) : Type 0 where
-  pub size_is : length table ≡ size
-  pub told : (k : ℕ) → 1 ≤ k → k ≤ size → slice_index_or table (k - 1) outside ≡ option_map_or entry (find (λ (x : X). key x == k) lines) none
 
 -- OWN LINES, over m positions and n variables
 

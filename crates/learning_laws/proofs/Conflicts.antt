@@ -17,7 +17,8 @@ use Rattle.lk_model.proofs.Literals.{int_self, same_int, variable_complement}
 use Rattle.watch_prop.specs.declared.entry.Entry.{Entry}
 use Rattle.watch_prop.specs.declared.entry.Propagated.TheVariants.{Conflict}
 use Rattle.watch_prop.specs.Trail.{false_in, assignment_along, level_of, present_level, up_to_level, clause_numbered}
-use Rattle.watch_prop.specs.Propagation.{IsAnswered, Propagation, IsPropagation, assigned, is_false}
+use Rattle.watch_prop.specs.Propagation.{IsAnswered, Propagation, IsPropagation, assigned}
+use Rattle.lk_model.specs.Formulas.Units.{is_false}
 use Rattle.watch_prop.proofs.Truths.{same_true}
 use Rattle.watch_prop.proofs.Along.{makes_true_along}
 use Rattle.watch_prop.proofs.Units.{each_numbered}

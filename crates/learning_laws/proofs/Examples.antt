@@ -5,7 +5,8 @@ use Rattle.std.specs.Ordering.{int_eq}
 use Rattle.lk_model.specs.Formulas.Literal.{contains}
 use Rattle.lk_model.proofs.Booleans.{or_true}
 use Rattle.watch_prop.specs.Trail.{is_trail, assignment_along, up_to_level}
-use Rattle.watch_prop.specs.Propagation.{Propagation, IsPropagation, assigned, is_false, is_quiet}
+use Rattle.watch_prop.specs.Propagation.{Propagation, IsPropagation, assigned, is_quiet}
+use Rattle.lk_model.specs.Formulas.Units.{is_false}
 use Rattle.lk_model.proofs.Literals.{same_int}
 use Rattle.learning_laws.specs.Learned.{stands_up_to, IsQuietBelow, IsLearnedFor}
 use Rattle.learning_laws.proofs.Levels.{low_there}

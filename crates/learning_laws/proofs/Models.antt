@@ -22,7 +22,8 @@ use Rattle.kernel_laws.proofs.Clauses.{from_filtered}
 use Rattle.watch_prop.specs.declared.entry.Entry.{Entry}
 use Rattle.watch_prop.specs.declared.entry.NumberedClause.{NumberedClause}
 use Rattle.watch_prop.specs.Trail.{literals_of, false_in, entry_of, present_level}
-use Rattle.watch_prop.specs.Propagation.{Propagation, IsPropagation, GoesOn, assigned, is_false, is_unit, is_quiet, crossed_clauses, with_held, with_assigned, back_at}
+use Rattle.watch_prop.specs.Propagation.{Propagation, IsPropagation, GoesOn, assigned, is_quiet, crossed_clauses, with_held, with_assigned, back_at}
+use Rattle.lk_model.specs.Formulas.Units.{is_false, is_unit}
 use Rattle.watch_prop.proofs.Trails.{entry_there}
 use Rattle.watch_prop.proofs.Along.{literal_on_path}
 use Rattle.watch_prop.proofs.Units.{each_numbered}

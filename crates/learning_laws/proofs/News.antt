@@ -14,7 +14,8 @@ use Rattle.kernel_laws.proofs.Clauses.{same_of, of_same}
 use Rattle.watch_prop.specs.declared.entry.Entry.{Entry}
 use Rattle.watch_prop.specs.declared.entry.NumberedClause.{NumberedClause}
 use Rattle.watch_prop.specs.Trail.{literals_of, true_in, false_in, entry_of, assignment_along, level_of, present_level, up_to_level, forces}
-use Rattle.watch_prop.specs.Propagation.{Propagation, IsPropagation, is_false, is_unset, is_unit, is_quiet, may_be_held}
+use Rattle.watch_prop.specs.Propagation.{Propagation, IsPropagation, is_quiet, may_be_held}
+use Rattle.lk_model.specs.Formulas.Units.{is_false, is_unset, is_unit}
 use Rattle.watch_prop.proofs.Truths.{same_true, no_sign_twice}
 use Rattle.watch_prop.proofs.Along.{false_along}
 use Rattle.watch_prop.proofs.Units.{two_pass, forces_unit, unset_by_entry, not_true_unset}

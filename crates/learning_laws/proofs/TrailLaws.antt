@@ -14,7 +14,8 @@ use Rattle.lk_model.proofs.Founds.{all_literals}
 use Rattle.lk_model.proofs.Ranks.{literal_bounds}
 use Rattle.watch_prop.specs.declared.entry.Entry.{Entry}
 use Rattle.watch_prop.specs.Trail.{literals_of, false_in, entry_of, present_level, up_to_level, may_come, is_path}
-use Rattle.watch_prop.specs.Propagation.{Propagation, IsPropagation, GoesOn, assigned, is_false, with_assigned}
+use Rattle.watch_prop.specs.Propagation.{Propagation, IsPropagation, GoesOn, assigned, with_assigned}
+use Rattle.lk_model.specs.Formulas.Units.{is_false}
 use Rattle.watch_prop.proofs.Paths.{comes, last_level, level_after, level_not_below, back_there}
 use Rattle.watch_prop.proofs.Truths.{ComeAfter, none_later, no_sign_twice}
 use Rattle.lk_model.proofs.Literals.{variable_complement, complement_twice}

@@ -10,7 +10,8 @@ use Rattle.kernel_laws.proofs.Clauses.{mentions_of}
 use Rattle.watch_prop.specs.declared.entry.Entry.{Entry}
 use Rattle.watch_prop.specs.declared.entry.Propagated.TheVariants.{Conflict}
 use Rattle.watch_prop.specs.Trail.{literals_of, false_in, entry_of, level_of, present_level, clause_numbered}
-use Rattle.watch_prop.specs.Propagation.{Propagation, IsPropagation, IsAnswered, assigned, is_false}
+use Rattle.watch_prop.specs.Propagation.{Propagation, IsPropagation, IsAnswered, assigned}
+use Rattle.lk_model.specs.Formulas.Units.{is_false}
 use Rattle.watch_prop.proofs.Truths.{same_true}
 use Rattle.lk_model.proofs.Literals.{complement_twice, variable_complement}
 use Rattle.learning_laws.specs.Learned.{stands_at, are_false_in, IsQuietBelow, IsLearnedFor}

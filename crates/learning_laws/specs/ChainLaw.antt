@@ -11,7 +11,8 @@ use Rattle.refutation_log.specs.Derivation.{are_numbered}
 use Rattle.watch_prop.specs.declared.entry.Entry.{Entry}
 use Rattle.watch_prop.specs.declared.entry.Propagated.TheVariants.{Conflict}
 use Rattle.watch_prop.specs.Trail.{present_level, clause_numbered}
-use Rattle.watch_prop.specs.Propagation.{Propagation, IsPropagation, assigned, is_false, numbers_of, IsAnswered}
+use Rattle.watch_prop.specs.Propagation.{Propagation, IsPropagation, assigned, numbers_of, IsAnswered}
+use Rattle.lk_model.specs.Formulas.Units.{is_false}
 use Rattle.learning_laws.specs.Learned.{stands_at, are_false_in, IsQuietBelow, IsLearnedFor, HoldsAll}
 
 -- each number of a clause that is held stands for this clause in chains

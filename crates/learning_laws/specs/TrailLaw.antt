@@ -5,7 +5,8 @@ use Rattle.lk_model.specs.Formulas.Literal.{variable, complement, contains, ment
 use Rattle.lk_model.specs.Formulas.Assignment.{makes_true}
 use Rattle.watch_prop.specs.declared.entry.Entry.{Entry}
 use Rattle.watch_prop.specs.Trail.{literals_of, true_in, entry_of, present_level, up_to_level, clause_numbered, forces}
-use Rattle.watch_prop.specs.Propagation.{Propagation, IsPropagation, GoesOn, assigned, is_false, with_assigned}
+use Rattle.watch_prop.specs.Propagation.{Propagation, IsPropagation, GoesOn, assigned, with_assigned}
+use Rattle.lk_model.specs.Formulas.Units.{is_false}
 use Rattle.learning_laws.specs.Learned.{are_false_in}
 
 -- the trail up to a level is its first part

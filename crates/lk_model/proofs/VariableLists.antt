@@ -21,7 +21,7 @@ none_in n zero = refl
 none_in n (suc k) = none_at n k
 
 -- a variable that is put in
-is_in_with : (flags : List Bool) (x v : ℕ) → 0 < x → x ≤ length flags → is_in (with_variable flags x) v ≡ (is_in flags v || x == v)
+pub is_in_with : (flags : List Bool) (x v : ℕ) → 0 < x → x ≤ length flags → is_in (with_variable flags x) v ≡ (is_in flags v || x == v)
 is_in_with flags zero v first last = absurd (omega (arith, first))
 is_in_with flags (suc k) zero first last = by_test (suc k == 0) refl
   where

@@ -1,3 +1,4 @@
 -- Resolution chains, and rounds of refutations.
 pub mod Chain
 pub mod Rounds
+pub mod Searches

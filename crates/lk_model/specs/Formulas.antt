@@ -2,6 +2,7 @@
 pub mod Literal
 pub mod Formula
 pub mod Assignment
+pub mod Units
 pub mod Balance
 pub mod Autarky
 pub mod Lean
@@ -9,3 +10,4 @@ pub mod Crossed
 pub mod Protected
 pub mod PureRun
 pub mod Parts
+pub mod Minimal

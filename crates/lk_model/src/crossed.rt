@@ -1,8 +1,10 @@
 //! Sets of variables, and clauses without the literals of such a set.
-ghost use Rattle.std.specs.Prelude.{◌≡◌, ◌<◌, ◌≤◌, ◌||◌, ℕ, IfOk, OnOk, IsTrue, replicate, false, length, []};
+ghost use Rattle.std.specs.Prelude.{◌≡◌, ◌<◌, ◌≤◌, ◌||◌, ◌&&◌, ◌==◌, not, ℕ, IfOk, OnOk, IsTrue, replicate, false, length, []};
+ghost use Rattle.std.specs.List.{list_all};
 ghost use Rattle.lk_model.specs.Lists.{among, rises_within};
-ghost use Rattle.lk_model.specs.Formulas.Literal.{is_clause};
-ghost use Rattle.lk_model.specs.Formulas.Formula.{clause_at};
+ghost use Rattle.lk_model.specs.Formulas.Literal.{is_clause, is_literal, mentions};
+ghost use Rattle.lk_model.specs.Formulas.Formula.{clause_at, variable_occurs};
+ghost use Rattle.lk_model.specs.Formulas.Lean.{are_positions};
 ghost use Rattle.lk_model.specs.Formulas.Crossed.{crossed_out, formula_without};
 ghost use Rattle.lk_model.specs.Held.VariableSets.{is_in, with_variable, IsCrossed};
 
@@ -64,6 +66,50 @@ impl VarSet {
     {
         for v in vars {
             self.add(*v);
+        }
+    }
+
+    /// Puts the variables of a clause in.
+    pub fn add_clause(&mut self, clause: &[Lit])
+        requires { IsTrue (list_all (is_literal (length self.old)) clause.now) }
+        ensures size { length self.new ≡ length self.old }
+        ensures vars { (v : ℕ) → is_in self.new v ≡ (is_in self.old v || mentions clause.now v) }
+    {
+        for l in clause {
+            self.add(l.var());
+        }
+    }
+
+    /// Puts the variables of the clauses at positions of a formula in.
+    pub fn add_clauses(&mut self, f: &Formula, positions: &[u32])
+        requires positions { IsTrue (are_positions f.now positions.now) }
+        requires size { length self.old ≡ f.now.vars }
+        ensures size { length self.new ≡ length self.old }
+        ensures vars { (v : ℕ) → is_in self.new v ≡ (is_in self.old v || variable_occurs f.now positions.now v) }
+    {
+        for p in positions {
+            self.add_clause(f.clause(*p));
+        }
+    }
+
+    /// Takes a variable out.
+    pub fn remove(&mut self, v: u32)
+        requires first { 0 < v }
+        requires last { v ≤ length self.old }
+        ensures size { length self.new ≡ length self.old }
+        ensures vars { (u : ℕ) → is_in self.new u ≡ (is_in self.old u && not (u == v)) }
+    {
+        self.flags[v as usize - 1] = false;
+    }
+
+    /// Takes the variables of a clause out.
+    pub fn remove_clause(&mut self, clause: &[Lit])
+        requires { IsTrue (list_all (is_literal (length self.old)) clause.now) }
+        ensures size { length self.new ≡ length self.old }
+        ensures vars { (v : ℕ) → is_in self.new v ≡ (is_in self.old v && not (mentions clause.now v)) }
+    {
+        for l in clause {
+            self.remove(l.var());
         }
     }
 

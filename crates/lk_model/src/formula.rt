@@ -1,10 +1,11 @@
 //! Formulas.
-ghost use Rattle.std.specs.Prelude.{◌≡◌, ◌++◌, ◌∷◌, [], ◌+◌, ◌<◌, ◌≤◌, ◌↔◌, ◌⊎◌, length, OnOk, OnErr, IfOk, IsErrOf, IsTrue};
+ghost use Rattle.std.specs.Prelude.{◌≡◌, ◌++◌, ◌∷◌, [], ◌+◌, ◌<◌, ◌≤◌, ◌↔◌, ◌⊎◌, length, OnOk, OnErr, IfOk, IsErrOf, IsTrue, IsFalse};
+ghost use Rattle.std.specs.Bool.{OnTrue};
 ghost use Rattle.std.specs.Prelude.{slice_index, slice_index_or};
 ghost use Rattle.lk_model.specs.Held.Flat.{cut, AreEnds, begin_of};
 ghost use Rattle.lk_model.specs.Limits.{max_vars, max_clauses, max_literals};
 ghost use Rattle.lk_model.specs.Formulas.Literal.{is_clause};
-ghost use Rattle.lk_model.specs.Formulas.Formula.{clause_at, clauses_at, is_formula, IsWithinLimits, literal_count, positions_of, with_clause};
+ghost use Rattle.lk_model.specs.Formulas.Formula.{clause_at, clauses_at, is_formula, IsWithinLimits, literal_count, positions_of, with_clause, without_last};
 ghost use Rattle.lk_model.specs.Formulas.Lean.{are_positions};
 ghost use Rattle.lk_model.specs.Lists.{rises_within};
 
@@ -79,6 +80,17 @@ impl Formula {
         }
     }
 
+    /// The same formula once more.
+    pub fn copy(&self, alloc: Global) -> Result<Formula, OutOfMemory>
+        ensures { IfOk result (λ f. f ≡ self.now) }
+    {
+        Ok(Formula {
+            vars: self.vars,
+            literals: Vec::from_slice(alloc, self.literals.as_slice())?,
+            ends: Vec::from_slice(alloc, self.ends.as_slice())?,
+        })
+    }
+
     /// How many variables it has.
     pub fn vars(&self) -> u32
         ensures value { result ≡ self.now.vars }
@@ -108,6 +120,16 @@ impl Formula {
         list_at(&self.literals, &self.ends, k as usize - 1)
     }
 
+    /// Whether one more clause, of so many literals, passes no limit.
+    pub fn has_room(&self, literals: usize) -> bool
+        ensures limit { IsFalse result
+            ↔ ((max_clauses ≤ length self.now.clauses) ⊎ (max_literals < literal_count self.now + literals)) }
+        ensures room { OnTrue result ((length self.now.clauses < max_clauses) × (literal_count self.now + literals ≤ max_literals)) }
+    {
+        self.ends.len() < MAX_CLAUSES as usize
+            && literals <= MAX_LITERALS as usize - self.literals.len()
+    }
+
     /// Appends a clause over the variables in which no literal stands twice. The error is `Limit` where
     /// there are too many clauses or literals then. After an error the formula is as it was.
     pub fn push_clause(&mut self, lits: &[Lit]) -> Result<(), FormulaError>
@@ -117,9 +139,7 @@ impl Formula {
         ensures limit { IsErrOf result FormulaError.Limit
             ↔ ((max_clauses ≤ length self.old.clauses) ⊎ (max_literals < literal_count self.old + length lits.now)) }
     {
-        if self.ends.len() >= MAX_CLAUSES as usize
-            || lits.len() > MAX_LITERALS as usize - self.literals.len()
-        {
+        if !self.has_room(lits.len()) {
             return Err(FormulaError::Limit);
         }
         self.push_within(lits)?;
@@ -139,6 +159,17 @@ impl Formula {
         self.literals.extend_from_slice(lits)?;
         self.ends.push(self.literals.len() as u32)?;
         Ok(())
+    }
+
+    /// Takes the last clause off.
+    pub fn pop_clause(&mut self)
+        requires { 0 < length self.old.clauses }
+        ensures { self.new ≡ without_last self.old }
+    {
+        let last = self.ends.len() - 1;
+        let begin = begin_at(&self.ends, last, self.literals.len());
+        self.ends.truncate(last);
+        self.literals.truncate(begin);
     }
 
     /// The clauses at positions of the formula, over the same variables.

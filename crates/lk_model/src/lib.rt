@@ -28,7 +28,7 @@ pub use list::{List, OutOfMemory};
 pub use lit::{Lit, makes_clause};
 pub use lit_table::LitTable;
 pub use open_clause::OpenClause;
-pub use result::{GeneralResult, LinearResult, MatchingResult, PureResult};
+pub use result::{GeneralResult, LinearResult, MatchingResult, MusResult, PureResult};
 pub use text_fault::{Fault, FaultKind};
 pub use verdict::{Kind, ReadStop, Why};
 pub use wide::{Op, Wide};

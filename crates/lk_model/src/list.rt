@@ -1,5 +1,7 @@
 //! Lists, and want of memory.
-ghost use Rattle.std.specs.Prelude.{◌≡◌, ◌++◌, ◌∷◌, [], length, OnOk, OnErr};
+ghost use Rattle.std.specs.Prelude.{◌≡◌, ◌<◌, ◌-◌, ◌↔◌, ◌++◌, ◌∷◌, [], length, take, slice_index_or, slice_set, IsSome, OnOk, OnErr};
+ghost use Rattle.std.specs.List.{remove};
+ghost use Rattle.std.specs.Option.{option_to_list};
 
 use std::alloc::{AllocError, AllocFailed, Global};
 use std::error::Error;
@@ -78,6 +80,34 @@ impl<T> List<T> {
         ensures { result ≡ length self.now }
     {
         self.items.len()
+    }
+
+    /// Puts an item in the place of the one at an index, from 0 on.
+    pub fn set(&mut self, k: usize, x: T)
+    where
+        T: Drop,
+        requires { k < length self.old }
+        ensures { self.new ≡ slice_set self.old k x }
+    {
+        self.items[k] = x;
+    }
+
+    /// Takes the last item off, where there is one.
+    pub fn pop(&mut self) -> Option<T>
+        ensures items { self.old ≡ self.new ++ option_to_list result }
+        ensures some { IsSome result ↔ (0 < length self.old) }
+        ensures rest { self.new ≡ take (length self.old - 1) self.old }
+    {
+        self.items.pop()
+    }
+
+    /// Takes the item at an index out, from 0 on; those behind it move up.
+    pub fn remove(&mut self, k: usize) -> T
+        requires { k < length self.old }
+        ensures value { result ≡ slice_index_or self.old k result }
+        ensures items { self.new ≡ remove self.old k }
+    {
+        self.items.remove(k)
     }
 
     /// The list of a vector's items. It takes no memory.

@@ -1,5 +1,5 @@
 //! The results of the reducers, in the parts of documents. Positions ascend and count from 1.
-use crate::document::{Dual, MatchRow, Own, Pair, Round, Stage, Unit};
+use crate::document::{Dual, MatchRow, Own, Pair, Round, Stage, Unit, Without};
 use crate::list::List;
 use crate::lit::Lit;
 
@@ -38,4 +38,13 @@ pub struct GeneralResult {
     pub kept: List<u32>,
     pub set: List<Lit>,
     pub rounds: List<Round>,
+}
+
+/// What is found of a minimally unsatisfiable core: its positions, a refutation by chains over its clauses
+/// alone, and for each of its positions literals that satisfy every other clause of the core.
+#[derive(Drop)]
+pub struct MusResult {
+    pub core: List<u32>,
+    pub round: Round,
+    pub without: List<Without>,
 }

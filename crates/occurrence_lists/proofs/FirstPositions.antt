@@ -50,3 +50,8 @@ kept-lt test i m lt here =
     let e : m ≡ (i + 1) + (m - (i + 1)) = omega (arith, lt) in
     let one : length (filter test (up_to (i + 1))) ≡ length (filter test (up_to i)) + 1 = kept-more test i ∙ ap (λ (b : Bool). length (filter test (up_to i)) + cond b 1 0) here in
     subst (λ (n : ℕ). length (filter test (up_to i)) < length (filter test (up_to n))) (sym e) (omega (arith, one, kept-le test (i + 1) (m - (i + 1))))
+
+-- a test that keeps nothing
+pub filter-none : (test : ℕ → Bool) (ps : List ℕ) → ((p : ℕ) → test p ≡ false) → filter test ps ≡ []
+filter-none test [] h = refl
+filter-none test (p ∷ ps) h = ap (λ (b : Bool). cond b (p ∷ filter test ps) (filter test ps)) (h p) ∙ filter-none test ps h

@@ -5,14 +5,14 @@ use Rattle.std.proofs.lemmas.Bool.{cases_Bool, eqb-true, eq-eqb}
 use Rattle.std.proofs.lemmas.List.{append-nil, length-set, length-map, length-take-le, length-replicate}
 use Rattle.std.proofs.lemmas.List.Sums.{sum_by-set, sum_by-cons, sum_by_more}
 use Rattle.lk_model.specs.Formulas.Literal.{rank_of, is_clause, is_distinct}
-use Rattle.lk_model.specs.Formulas.Formula.{Cnf, clause_at}
+use Rattle.lk_model.specs.Formulas.Formula.{Cnf, clause_at, is_formula}
 use Rattle.lk_model.proofs.Booleans.{and_true}
 use Rattle.occurrence_lists.specs.Occurrences.{AreOccurrences, has_rank, ranked}
 use Rattle.occurrence_lists.specs.Parts.{Filled}
 use Rattle.occurrence_lists.specs.Noting.{CountsClause, AreCounts, NotesClause, AreNoted, HaveRoom}
 use Rattle.occurrence_lists.proofs.Parts.{empty_for}
 use Rattle.occurrence_lists.proofs.FirstPositions.{filter-up_to-more, kept-more, kept-few, kept-lt}
-use Rattle.occurrence_lists.proofs.Ranks.{ranked_is, beyond, one_more, new_rank}
+use Rattle.occurrence_lists.proofs.Ranks.{ranked_is, none_ranked, beyond, one_more, new_rank}
 
 -- HOW MANY
 
@@ -175,5 +175,9 @@ room_next c p i l before now h lt at held room sizes notes =
 pub sizes_told : (F : Cnf) (t : Filled) → AreNoted F (length F.clauses) t.lists → AreCounts F (length F.clauses) t.sizes → (k : ℕ) → length (get_or t.lists k []) ≡ get_or t.sizes k 0
 sizes_told F t noted counts k = ap (λ (ps : List ℕ). length ps) (noted.told k) ∙ sym (counts.told k)
 
-pub occurrences_told : (F : Cnf) (lists : List (List ℕ)) → AreNoted F (length F.clauses) lists → AreOccurrences F lists
-occurrences_told F lists noted = record { size = noted.size; held = λ l _. noted.told (rank_of l) ∙ ranked_is F l }
+pub occurrences_told : (F : Cnf) (lists : List (List ℕ)) → is_formula F ≡ true → AreNoted F (length F.clauses) lists → AreOccurrences F lists
+occurrences_told F lists h noted = record {
+  size = noted.size;
+  held = λ l _. noted.told (rank_of l) ∙ ranked_is F l;
+  none = λ k lt. noted.told k ∙ none_ranked F (length F.clauses) k h lt;
+}

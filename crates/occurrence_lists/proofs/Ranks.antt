@@ -1,18 +1,21 @@
 -- The ranks of the literals of a clause.
-use Rattle.std.proofs.Common.{◌≡◌, ℕ, zero, suc, ◌+◌, ◌*◌, ◌<◌, ◌∙◌, Bool, true, false, ◌||◌, ◌==◌, List, [], ◌∷◌, length, take, get_or, refl, sym, ap, subst, arith, inl, inr, ℤ}
+use Rattle.std.proofs.Common.{◌≡◌, ℕ, zero, suc, ◌+◌, ◌*◌, ◌<◌, ◌≤◌, ◌∙◌, Bool, true, false, ◌||◌, ◌==◌, List, [], ◌∷◌, length, take, get_or, refl, sym, ap, subst, arith, inl, inr, ℤ, pos, negsuc}
 use Rattle.std.specs.Prelude.{filter}
 use Rattle.std.specs.List.{list_all}
 use Rattle.std.specs.Ordering.{int_eq}
-use Rattle.std.proofs.lemmas.Bool.{eqb-true, eq-eqb}
+use Rattle.std.proofs.lemmas.Bool.{eqb-true, eq-eqb, false_from_ne_true}
 use Rattle.std.proofs.lemmas.Bool.Decides.{Decides-int_eq}
 use Rattle.std.proofs.lemmas.List.{take_more}
 use Rattle.std.proofs.lemmas.List.Folds.{list_any-append}
+use Rattle.lk_model.specs.Lists.{up_to}
 use Rattle.lk_model.specs.Formulas.Literal.{contains, rank_of, is_literal, is_distinct}
-use Rattle.lk_model.specs.Formulas.Formula.{Cnf, clause_at, positions_of}
+use Rattle.lk_model.specs.Formulas.Formula.{Cnf, clause_at, positions_of, is_formula}
 use Rattle.lk_model.proofs.Booleans.{and_true, or_true, or_left, or_right, same_tests}
-use Rattle.lk_model.proofs.Ranks.{rank_apart, rank_small}
+use Rattle.lk_model.proofs.Ranks.{literal_bounds, rank_apart, rank_small}
+use Rattle.lk_model.proofs.Clauses.{literals_of}
 use Rattle.lk_model.proofs.Literals.{new_at}
 use Rattle.occurrence_lists.specs.Occurrences.{has_rank, ranked}
+use Rattle.occurrence_lists.proofs.FirstPositions.{filter-none}
 
 same_rank : (l k : ℤ) → (rank_of l == rank_of k) ≡ int_eq k l
 same_rank l k = same_tests (rank_of l == rank_of k) (int_eq k l)
@@ -36,6 +39,21 @@ beyond n (l ∷ c) k h r =
       | inl e ↦ subst (λ (m : ℕ). m < 2 * n + 2) (eqb-true (rank_of l) k e) (rank_small n l both.0)
       | inr e ↦ beyond n c k both.1 e
     ]
+
+-- no literal has a rank below 2
+above_one : (n : ℕ) (l : ℤ) → is_literal n l ≡ true → 2 ≤ rank_of l
+above_one n (pos v) h = let low = (literal_bounds n (pos v) h).0 in omega (arith, low)
+above_one n (negsuc v) h = let low = (literal_bounds n (negsuc v) h).0 in omega (arith, low)
+
+below : (n : ℕ) (c : List ℤ) (k : ℕ) → list_all (is_literal n) c ≡ true → k < 2 → has_rank c k ≡ false
+below n [] k h lt = refl
+below n (l ∷ c) k h lt =
+    let both = and_true (is_literal n l) (list_all (is_literal n) c) h in
+    let other = false_from_ne_true (rank_of l == k) (λ e. let same = eqb-true (rank_of l) k e in omega (arith, same, lt, above_one n l both.0)) in
+    ap (λ (b : Bool). b || has_rank c k) other ∙ below n c k both.1 lt
+
+pub none_ranked : (F : Cnf) (m k : ℕ) → is_formula F ≡ true → k < 2 → ranked F m k ≡ []
+none_ranked F m k h lt = filter-none (λ p. has_rank (clause_at F p) k) (up_to m) (λ p. below F.vars (clause_at F p) k (literals_of F p h) lt)
 
 -- the rank of one literal more
 pub one_more : (c : List ℤ) (i : ℕ) (l : ℤ) (k : ℕ) → i < length c → l ≡ get_or c i l → has_rank (take (i + 1) c) k ≡ (has_rank (take i c) k || (rank_of l == k))

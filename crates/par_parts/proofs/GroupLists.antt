@@ -16,7 +16,7 @@ use Rattle.lk_model.proofs.Rising.{rising_count}
 use Rattle.lk_model.proofs.Variables.{position_with}
 use Rattle.kernel_laws.proofs.General.PartLaws.{shares}
 use Rattle.par_parts.specs.Numbering.{AreLabels, positions_with, gathered}
-use Rattle.par_parts.specs.Groups.{AreGroupNumbers, IsDisjointCover}
+use Rattle.par_parts.specs.Groups.{AreGroupNumbers, IsDisjointCover, IsPartition}
 
 module _ (F : Cnf) (numbers : List ℕ) (count : ℕ) (h : AreGroupNumbers F numbers count) where
   -- the list of a number rises
@@ -86,6 +86,24 @@ module _ (F : Cnf) (numbers : List ℕ) (count : ℕ) (h : AreGroupNumbers F num
         let e = h.same x.place y.place v x.position y.position x.mentions y.mentions in
         let m = x.number in let n = y.number in
         omega (arith, e, m, n);
+  }
+
+  -- a position stands in no group but that of its number
+  in_own : (k p : ℕ) → among (get_or (gathered numbers count) k []) p ≡ true → get_or numbers p 0 ≡ k + 1
+  in_own k p e = elim (cases_lt k count) [
+    | inl l ↦
+        eqb-true (get_or numbers p 0) (k + 1)
+        (from_filter (λ q. get_or numbers q 0 == k + 1) (up_to (length numbers - 1)) p (subst (λ (ps : List ℕ). among ps p ≡ true) (at k l) e)).0
+    | inr beyond ↦
+        (let nothing = get_or_past (gathered numbers count) k [] (omega (arith, beyond, long)) in
+        let none : among [] p ≡ true = subst (λ (ps : List ℕ). among ps p ≡ true) nothing e in
+        absurd (let f : ⊥ = cc none in f))
+  ]
+
+  pub groups_partition : IsPartition F (gathered numbers count)
+  groups_partition = record {
+    cover = groups_cover;
+    once = λ j k p a b. let m = in_own j p a in let n = in_own k p b in omega (arith, m, n);
   }
 
 -- numbers from 1 to a count in the place of those of the parts

@@ -1,20 +1,23 @@
 //! Groups of parts, for calls whose tables are as long as the formula: a call for each of many small parts
-//! would make them again and again. A group has parts that follow one another, with about an equal share of
-//! all positions and literals. All steps are linear in the formula.
+//! would make them again and again. A group is meant to have parts that follow one another, with about an
+//! equal share of all positions and literals, and all steps are meant to be linear in the formula; no clause
+//! says so.
 ghost use Rattle.std.specs.Prelude.{◌≡◌, ◌+◌, ◌<◌, ◌≤◌, ℕ, length, map, slice_index, All, IfOk};
 ghost use Rattle.lk_model.specs.Limits.{max_clauses};
-ghost use Rattle.par_parts.specs.Groups.{AreGroupNumbers, IsDisjointCover};
+ghost use Rattle.par_parts.specs.Groups.{AreGroupNumbers, IsDisjointCover, IsPartition};
 
 use crate::gathering::gather;
 use crate::search::number_parts;
 use lk_model::{Formula, List, OutOfMemory};
 use std::alloc::Global;
 
-/// The parts of a formula, whole, in at most so many groups of about equal size. Each group is ascending.
+/// The parts of a formula, whole, in at most so many groups. Each group is ascending, and each position
+/// stands in exactly one, that of an empty clause too.
 pub fn part_groups(alloc: Global, f: &Formula, most: u32) -> Result<List<List<u32>>, OutOfMemory>
     requires { 1 ≤ most }
     ensures few { IfOk result (λ groups. length groups ≤ most) }
     ensures cover { IfOk result (λ groups. IsDisjointCover f.now groups) }
+    ensures partition { IfOk result (λ groups. IsPartition f.now groups) }
 {
     let found = number_groups(alloc, f, most)?;
     let lists = gather(alloc, &found.numbers, found.last as usize)?;
@@ -64,8 +67,9 @@ fn sizes(alloc: Global, f: &Formula, labels: &[u32], count: usize) -> Result<Vec
     Ok(sizes)
 }
 
-// The groups of parts of these sizes, at most so many. All sizes are cut into equal shares, and a part whose
-// middle lies in another share than that of the part before begins a group.
+// A number for each of these sizes, from 1 to at most this one. The code cuts all sizes into equal shares,
+// and a part whose middle lies in another share than that of the part before begins a group; no clause says
+// so.
 fn fill(alloc: Global, sizes: &[u64], most: u32) -> Result<Numbers, OutOfMemory>
     requires { 1 ≤ most }
     ensures long { IfOk result (λ g. length g.numbers.items ≡ length sizes.now) }

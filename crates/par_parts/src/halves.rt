@@ -9,7 +9,8 @@ use std::alloc::Global;
 use std::marker::{Send, Sync};
 use std::thread::{Threads, join};
 
-/// What f answers on each index and item, in their order, for every gate and every number of workers.
+/// For each index and item what f may answer on it, in their order. The clauses name no gate and no number
+/// of workers.
 pub fn map_halves<
     R: Threads + Sync,
     T: Sync,

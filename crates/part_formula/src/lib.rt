@@ -1,4 +1,4 @@
-//! The general kernel of a part of a formula, at the cost of the part.
+//! The general kernel of a part of a formula, found in a formula of the part's own.
 #![tactic(auto)]
 
 mod dense;

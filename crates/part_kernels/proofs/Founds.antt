@@ -1,52 +1,95 @@
--- What the answers on all parts show, gathered.
-use Rattle.std.proofs.Common.{◌≡◌, ℕ, zero, suc, ◌<◌, true, List, [], ◌∷◌, ◌++◌, length, get_or, refl, ap, subst, arith, Ok, Err, Result, IfOk}
+-- What the answers on all parts show.
+use Rattle.std.proofs.Common.{◌≡◌, ℕ, zero, suc, ◌<◌, true, List, [], ◌∷◌, ◌++◌, length, get_or, refl, ap, subst, arith}
 use Rattle.std.specs.List.{AllByRecursion}
-use Rattle.std.proofs.lemmas.Result.{IfOk-at_ok}
 use Rattle.lk_model.specs.Formulas.Formula.{Cnf}
 use Rattle.lk_model.specs.Formulas.Lean.{are_positions}
 use Rattle.lk_model.specs.Formulas.Parts.{IsPart, AreParts}
 use Rattle.lk_model.specs.declared.document.Round.{Round}
-use Rattle.lk_model.specs.declared.list.OutOfMemory.{OutOfMemory}
 use Rattle.lk_model.specs.declared.result.GeneralResult.{GeneralResult}
-use Rattle.kernel_laws.specs.General.GeneralResults.{AreGeneralResults}
+use Rattle.kernel_laws.specs.General.GeneralResults.{AreGeneralResults, AreJoined}
 use Rattle.kernel_laws.proofs.General.PartLaws.{part_law}
-use Rattle.general_kernel.specs.Found.{IsFound, IsUnfinished}
+use Rattle.round_laws.specs.Budgets.{IsFinished, AreFinished}
+use Rattle.round_laws.proofs.RoundLaws.{round_law}
+use Rattle.autarky_compose.specs.JoinedGeneral.{AreJoined as AreJoinedOver}
+use Rattle.autarky_compose.proofs.GeneralLaws.{joined_general_law, joined_in}
+use Rattle.general_kernel.specs.Found.{IsDone, IsFound, IsUnfinished}
 use Rattle.general_kernel.specs.declared.general.General.{General}
 use Rattle.general_kernel.specs.declared.general.General.TheVariants.{Done, Unfinished}
-use Rattle.part_kernels.specs.ByParts.{CanBeDone, IsFirstUnfinished}
-use Rattle.part_kernels.specs.Gathered.{Answer, AreAnswers, done, IsFirstOf}
-
--- what follows from two facts about a value that was found
-pub from_both : {X E : Type 0} (r : Result X E) (P Q R : X → Type 0) → ((x : X) → P x → Q x → R x) → IfOk r P → IfOk r Q → IfOk r R
-from_both (Ok x) P Q R f p q = f x p q
-from_both (Err e) P Q R f p q = tt
+use Rattle.part_kernels.specs.ByParts.{AreFound, done, IsFirstOf, CanBeDone, IsFoundWhole, IsFirstUnfinished, IsFoundByParts}
 
 -- no rounds
-abbrev pub nothing : Answer
-nothing = Ok (Unfinished [])
+abbrev pub nothing : General
+nothing = Unfinished []
 
 -- answers that each are one for the part at their place
-pub answers_from : (F : Cnf) (conflicts : ℕ) (parts : List (List ℕ)) (answers : List Answer) → length answers ≡ length parts
-    → ((k : ℕ) → k < length parts → IfOk (get_or answers k nothing) (IsFound F (get_or parts k []) conflicts)) → AreAnswers F conflicts parts answers
-answers_from F conflicts [] [] e each = tt
-answers_from F conflicts [] (a ∷ answers) e each = absurd (omega (arith, e))
-answers_from F conflicts (part ∷ parts) [] e each = absurd (omega (arith, e))
-answers_from F conflicts (part ∷ parts) (a ∷ answers) e each =
-    (each zero (omega arith), answers_from F conflicts parts answers (omega (arith, e)) (λ k lt. each (suc k) (omega (arith, lt))))
+pub found_from : (F : Cnf) (conflicts : ℕ) (parts : List (List ℕ)) (answers : List General)
+    → length answers ≡ length parts
+    → ((k : ℕ) → k < length parts → IsFound F (get_or parts k []) conflicts (get_or answers k nothing))
+    → AreFound F conflicts parts answers
+found_from F conflicts [] [] e each = tt
+found_from F conflicts [] (a ∷ answers) e each = absurd (omega (arith, e))
+found_from F conflicts (part ∷ parts) [] e each = absurd (omega (arith, e))
+found_from F conflicts (part ∷ parts) (a ∷ answers) e each =
+    (each zero (omega arith), found_from F conflicts parts answers (omega (arith, e)) (λ k lt. each (suc k) (omega (arith, lt))))
 
--- what an answer finds
-found_at : (F : Cnf) (part : List ℕ) (conflicts : ℕ) (found : General) → IfOk {E = OutOfMemory} (Ok found) (IsFound F part conflicts) → IsFound F part conflicts found
-found_at F part conflicts found h = (let same : answered found ≡ answered found = refl in IfOk-at_ok (IsFound F part conflicts) same h)
-  where
-    answered : General → Answer
-    answered v = Ok v
+-- KERNELS OF ALL PARTS
 
--- kernels of all parts
-pub results : (F : Cnf) (conflicts : ℕ) (parts : List (List ℕ)) (found : List GeneralResult) → AreAnswers F conflicts parts (done found) → AreGeneralResults F parts found
-results F conflicts [] [] all = tt
-results F conflicts [] (r ∷ found) all = absurd all
-results F conflicts (part ∷ parts) [] all = absurd all
-results F conflicts (part ∷ parts) (r ∷ found) all = ((found_at F part conflicts (Done r) all.0).result, results F conflicts parts found all.1)
+-- a part is finished by its kernel
+pub finished : (F : Cnf) (conflicts : ℕ) (part : List ℕ) (r : GeneralResult) → IsDone F part conflicts r
+    → IsFinished F conflicts part r
+finished F conflicts part r h = record { result = h.result; needed = h.needed; most = h.most }
+
+-- so parts are where their kernels can be found
+pub finished_before : (F : Cnf) (conflicts : ℕ) (parts : List (List ℕ)) → AllByRecursion (CanBeDone F conflicts) parts
+    → AllByRecursion (λ (part : List ℕ). (r : GeneralResult) × IsFinished F conflicts part r) parts
+finished_before F conflicts [] all = tt
+finished_before F conflicts (part ∷ parts) all =
+    ((all.0.0, finished F conflicts part all.0.0 all.0.1), finished_before F conflicts parts all.1)
+
+-- and all are where all answers are kernels
+all_finished : (F : Cnf) (conflicts : ℕ) (parts : List (List ℕ)) (found : List GeneralResult)
+    → AreFound F conflicts parts (done found) → AreFinished F conflicts parts found
+all_finished F conflicts [] [] all = tt
+all_finished F conflicts [] (r ∷ found) all = absurd all
+all_finished F conflicts (part ∷ parts) [] all = absurd all
+all_finished F conflicts (part ∷ parts) (r ∷ found) all =
+    (finished F conflicts part r all.0, all_finished F conflicts parts found all.1)
+
+-- so they have general results
+pub results : (F : Cnf) (conflicts : ℕ) (parts : List (List ℕ)) (found : List GeneralResult)
+    → AreFound F conflicts parts (done found) → AreGeneralResults F parts found
+results F conflicts parts found all = round_law.results F conflicts parts found (all_finished F conflicts parts found all)
+
+-- and the kernels, joined, are that of the whole formula
+whole : (F : Cnf) (conflicts : ℕ) (parts : List (List ℕ)) (found : List GeneralResult) (t : GeneralResult)
+    → AreParts F parts → AreFound F conflicts parts (done found)
+    → AreJoinedOver (length F.clauses) found t → AreJoined F found t → IsFoundWhole F conflicts t
+whole F conflicts parts found t are each over joined =
+    let are_finished = all_finished F conflicts parts found each in
+    record {
+      result = joined_general_law.whole F parts found t are (results F conflicts parts found each) over;
+      needed = round_law.needed F conflicts parts found t are are_finished joined.rounds;
+      budget = round_law.budget F conflicts parts found t are are_finished joined.rounds;
+    }
+
+pub found_whole : (F : Cnf) (conflicts : ℕ) (parts : List (List ℕ)) (answers : List General)
+    (found : List GeneralResult) (t : GeneralResult)
+    → AreParts F parts
+    → AreFound F conflicts parts answers → answers ≡ done found → AreJoinedOver (length F.clauses) found t
+    → IsFoundByParts F conflicts (Done t)
+found_whole F conflicts parts answers found t are each all over =
+    let kernels : AreFound F conflicts parts (done found) = subst (λ (given : List General). AreFound F conflicts parts given) all each in
+    let joined : AreJoined F found t = joined_in F parts found t (results F conflicts parts found kernels) over in
+    record {
+      parts = parts;
+      answers = answers;
+      are_parts = are;
+      each = each;
+      made = record { found = found; all = all; joined = joined };
+      shows = whole F conflicts parts found t are kernels over joined;
+    }
+
+-- THE FIRST PART THAT IS NOT FINISHED
 
 -- a part that is not finished, behind parts whose kernels are found
 record Split (F : Cnf) (conflicts : ℕ) (parts : List (List ℕ)) (rounds : List Round) : Type 0 where
@@ -57,8 +100,9 @@ record Split (F : Cnf) (conflicts : ℕ) (parts : List (List ℕ)) (rounds : Lis
   pub done : AllByRecursion (CanBeDone F conflicts) before
   pub unfinished : IsUnfinished F part conflicts rounds
 
-split : (F : Cnf) (conflicts : ℕ) (parts : List (List ℕ)) (found : List GeneralResult) (rounds : List Round) (more : List Answer)
-    → AreAnswers F conflicts parts (done found ++ Ok (Unfinished rounds) ∷ more) → Split F conflicts parts rounds
+split : (F : Cnf) (conflicts : ℕ) (parts : List (List ℕ)) (found : List GeneralResult) (rounds : List Round)
+    (more : List General)
+    → AreFound F conflicts parts (done found ++ Unfinished rounds ∷ more) → Split F conflicts parts rounds
 split F conflicts [] [] rounds more all = absurd all
 split F conflicts [] (r ∷ found) rounds more all = absurd all
 split F conflicts (part ∷ parts) [] rounds more all = record {
@@ -67,7 +111,7 @@ split F conflicts (part ∷ parts) [] rounds more all = record {
   after = parts;
   is = refl;
   done = tt;
-  unfinished = found_at F part conflicts (Unfinished rounds) all.0;
+  unfinished = all.0;
 }
 split F conflicts (part ∷ parts) (r ∷ found) rounds more all =
     let s = split F conflicts parts found rounds more all.1 in
@@ -76,11 +120,12 @@ split F conflicts (part ∷ parts) (r ∷ found) rounds more all =
       part = s.part;
       after = s.after;
       is = ap (λ (ps : List (List ℕ)). part ∷ ps) s.is;
-      done = ((r, found_at F part conflicts (Done r) all.0), s.done);
+      done = ((r, all.0), s.done);
       unfinished = s.unfinished;
     }
 
-part_in : (F : Cnf) (before : List (List ℕ)) (part : List ℕ) (after : List (List ℕ)) → AllByRecursion (IsPart F) (before ++ part ∷ after) → IsPart F part
+part_in : (F : Cnf) (before : List (List ℕ)) (part : List ℕ) (after : List (List ℕ))
+    → AllByRecursion (IsPart F) (before ++ part ∷ after) → IsPart F part
 part_in F [] part after all = all.0
 part_in F (p ∷ before) part after all = part_in F before part after all.1
 
@@ -88,10 +133,12 @@ rising : (F : Cnf) (part : List ℕ) → IsPart F part → are_positions F part 
 rising F [] h = absurd h
 rising F (least ∷ more) h = h.0
 
-pub first_unfinished : (F : Cnf) (conflicts : ℕ) (parts : List (List ℕ)) (answers : List Answer) (rounds : List Round) → AreParts F parts
-    → AreAnswers F conflicts parts answers → IsFirstOf answers rounds → IsFirstUnfinished F conflicts rounds
+pub first_unfinished : (F : Cnf) (conflicts : ℕ) (parts : List (List ℕ)) (answers : List General) (rounds : List Round)
+    → AreParts F parts
+    → AreFound F conflicts parts answers → IsFirstOf answers rounds → IsFirstUnfinished F conflicts rounds
 first_unfinished F conflicts parts answers rounds are all first =
-    let s = split F conflicts parts first.before rounds first.after (subst (λ (given : List Answer). AreAnswers F conflicts parts given) first.all all) in
+    let given = subst (λ (given : List General). AreFound F conflicts parts given) first.all all in
+    let s = split F conflicts parts first.before rounds first.after given in
     let whole : AreParts F (s.before ++ s.part ∷ s.after) = subst (λ (ps : List (List ℕ)). AreParts F ps) s.is are in
     let is_part = part_in F s.before s.part s.after whole.each in
     record {
@@ -105,3 +152,15 @@ first_unfinished F conflicts parts answers rounds are all first =
       apart = part_law.apart F s.part is_part;
       unfinished = s.unfinished;
     }
+
+pub found_first : (F : Cnf) (conflicts : ℕ) (parts : List (List ℕ)) (answers : List General) (rounds : List Round)
+    → AreParts F parts
+    → AreFound F conflicts parts answers → IsFirstOf answers rounds → IsFoundByParts F conflicts (Unfinished rounds)
+found_first F conflicts parts answers rounds are all first = record {
+  parts = parts;
+  answers = answers;
+  are_parts = are;
+  each = all;
+  made = first;
+  shows = first_unfinished F conflicts parts answers rounds are all first;
+}

@@ -2,13 +2,13 @@
 //!
 //! Parts share no variable, so each has its kernel by itself, and what rounds over one part show they show
 //! over the whole formula.
-ghost use Rattle.std.specs.Prelude.{◌≡◌, ◌<◌, ◌≤◌, ◌^◌, IfOk, IsTrue};
+ghost use Rattle.std.specs.Prelude.{◌≡◌, ◌<◌, ◌≤◌, ◌^◌, map, Ok, IfOk, IsTrue};
 ghost use Rattle.std.specs.List.{AllByRecursion};
 ghost use Rattle.lk_model.specs.Formulas.Lean.{are_positions};
 ghost use Rattle.lk_model.specs.Formulas.Parts.{IsPart};
 ghost use Rattle.general_kernel.specs.Found.{IsFound};
-ghost use Rattle.part_kernels.specs.ByParts.{IsFoundByParts};
-ghost use Rattle.part_kernels.specs.Gathered.{AreAnswers, IsGathered};
+ghost use Rattle.part_kernels.specs.ByParts.{AreFound, IsFoundByParts};
+ghost use Rattle.part_kernels.specs.Gathered.{IsGathered};
 
 use autarky_compose::join_general;
 use general_kernel::General;
@@ -33,7 +33,12 @@ enum Gathered {
 /// are not finished: the rounds of the first of them, whole ones and an open one, untrimmed. Steps are
 /// numbered from the formula's number of clauses plus 1. With two workers or more and two parts or more a
 /// left half of the parts enters the gate as 0 and a right half as 1, each before it is worked on; else none
-/// enters. The answer is the same for every number of workers. The error is that there is no memory.
+/// enters. The error is that there is no memory, for any of the parts.
+///
+/// Each part has its answer, and the clause says that what is found is made of these alone, in the order of
+/// the parts: all kernels, joined, or the rounds of the first that is not finished (`made_law`: the same
+/// answers make one and the same). That another number of workers finds the same is tested and no clause,
+/// since no clause says that a part has one answer only.
 pub fn general_by_parts<R: Threads + Sync, G: Gate>(
     rt: &R,
     alloc: Global,
@@ -64,21 +69,22 @@ fn answers<R: Threads + Sync, G: Gate>(
     list: &[List<u32>],
     conflicts: u64,
     workers: u32,
-) -> Result<List<Result<General, OutOfMemory>>, OutOfMemory>
+) -> Result<List<General>, OutOfMemory>
     requires parts { AllByRecursion (IsPart f.now) list.now }
     requires some { 0 < conflicts }
     requires most { conflicts < 2 ^ 63 }
     requires workers { 1 ≤ workers }
-    ensures { IfOk result (AreAnswers f.now conflicts list.now) }
+    ensures { IfOk result (AreFound f.now conflicts list.now) }
 {
-    map_halves(
+    let answers = map_halves(
         rt,
         alloc,
         gate,
         list,
         workers,
         &|_, part| kernel_of(alloc, f, part, conflicts),
-    )
+    )?;
+    all_answered(alloc, answers)
 }
 
 // What is found in a part.
@@ -96,16 +102,27 @@ fn kernel_of(
     kernel_of_part(alloc, f, part.as_slice(), conflicts)
 }
 
-// The kernels, or the first rounds that are not finished.
-fn gather(
+// What all answers found, where none wants memory.
+fn all_answered(
     alloc: Global,
     answers: List<Result<General, OutOfMemory>>,
-) -> Result<Gathered, OutOfMemory>
+) -> Result<List<General>, OutOfMemory>
+    ensures { IfOk result (λ found. answers ≡ map Ok found) }
+{
+    let mut found = List::new(alloc);
+    for answer in answers.into_vec() {
+        found.push(answer?)?;
+    }
+    Ok(found)
+}
+
+// The kernels, or the first rounds that are not finished.
+fn gather(alloc: Global, answers: List<General>) -> Result<Gathered, OutOfMemory>
     ensures { IfOk result (IsGathered answers) }
 {
     let mut found = List::new(alloc);
     for answer in answers.into_vec() {
-        match answer? {
+        match answer {
             General::Done(r) => found.push(r)?,
             General::Unfinished(rounds) => return Ok(Gathered::First(rounds)),
         }

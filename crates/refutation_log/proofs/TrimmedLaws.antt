@@ -210,6 +210,21 @@ reached_new K bound first next top s (t ∷ later) b n match fits k v =
     at false is match fit rest own =
         let unknown : among (reached (t ∷ later)) s.number ≡ false = sym match ∙ is in rw (is, unknown) rest
 
+-- what holds of the new number of each kept one holds of each kept step
+needed_new : (K t : ℕ → Bool) (bound first next top : ℕ) (xs : List Step) → EachFits K bound first top xs
+    → ((k : ℕ) → Valid K bound first top k → K k ≡ true → t (new_of K first next k) ≡ true)
+    → list_all (λ (s : Step). t s.number) (kept_of K first next xs) ≡ true
+needed_new K t bound first next top [] fits h = refl
+needed_new K t bound first next top (x ∷ xs) fits h = at (K x.number) refl (needed_new K t bound first next top xs fits.1 h)
+  where
+    at : (b : Bool) → K x.number ≡ b → list_all (λ (s : Step). t s.number) (kept_of K first next xs) ≡ true
+        → list_all (λ (s : Step). t s.number)
+        (map (with_numbers (new_of K first next)) (cond b (x ∷ filter (λ (s : Step). K s.number) xs) (filter (λ (s : Step). K s.number) xs))) ≡ true
+    at true is more =
+        let valid = fits.0 is x.number (rw (eq-eqb x.number x.number refl) refl) in
+        and_from (t (new_of K first next x.number)) (list_all (λ (s : Step). t s.number) (kept_of K first next xs)) (h x.number valid is) more
+    at false is more = more
+
 -- THE CHAINS
 
 found_new : (K : ℕ → Bool) (bound first next top : ℕ) (pre : List Step) (k : ℕ) → bound ≤ next → next ≤ first → EachFits K bound first top pre
@@ -353,6 +368,8 @@ kept_stand over first next (s ∷ xs) d chains whole past n =
       clauses = clauses_kept K first next steps;
       filled = filled_new K first next s xs (reached_last first s xs d);
       fewer = fewer_kept K first next steps;
+      needed = needed_new K (among (reached (kept_of K first next steps))) (suc m) first next top steps fits
+          (λ k v is. (reached_new K (suc m) first next top s xs (omega arith) n match fits k v).1 ∙ is);
     }
 
 pub trimmed_law : TrimmedLaw

@@ -4,7 +4,7 @@ use Rattle.std.specs.List.{list_all}
 use Rattle.std.specs.Option.{option_map_or}
 use Rattle.lk_model.specs.Lists.{among, is_empty}
 use Rattle.lk_model.specs.Chains.Chain.{names_of}
-use Rattle.lk_model.specs.Chains.Rounds.{reached, is_refutation, used_positions, names_within}
+use Rattle.lk_model.specs.Chains.Rounds.{reached, is_refutation, used_positions, names_within, is_trimmed}
 use Rattle.lk_model.specs.Held.VariableSets.{IsCrossed}
 use Rattle.lk_model.specs.declared.crossed.Crossed.{Crossed}
 use Rattle.lk_model.specs.declared.document.Step.{Step}
@@ -49,7 +49,7 @@ count_filled steps = length (filter (λ (s : Step). not (is_empty s.clause)) ste
 
 -- Trimmed steps refute by chains over the same clauses, and use the same of them. Their clauses are those of the reached
 -- steps, so they have no more clauses with a literal, and none without one before the last if there was none. Of the positions
--- their chains name only those that are used.
+-- their chains name only those that are used, and each of them is reached from the last one.
 pub record TrimsTo (over : Crossed) (next : ℕ) (steps after : List Step) : Type 0 where
   pub derivation : IsDerivation next after
   pub shorter : length after ≤ length steps
@@ -60,6 +60,7 @@ pub record TrimsTo (over : Crossed) (next : ℕ) (steps after : List Step) : Typ
   pub clauses : map (λ (s : Step). s.clause) after ≡ map (λ (s : Step). s.clause) (reached_steps steps)
   pub filled : IsTrue (are_filled_before_last steps) → IsTrue (are_filled_before_last after)
   pub fewer : count_filled after ≤ count_filled steps
+  pub needed : IsTrue (is_trimmed (record { steps = after }))
 
 -- a refutation whose new numbers are above those of the formula's clauses
 abbrev pub TrimmedLaw : Type 0

@@ -10,7 +10,8 @@ use std::alloc::Global;
 
 /// The positions that a refutation uses, ascending: those that are reached backwards from its last
 /// step. Its last clause must be empty, and its steps chains over `over` that are numbered one after
-/// another from above the number of the formula's clauses.
+/// another from above the number of the formula's clauses: the marks of steps stand at the distance of
+/// their numbers from the first, apart from those of positions.
 pub fn axioms_of(alloc: Global, over: &Crossed, round: &Round) -> Result<List<u32>, OutOfMemory>
     requires whole { IsTrue (is_refutation round.now.steps) }
     requires chains { IsTrue (are_chains over.now round.now.steps) }

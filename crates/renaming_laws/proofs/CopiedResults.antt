@@ -25,7 +25,9 @@ use Rattle.renaming_laws.proofs.RenamedClauses.{literal_on}
 use Rattle.renaming_laws.proofs.RenamedChains.{round_under, IsCopied, Agrees, misstated_renamed, unlearned_renamed}
 use Rattle.renaming_laws.proofs.RenamedRounds.{agrees_after, progress_renamed, none_in_renamed}
 use Rattle.renaming_laws.proofs.RenamedForms.{AreInOrder, wholes_renamed, ends_renamed, learned_count, are_steps_renamed}
-use Rattle.renaming_laws.proofs.RenamedSets.{from_mentioned, occurs_renamed, from_occurring, covered_renamed, satisfies_renamed}
+use Rattle.renaming_laws.proofs.RenamedSets.{from_mentioned, occurs_renamed, from_occurring, covered_renamed}
+use Rattle.renaming_laws.proofs.RenamedAssignments.{assignment_renamed, satisfies_renamed}
+use Rattle.renaming_laws.proofs.RenamedSearches.{needed_renamed, wants_renamed}
 
 -- a formula with the clauses of F at some positions under other variables, both in order
 pub record IsCopy (F G : Cnf) (ν f : ℕ → ℕ) : Type 0 where
@@ -97,7 +99,8 @@ satisfied_copied F G ν f copy r h p inside out =
     let old = h.satisfied w.0 w.1 not_kept in
     subst (λ (q : ℕ). satisfies (assignment_of (map (literal_on ν) r.set)) (clause_at F q) ≡ true) w.2
     (ap (satisfies (assignment_of (map (literal_on ν) r.set))) (copy.copied.clauses w.0)
-    ∙ satisfies_renamed ν copy.copied.renames (λ k. let up = copy.order.variables 0 (suc k) (omega arith) in omega (arith, up)) r.set (clause_at G w.0) ∙ old)
+    ∙ satisfies_renamed ν (λ k. let up = copy.order.variables 0 (suc k) (omega arith) in omega (arith, up))
+    (assignment_of r.set) (assignment_of (map (literal_on ν) r.set)) (assignment_renamed ν copy.copied.renames r.set) (clause_at G w.0) ∙ old)
 
 result_copied : (F G : Cnf) (ν f : ℕ → ℕ) → IsCopy F G ν f → (r : GeneralResult) → length F.clauses + length (steps_of r.rounds) < 2 ^ 64
     → IsGeneralResult G (positions_of G) r → IsGeneralResult F (map f (positions_of G)) (result_under ν f r)
@@ -135,6 +138,7 @@ done_copied F G ν f copy conflicts r fits h =
           subst (λ (u : ℕ). blocked_after F no_variable (rounds_under ν f r.rounds) u ≡ false) w.2
           (blocks_copied F G ν f copy r.rounds w.0 ∙ h.unblocked w.0 w.1);
       most = let e = learned_count g f r.rounds in let few = h.most in omega (arith, e, few);
+      needed = needed_renamed F G ν g f copy.copied no_variable no_variable (λ v. refl) r.rounds h.needed;
     }
 
 -- AN UNFINISHED RESULT
@@ -161,7 +165,5 @@ unfinished_copied F G ν f copy le conflicts rounds fits h =
       };
       all = learned_count g f rounds ∙ h.all;
       few = fewer_learned conflicts G.vars F.vars le h.few;
-      left = ν h.left;
-      occurs = occurs_renamed F G ν g f copy.copied (positions_of G) h.left ∙ h.occurs;
-      unblocked = blocks_copied F G ν f copy rounds h.left ∙ h.unblocked;
+      wants = wants_renamed F G ν f copy.copied copy.order.variables no_variable no_variable (λ v. refl) (positions_of G) rounds h.wants;
     }

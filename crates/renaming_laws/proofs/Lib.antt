@@ -7,5 +7,7 @@ pub mod Told
 pub mod Copies
 pub mod Telling
 pub mod RenamedSets
+pub mod RenamedAssignments
+pub mod RenamedSearches
 pub mod CopiedResults
 pub mod RenamingLaws

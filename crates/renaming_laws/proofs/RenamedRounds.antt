@@ -28,7 +28,7 @@ names_renamed g f s =
     ap (λ (ks : List ℕ). f s.first ∷ ks)
     (map_twice (turn_under g f) (λ (t : Turn). t.with) (λ (t : Turn). f t.with) (λ t. refl) s.turns ∙ sym (map_twice (λ (t : Turn). t.with) f (λ (t : Turn). f t.with) (λ t. refl) s.turns))
 
-reached_renamed : (g : ℤ → ℤ) (f : ℕ → ℕ) → ((a b : ℕ) → (f a == f b) ≡ (a == b)) → (steps : List Step) → reached (map (step_under g f) steps) ≡ map f (reached steps)
+pub reached_renamed : (g : ℤ → ℤ) (f : ℕ → ℕ) → ((a b : ℕ) → (f a == f b) ≡ (a == b)) → (steps : List Step) → reached (map (step_under g f) steps) ≡ map f (reached steps)
 unfolding reached
 reached_renamed g f same [] = refl
 reached_renamed g f same (s ∷ []) = ap (λ (ks : List ℕ). f s.number ∷ ks) (names_renamed g f s)

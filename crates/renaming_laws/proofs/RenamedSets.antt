@@ -1,15 +1,14 @@
--- Variables that occur, set lines, and what these satisfy, under other variables and at other positions.
-use Rattle.std.proofs.Common.{◌≡◌, ℕ, zero, suc, ◌<◌, Bool, true, false, not, ◌==◌, List, [], ◌∷◌, refl, sym, ◌∙◌, ap, subst, ℤ, pos, negsuc, neg_ℤ, Option, unwrap_or, inl, inr, map, arith}
+-- Variables that occur, and clauses with variables of a set alone, under other variables and at other positions.
+use Rattle.std.proofs.Common.{◌≡◌, ℕ, true, ◌==◌, List, [], ◌∷◌, refl, sym, ◌∙◌, ap, subst, ℤ, inl, inr, map}
 use Rattle.std.proofs.lemmas.Bool.{eqb-true, eq-eqb}
-use Rattle.lk_model.specs.Formulas.Literal.{variable, contains, mentions}
+use Rattle.lk_model.specs.Formulas.Literal.{variable, mentions}
 use Rattle.lk_model.specs.Formulas.Formula.{Cnf, clause_at, variable_occurs}
 use Rattle.lk_model.specs.Formulas.Crossed.{Variables}
-use Rattle.lk_model.specs.Formulas.Assignment.{Assignment, makes_true, assignment_of, satisfies}
 use Rattle.lk_model.proofs.Booleans.{or_true, or_left, or_right}
 use Rattle.lk_model.proofs.Variables.{occurs, position_with}
 use Rattle.general_kernel.specs.Found.{has_only, covered}
 use Rattle.renaming_laws.proofs.Mapped.{any_mapped, all_mapped, filter_mapped, from_mapped}
-use Rattle.renaming_laws.proofs.RenamedClauses.{Renames, literal_on, contains_renamed, mentions_renamed}
+use Rattle.renaming_laws.proofs.RenamedClauses.{Renames, mentions_renamed}
 use Rattle.renaming_laws.proofs.RenamedChains.{IsCopied, Agrees}
 
 -- VARIABLES
@@ -46,35 +45,3 @@ pub covered_renamed : (F G : Cnf) (ν : ℕ → ℕ) (g : ℤ → ℤ) (f : ℕ 
 covered_renamed F G ν g f new b d agree P =
     filter_mapped f (λ p. has_only d (clause_at F p)) (λ p. has_only b (clause_at G p))
     (λ p. ap (has_only d) (new.clauses p) ∙ all_mapped g (λ l. d (variable l)) (λ l. b (variable l)) (λ l. ap d (new.renames.on l) ∙ agree (variable l)) (clause_at G p)) P
-
--- ASSIGNMENTS
-
--- the value of a new variable is that of the old one
-assignment_renamed : (ν : ℕ → ℕ) → Renames ν (literal_on ν) → (ls : List ℤ) (v : ℕ) → assignment_of (map (literal_on ν) ls) (ν v) ≡ assignment_of ls v
-assignment_renamed ν new ls v =
-    rw (positive, negative) refl
-  where
-    positive : contains (map (literal_on ν) ls) (pos (ν v)) ≡ contains ls (pos v)
-    positive = contains_renamed ν (literal_on ν) new ls (pos v)
-
-    negative : contains (map (literal_on ν) ls) (neg_ℤ (pos (ν v))) ≡ contains ls (neg_ℤ (pos v))
-    negative = ap (contains (map (literal_on ν) ls)) (new.complements (pos v)) ∙ contains_renamed ν (literal_on ν) new ls (neg_ℤ (pos v))
-
--- the complement of a variable above 0 is true where the variable is false
-negative_true : (φ : Assignment) (v : ℕ) → 0 < v → makes_true φ (neg_ℤ (pos v)) ≡ not (unwrap_or (φ v) true)
-negative_true φ zero lt = absurd (omega (arith, lt))
-negative_true φ (suc k) lt = refl
-
--- a new literal is true where the old one is
-true_renamed : (ν : ℕ → ℕ) → Renames ν (literal_on ν) → ((k : ℕ) → 0 < ν (suc k)) → (ls : List ℤ) (l : ℤ)
-    → makes_true (assignment_of (map (literal_on ν) ls)) (literal_on ν l) ≡ makes_true (assignment_of ls) l
-true_renamed ν new above ls (pos v) = ap (λ (o : Option Bool). unwrap_or o false) (assignment_renamed ν new ls v)
-true_renamed ν new above ls (negsuc k) =
-    negative_true (assignment_of (map (literal_on ν) ls)) (ν (suc k)) (above k)
-    ∙ ap (λ (o : Option Bool). not (unwrap_or o true)) (assignment_renamed ν new ls (suc k))
-
--- and so a new clause is satisfied where the old one is
-pub satisfies_renamed : (ν : ℕ → ℕ) → Renames ν (literal_on ν) → ((k : ℕ) → 0 < ν (suc k)) → (ls c : List ℤ)
-    → satisfies (assignment_of (map (literal_on ν) ls)) (map (literal_on ν) c) ≡ satisfies (assignment_of ls) c
-satisfies_renamed ν new above ls c =
-    any_mapped (literal_on ν) (makes_true (assignment_of (map (literal_on ν) ls))) (makes_true (assignment_of ls)) (true_renamed ν new above ls) c

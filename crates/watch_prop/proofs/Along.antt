@@ -11,7 +11,7 @@ use Rattle.lk_model.proofs.Flags.{same_false}
 use Rattle.lk_model.proofs.Literals.{variable_complement, same_int}
 use Rattle.watch_prop.specs.declared.entry.Entry.{Entry}
 use Rattle.watch_prop.specs.Trail.{true_in, false_in, entry_of, assignment_along, may_come, is_path}
-use Rattle.watch_prop.specs.Propagation.{is_false}
+use Rattle.lk_model.specs.Formulas.Units.{is_false}
 use Rattle.watch_prop.proofs.Truths.{ComeAfter, true_by_entry, same_true}
 use Rattle.watch_prop.proofs.Trails.{entry_there}
 

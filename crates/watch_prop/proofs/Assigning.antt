@@ -17,7 +17,8 @@ use Rattle.watch_prop.specs.Trail.{Path, entry_of, present_level, up_to_level, c
 use Rattle.watch_prop.specs.declared.watch.Watch.{Watch}
 use Rattle.watch_prop.specs.Watchers.{Watchers}
 use Rattle.watch_prop.specs.Linked.{IsLinked}
-use Rattle.watch_prop.specs.Propagation.{Propagation, IsPropagation, GoesOn, assigned, is_false, is_unit, is_quiet}
+use Rattle.watch_prop.specs.Propagation.{Propagation, IsPropagation, GoesOn, assigned, is_quiet}
+use Rattle.lk_model.specs.Formulas.Units.{is_false, is_unit}
 use Rattle.watch_prop.specs.States.{IsState, IsKnown, IsKnownBelow, AreUpheld, Leads, Passes, propagation_of, mark_at, unseen}
 use Rattle.watch_prop.proofs.Paths.{comes, last_level, back_there, same_path}
 use Rattle.watch_prop.proofs.Trails.{trail_path, propagation_more, may_open, first_follows}

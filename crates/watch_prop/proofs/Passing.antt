@@ -21,7 +21,8 @@ use Rattle.watch_prop.specs.Trail.{Path, literals_of, true_in, false_in, clause_
 use Rattle.watch_prop.specs.Watch.{is_upheld}
 use Rattle.watch_prop.specs.Watchers.{watchers}
 use Rattle.watch_prop.specs.Linked.{clause_at_place, watch_at, watches_it}
-use Rattle.watch_prop.specs.Propagation.{assigned, is_false}
+use Rattle.watch_prop.specs.Propagation.{assigned}
+use Rattle.lk_model.specs.Formulas.Units.{is_false}
 use Rattle.watch_prop.specs.States.{IsState, IsAtHead, Settles, Leads, propagation_of, unseen}
 use Rattle.watch_prop.proofs.Truths.{same_true}
 use Rattle.watch_prop.proofs.Along.{false_along, literal_on_path}

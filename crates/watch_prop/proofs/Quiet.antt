@@ -18,7 +18,8 @@ use Rattle.watch_prop.specs.Watch.{is_upheld}
 use Rattle.watch_prop.specs.Linked.{clause_at_place, watch_at}
 use Rattle.watch_prop.specs.declared.entry.Propagated.{Propagated}
 use Rattle.watch_prop.specs.declared.entry.Propagated.TheVariants.{Quiet, Conflict}
-use Rattle.watch_prop.specs.Propagation.{is_false, is_unit, is_quiet, assigned, IsAnswered}
+use Rattle.watch_prop.specs.Propagation.{is_quiet, assigned, IsAnswered}
+use Rattle.lk_model.specs.Formulas.Units.{is_false, is_unit}
 use Rattle.watch_prop.specs.States.{IsState, Passes, propagation_of, unseen, has_true}
 use Rattle.watch_prop.proofs.Truths.{false_apart, no_sign_twice}
 use Rattle.std.proofs.lemmas.List.{take_all}

@@ -12,7 +12,7 @@ use Rattle.lk_model.proofs.Literals.{variable_complement, same_int}
 use Rattle.watch_prop.specs.declared.entry.Entry.{Entry}
 use Rattle.watch_prop.specs.declared.entry.NumberedClause.{NumberedClause}
 use Rattle.watch_prop.specs.Trail.{literals_of, false_in, entry_of, assignment_along, clause_numbered, forces, is_path}
-use Rattle.watch_prop.specs.Propagation.{is_unit, is_unset}
+use Rattle.lk_model.specs.Formulas.Units.{is_unit, is_unset}
 use Rattle.watch_prop.proofs.Truths.{same_true, no_sign_twice}
 use Rattle.watch_prop.proofs.Along.{makes_true_along}
 

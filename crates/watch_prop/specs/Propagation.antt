@@ -7,6 +7,7 @@ use Rattle.lk_model.specs.Formulas.Literal.{variable, complement, is_clause, is_
 use Rattle.lk_model.specs.Limits.{max_vars}
 use Rattle.lk_model.specs.Formulas.Formula.{clause_at}
 use Rattle.lk_model.specs.Formulas.Assignment.{Assignment, makes_true, satisfies}
+use Rattle.lk_model.specs.Formulas.Units.{is_false, is_unit}
 use Rattle.lk_model.specs.Formulas.Crossed.{crossed_out}
 use Rattle.lk_model.specs.Held.VariableSets.{is_in}
 use Rattle.lk_model.specs.declared.crossed.Crossed.{Crossed}
@@ -34,18 +35,6 @@ numbers_of clauses = map (λ (c : NumberedClause). c.number) clauses
 abbrev pub crossed_clauses : Crossed → List NumberedClause
 crossed_clauses over = filter (λ (c : NumberedClause). not (is_empty c.lits))
     (map (λ p. record { number = p; lits = crossed_out (is_in over.blocked.now) (clause_at over.formula.now p) }) over.part.now)
-
--- every literal is false
-abbrev pub is_false : Assignment → List ℤ → Bool
-is_false φ c = list_all (λ l. makes_true φ (complement l)) c
-
--- its variable has no value
-abbrev pub is_unset : Assignment → ℤ → Bool
-is_unset φ l = not (is_some (φ (variable l)))
-
--- no literal is true and just one is unset
-abbrev pub is_unit : Assignment → List ℤ → Bool
-is_unit φ c = not (satisfies φ c) && length (filter (is_unset φ) c) == 1
 
 -- no clause is false or has just one unset literal and no true one
 abbrev pub is_quiet : Assignment → List NumberedClause → Bool

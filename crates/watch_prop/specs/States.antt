@@ -17,7 +17,8 @@ use Rattle.watch_prop.specs.Trail.{Path, literals_of, true_in, false_in, present
 use Rattle.watch_prop.specs.Watch.{other_of, is_upheld}
 use Rattle.watch_prop.specs.Watchers.{watchers}
 use Rattle.watch_prop.specs.Linked.{IsLinked, clause_at_place, watch_at}
-use Rattle.watch_prop.specs.Propagation.{Propagation, IsPropagation, GoesOn, assigned, is_false}
+use Rattle.watch_prop.specs.Propagation.{Propagation, IsPropagation, GoesOn, assigned}
+use Rattle.lk_model.specs.Formulas.Units.{is_false}
 
 -- the clause that waits at a place of the list of those
 abbrev pub waiting_at : List ℕ → ℕ → ℕ

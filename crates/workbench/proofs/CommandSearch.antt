@@ -1,9 +1,9 @@
 -- The search for the command whose words stand at the front.
-use Rattle.std.proofs.Common.{◌≡◌, ◌≢◌, ℕ, ◌+◌, ◌<◌, ◌≤◌, ◌∙◌, List, length, get_or, nat_le, refl, ap, sym, subst, arith, ◌⊎◌, inl, inr}
+use Rattle.std.proofs.Common.{◌≡◌, ◌≢◌, ℕ, ◌+◌, ◌<◌, ◌≤◌, ◌∙◌, List, length, get_or, nat_le, ap, sym, subst, arith, ◌⊎◌, inl, inr}
 use Rattle.std.proofs.lemmas.Bool.{cases_Bool, leb-true, leb-false}
 use Rattle.lk_model.specs.Texts.Lines.{Word}
 use Rattle.workbench.specs.Commands.{commands, words_of}
-use Rattle.workbench.specs.Requests.{common, IsUnknownAt}
+use Rattle.workbench.specs.Requests.{common}
 use Rattle.workbench.specs.declared.command.Command.{Command}
 use Rattle.workbench.specs.declared.command.Command.TheVariants.{ReducePure}
 use Rattle.workbench.proofs.CommonWords.{common_within}

@@ -1,6 +1,6 @@
 -- What the clauses of a run come to for the command `demo`.
-use Rattle.std.proofs.Common.{◌≡◌, ◌∙◌, ℕ, ◌<◌, ◌≤◌, ◌^◌, Bool, true, false, cond, List, [], ◌∷◌, Option, Some, None, refl, ap, sym, subst, arith}
-use Rattle.std.specs.Prelude.{codes, IsTrue, nat_eq, nat_le, ◌&&◌}
+use Rattle.std.proofs.Common.{◌≡◌, ◌∙◌, ℕ, ◌<◌, ◌^◌, Bool, true, cond, List, [], ◌∷◌, Option, Some, None, refl, ap, sym, subst, arith}
+use Rattle.std.specs.Prelude.{codes, IsTrue, nat_eq, nat_le}
 use Rattle.std.specs.List.{list_any}
 use Rattle.std.proofs.lemmas.Bool.{and_from, le-leb}
 use Rattle.lk_model.specs.Texts.Lines.{Word}
@@ -8,7 +8,7 @@ use Rattle.lk_model.specs.Texts.NumberWords.{natural}
 use Rattle.workbench.specs.Commands.Demonstrating.{numbers}
 use Rattle.workbench.specs.DemoOutcomes.{DemoOutcomes}
 use Rattle.workbench.specs.Endings.{Shelved, Takes, Allows, DeservesStop, HasReadFault}
-use Rattle.workbench.specs.Lawful.{Request, request_of, with_names}
+use Rattle.workbench.specs.Lawful.{Request, request_of}
 use Rattle.workbench.specs.Settings.{number_within, options_by}
 use Rattle.workbench.specs.Statuses.{code}
 use Rattle.workbench.specs.declared.command.Command.TheVariants.{Demo}

@@ -1,12 +1,13 @@
 -- Which endings are allowed, and which is decided.
-use Rattle.std.proofs.Common.{◌≡◌, ◌≢◌, ℕ, List, [], Bool, Option, Some, None, Result, Ok, Err, IfOk, refl, ap, sym, subst, ◌⊎◌, inl, inr}
+use Rattle.std.proofs.Common.{◌≡◌, ◌≢◌, ◌∙◌, ℕ, List, [], Bool, Option, Some, None, Result, Ok, Err, IfOk, refl, ap, sym, subst, ◌⊎◌, inl, inr}
 use Rattle.std.specs.Prelude.{IsTrue}
+use Rattle.std.proofs.lemmas.Bool.{cases_eq}
 use Rattle.lk_model.specs.Texts.Lines.{Word}
 use Rattle.lk_model.specs.declared.list.OutOfMemory.{OutOfMemory}
 use Rattle.lk_outside.specs.Causes.{Rose}
 use Rattle.cert_text.specs.ReadTexts.{IsOfOneDocument, StopsNowhere}
 use Rattle.workbench.specs.Commands.{inputs_of, Answers}
-use Rattle.workbench.specs.Endings.{Shelved, Sunk, TakesBoth, IsCutIn, Ends, IsCutOff, IsResult, DeservesStop, HasReadFault, Tells, Allows, HasValues, IsDecidedFor, IsDecided, IsUnlessFailed, StopsAsRead, StopsAt, ReadsNothing, IsWell}
+use Rattle.workbench.specs.Endings.{Shelved, Sunk, Takes, TakesBoth, IsCutIn, Ends, IsCutOff, EndsQuietly, IsResult, DeservesStop, HasReadFault, Tells, Allows, HasValues, IsDecidedFor, IsDecided, IsUnlessFailed, StopsAsRead, StopsAt, ReadsNothing, IsWell}
 use Rattle.workbench.specs.Inputs.{Told, Values, IsFirstBad, IsFailure}
 use Rattle.workbench.specs.Lawful.{Request, request_of}
 use Rattle.workbench.specs.Statuses.{code, is_result}
@@ -82,7 +83,7 @@ decided_by request told status.Refused h = inr h
 decided_by request told status.Memory h = inr h
 
 -- a result has the decided status
-pub result_decided : IsOfOneDocument → (o : Option Request) (told : Told) (s decided : Status) (written said : List ℕ) → IsResult o told s written said → IsDecided o told decided → IsUnlessFailed (code s) decided
+pub result_decided : {ShelfFailed SinkFailed : Type 0} → IsOfOneDocument → (o : Option Request) (told : Told) (s decided : Status) (written said : List ℕ) → IsResult o told s written said → IsDecided o told decided → IsUnlessFailed (code s) decided ShelfFailed SinkFailed
 result_decided once None told s decided written said h d = absurd h
 result_decided once (Some request) told s decided written said h d = inl (ap code (by (decided_by request told decided d) d))
   where
@@ -101,27 +102,27 @@ bad_decided once never request told s decided h d = by (decided_by request told 
     by (inr v) = absurd (none_stops once never told 0 (inputs_of request.command) request.names v.values s v.told_all v.read h)
 
 -- so is that of a stop, unless a call or memory failed
-pub stop_decided : IsOfOneDocument → StopsNowhere → (words : List Word) (told : Told) (ailing : Bool) (current : Option (List ℕ)) (s : Stop) (decided : Status) → StopsAt words told ailing current s → IsDecided (request_of words) told decided → IsUnlessFailed (code (status_of s)) decided
-stop_decided once never words told ailing current (stop.Words i) decided h d =
+pub stop_decided : {ShelfFailed SinkFailed : Type 0} → IsOfOneDocument → StopsNowhere → (words : List Word) (told : Told) (ailing : Bool) (current : Option (List ℕ)) (s : Stop) (decided : Status) → StopsAt words told ailing current s → (s ≡ stop.Read → ShelfFailed) → IsDecided (request_of words) told decided → IsUnlessFailed (code (status_of s)) decided ShelfFailed SinkFailed
+stop_decided once never words told ailing current (stop.Words i) decided h rose d =
     let is : decided ≡ status.Words = subst (λ (o : Option Request). IsDecided o told decided) h.unlawful d in
     inl (ap code (sym is))
-stop_decided once never words told ailing current (stop.Formula r) decided h d = inl (ap code (sym (by (request_of words) h d)))
+stop_decided once never words told ailing current (stop.Formula r) decided h rose d = inl (ap code (sym (by (request_of words) h d)))
   where
     by : (o : Option Request) → StopsAsRead o told ailing current (stop.Formula r) → IsDecided o told decided → decided ≡ status.Input
     by None h d = absurd h
     by (Some request) h d = bad_decided once never request told (stop.Formula r) decided h d
-stop_decided once never words told ailing current (stop.Document line) decided h d = inl (ap code (sym (by (request_of words) h d)))
+stop_decided once never words told ailing current (stop.Document line) decided h rose d = inl (ap code (sym (by (request_of words) h d)))
   where
     by : (o : Option Request) → StopsAsRead o told ailing current (stop.Document line) → IsDecided o told decided → decided ≡ status.Input
     by None h d = absurd h
     by (Some request) h d = bad_decided once never request told (stop.Document line) decided h d
-stop_decided once never words told ailing current (stop.Model line) decided h d = inl (ap code (sym (by (request_of words) h d)))
+stop_decided once never words told ailing current (stop.Model line) decided h rose d = inl (ap code (sym (by (request_of words) h d)))
   where
     by : (o : Option Request) → StopsAsRead o told ailing current (stop.Model line) → IsDecided o told decided → decided ≡ status.Input
     by None h d = absurd h
     by (Some request) h d = bad_decided once never request told (stop.Model line) decided h d
-stop_decided once never words told ailing current stop.Read decided h d = inr (inl refl)
-stop_decided once never words told ailing current stop.Memory decided h d = inr (inr (inr refl))
+stop_decided once never words told ailing current stop.Read decided h rose d = inr (inl (refl, rose refl))
+stop_decided once never words told ailing current stop.Memory decided h rose d = inr (inr (inr refl))
 
 -- THE ENDING OF A STOP
 
@@ -130,10 +131,10 @@ pub told_allowed : (words : List Word) (shelf : Shelved) (s : Stop) (r : Result 
 told_allowed words shelf s (Ok e) is tells h rose = subst (λ (t : Status). Allows words shelf t e.written.items e.said.items) (sym is) (stop_allowed words shelf s e.written.items e.said.items h rose tells)
 told_allowed words shelf s (Err e) is tells h rose = tt
 
-pub told_decided : IsOfOneDocument → StopsNowhere → (words : List Word) (told : Told) (ailing : Bool) (current : Option (List ℕ)) (s : Stop) (r : Result Ending OutOfMemory) → IfOk r (λ e. e.status ≡ status_of s) → StopsAt words told ailing current s
-    → IfOk r (λ e. (decided : Status) → IsDecided (request_of words) told decided → IsUnlessFailed (code e.status) decided)
-told_decided once never words told ailing current s (Ok e) is h = λ decided d. subst (λ (t : Status). IsUnlessFailed (code t) decided) (sym is) (stop_decided once never words told ailing current s decided h d)
-told_decided once never words told ailing current s (Err e) is h = tt
+pub told_decided : {ShelfFailed : Type 0} (SinkFailed : Type 0) → IsOfOneDocument → StopsNowhere → (words : List Word) (told : Told) (ailing : Bool) (current : Option (List ℕ)) (s : Stop) (r : Result Ending OutOfMemory) → IfOk r (λ e. e.status ≡ status_of s) → StopsAt words told ailing current s → (s ≡ stop.Read → ShelfFailed)
+    → IfOk r (λ e. (decided : Status) → IsDecided (request_of words) told decided → IsUnlessFailed (code e.status) decided ShelfFailed SinkFailed)
+told_decided {ShelfFailed} SinkFailed once never words told ailing current s (Ok e) is h rose = λ decided d. subst (λ (t : Status). IsUnlessFailed (code t) decided ShelfFailed SinkFailed) (sym is) (stop_decided once never words told ailing current s decided h rose d)
+told_decided SinkFailed once never words told ailing current s (Err e) is h rose = tt
 
 -- WHERE THE SHELF IS AILING
 
@@ -174,5 +175,48 @@ told_well s o ailing (Err e) is h = tt
 pub memory_ends : (words : List Word) (shelf : Shelved) (out say : Sunk) (answer : ℕ) → answer ≡ code status.Memory → TakesBoth out say [] (line_of stop.Memory) → Ends words shelf out say answer
 memory_ends words shelf out say answer is taken = record { status = status.Memory; written = []; said = line_of stop.Memory; allowed = (refl, refl); well = tt; answer_is = is; taken = taken }
 
-pub memory_cut : (words : List Word) (shelf : Shelved) (out say : Sunk) → IsCutIn out say [] (line_of stop.Memory) → IsCutOff words shelf out say
-memory_cut words shelf out say cut = record { status = status.Memory; written = []; said = line_of stop.Memory; allowed = (refl, refl); well = tt; cut = cut }
+pub memory_cut : {OutIsSame SayIsSame : Type 0} → (words : List Word) (shelf : Shelved) (out say : Sunk) → IsCutIn out say [] (line_of stop.Memory) SayIsSame → OutIsSame → IsCutOff words shelf out say OutIsSame SayIsSame
+memory_cut words shelf out say cut same = record { status = status.Memory; written = []; said = line_of stop.Memory; allowed = (refl, refl); well = tt; cut = cut; out_unused = λ e. same }
+
+pub memory_quiet : {OutIsSame SayIsSame : Type 0} → (words : List Word) (shelf : Shelved) (out say : Sunk) (answer : ℕ) → answer ≡ code status.Memory → TakesBoth out say [] (line_of stop.Memory) → OutIsSame
+    → (line_of stop.Memory ≡ [] → SayIsSame) → EndsQuietly words shelf out say answer OutIsSame SayIsSame
+unfolding memory_ends
+memory_quiet words shelf out say answer is taken same unused = record { ending = memory_ends words shelf out say answer is taken; out_unused = λ e. same; say_unused = unused }
+
+-- WHAT IS WRITTEN
+
+rose_in : {SayIsSame : Type 0} → (out say : Sunk) (written said : List ℕ) → IsCutIn out say written said SayIsSame → Rose out.faults_before out.faults_after ⊎ Rose say.faults_before say.faults_after
+rose_in out say written said (inl first) = inl first.0.rose
+rose_in out say written said (inr second) = inr second.1.rose
+
+-- an ending that has the decided status keeps it as it is written, unless a sink fails
+pub written_decided : {ShelfFailed SayIsSame : Type 0} → (out say : Sunk) (written said : List ℕ) (s decided : Status) (answer : ℕ) → (answer ≢ 4 → (answer ≡ code s) × TakesBoth out say written said)
+    → (answer ≡ 4 → IsCutIn out say written said SayIsSame) → IsUnlessFailed (code s) decided ShelfFailed ⊥
+    → IsUnlessFailed answer decided ShelfFailed (Rose out.faults_before out.faults_after ⊎ Rose say.faults_before say.faults_after)
+written_decided {ShelfFailed} out say written said s decided answer ended cut d = elim (cases_eq answer 4) [
+  | inl four ↦ inr (inr (inl (four, rose_in out say written said (cut four))))
+  | inr other ↦ by (ended other).0 d
+]
+  where
+    by : answer ≡ code s → IsUnlessFailed (code s) decided ShelfFailed ⊥ → IsUnlessFailed answer decided ShelfFailed (Rose out.faults_before out.faults_after ⊎ Rose say.faults_before say.faults_after)
+    by is (inl e) = inl (is ∙ e)
+    by is (inr (inl e)) = inr (inl (is ∙ e.0, e.1))
+    by is (inr (inr (inl e))) = absurd e.1
+    by is (inr (inr (inr e))) = inr (inr (inr (is ∙ e)))
+
+-- an ending whose texts, as they were written, leave their sinks as they were where they are empty
+pub ends_quietly : {OutIsSame SayIsSame : Type 0} → (words : List Word) (shelf : Shelved) (out say : Sunk) (s : Status) (written said one other : List ℕ) (answer : ℕ) → Allows words shelf s written said → IsWell s (request_of words) shelf.ailing
+    → one ≡ written → other ≡ said → (answer ≡ code s) × TakesBoth out say one other → (one ≡ [] → OutIsSame) → (other ≡ [] → SayIsSame) → EndsQuietly words shelf out say answer OutIsSame SayIsSame
+ends_quietly words shelf out say s written said one other answer allowed well p q e out_unused say_unused = record {
+  ending = record {
+    status = s;
+    written = written;
+    said = said;
+    allowed = allowed;
+    well = well;
+    answer_is = e.0;
+    taken = (subst (λ (t : List ℕ). Takes out t) p e.1.0, subst (λ (t : List ℕ). Takes say t) q e.1.1);
+  };
+  out_unused = λ none. out_unused (p ∙ none);
+  say_unused = λ none. say_unused (q ∙ none);
+}

@@ -29,7 +29,8 @@ use Rattle.kernel_laws.proofs.Protected.FoundLaws.{found_law}
 use Rattle.linear_laws.specs.RunLaw.{sign_line, linear_document}
 use Rattle.linear_laws.proofs.RunAccepted.{linear_run_law}
 use Rattle.linear_laws.proofs.RunMoments.{run_ends, left_rises}
-use Rattle.workbench.specs.Founds.{document_of, IsFoundFor, TellsReduction}
+use Rattle.part_kernels.specs.ByParts.{IsFoundWhole}
+use Rattle.workbench.specs.Founds.{document_of, IsFoundFor, IsKernelFound, TellsReduction}
 use Rattle.workbench.specs.declared.document.Found.{Found}
 
 -- what is left of a formula is within the limits
@@ -77,6 +78,11 @@ general_found rest r h = record {
       same_document F protect class.General pivots (record { kept = r.kept; set = r.set; body = General r.rounds })
       (found_law.general F protect pivots r form limits protects there);
 }
+
+-- found by parts, by rounds of which nothing is needless and that keep the budget
+pub kernel_found : (rest : Cnf) (conflicts : ℕ) (r : GeneralResult) → IsFoundWhole rest conflicts r
+    → IsKernelFound rest conflicts (record { kept = r.kept; set = r.set; body = General r.rounds })
+kernel_found rest conflicts r h = record { kernel = general_found rest r h.result; needed = h.needed; budget = h.budget }
 
 -- of a linear run that ends done: its stages and its kept positions are in form
 pub linear_stages : (F : Cnf) (pivots made : ℕ) (r : LinearResult) → IsTrue (is_formula F) → IsWithinLimits F → linear_run F pivots ≡ RunDone r.kept r.stages r.dual r.units made → IsTrue (list_all (is_stage F.vars) r.stages)

@@ -1,17 +1,20 @@
 -- How the general kernel is answered, and rounds that used up their budget.
-use Rattle.std.proofs.Common.{◌≡◌, ◌∙◌, ℕ, ◌*◌, ◌^◌, ◌<◌, List, [], Option, length, refl, sym, ap, subst, arith}
+use Rattle.std.proofs.Common.{◌≡◌, ◌∙◌, ℕ, ◌*◌, ◌^◌, ◌<◌, List, [], ◌∷◌, ◌++◌, Option, length, refl, sym, ap, subst, arith}
 use Rattle.std.specs.Prelude.{IsTrue}
+use Rattle.std.specs.List.{AllByRecursion}
 use Rattle.lk_model.specs.Formulas.Formula.{Cnf, is_formula, IsWithinLimits}
-use Rattle.lk_model.specs.Formulas.Crossed.{protected_by}
-use Rattle.lk_model.specs.Formulas.Parts.{IsPartUnder}
-use Rattle.lk_model.specs.Chains.Rounds.{names_within}
+use Rattle.lk_model.specs.Formulas.Crossed.{Variables, formula_without, protected_by}
+use Rattle.lk_model.specs.Formulas.Parts.{IsPartUnder, ArePartsUnder}
+use Rattle.lk_model.specs.Chains.Rounds.{names_within, AreNeeded}
+use Rattle.lk_model.specs.Chains.Searches.{WantsMore}
 use Rattle.lk_model.specs.Checks.RoundChecks.{learned_steps}
 use Rattle.lk_model.specs.Checks.Checks.{IsSound, HasProgress}
 use Rattle.lk_model.specs.Documents.Form.{is_protect_line}
 use Rattle.lk_model.specs.Documents.Text.{text_of}
-use Rattle.lk_model.specs.Reduction.{WritesReduction, protect_line_of}
+use Rattle.lk_model.specs.Reduction.{Reduces, protect_line_of}
 use Rattle.lk_model.specs.declared.class.Class.TheVariants.{General}
-use Rattle.lk_model.specs.declared.document.Document.TheVariants.{Unfinished}
+use Rattle.lk_model.specs.declared.document.Document.TheVariants.{Done as Finished, Unfinished}
+use Rattle.lk_model.specs.declared.document.DoneDocument.{DoneDocument}
 use Rattle.lk_model.specs.declared.document.OpenDocument.{OpenDocument}
 use Rattle.lk_model.specs.declared.document.Round.{Round}
 use Rattle.lk_model.proofs.Crossings.{formula_form}
@@ -22,25 +25,59 @@ use Rattle.kernel_laws.proofs.Protected.CheckLaws.{check_law}
 use Rattle.kernel_laws.proofs.Protected.Crossing.{same_count}
 use Rattle.kernel_laws.proofs.Protected.FoundLaws.{found_law}
 use Rattle.kernel_laws.proofs.Protected.Parts.{run_law}
-use Rattle.part_kernels.specs.ByParts.{IsFirstUnfinished}
-use Rattle.workbench.specs.Commands.GeneralReducing.{IsEnough, WritesUnfinished, conflicts_line, Writes, Answers}
-use Rattle.workbench.specs.Founds.{open_document_of}
+use Rattle.round_laws.specs.Budgets.{AreWithinBudget, CanBeFinished}
+use Rattle.round_laws.proofs.RoundLaws.{round_law}
+use Rattle.part_kernels.specs.ByParts.{CanBeDone, IsFirstUnfinished}
+use Rattle.workbench.specs.Commands.GeneralReducing.{IsEnough, WritesFinished, WritesUnfinished, rounds_in, conflicts_line, Writes, Answers}
+use Rattle.workbench.specs.Founds.{document_of, open_document_of, IsKernelFound}
 use Rattle.workbench.specs.Protecting.{line_of, left_of, IsProblem}
 use Rattle.workbench.specs.Settings.{Options}
+use Rattle.workbench.specs.declared.document.Found.{Found}
 use Rattle.workbench.specs.declared.problem.Problem.{Problem}
 use Rattle.workbench.specs.declared.status.Status.{Status}
 use Rattle.workbench.specs.declared.status.Status.TheVariants.{Done, Budget}
 use Rattle.workbench.proofs.Founds.{limits_left}
+use Rattle.workbench.proofs.Protecting.{line_form}
 
 -- WHERE ALL OF THE KERNEL IS FOUND
 
-pub done_answers : (options : Options) (F : Cnf) (status : Status) (written said : List ℕ) → status ≡ Done → WritesReduction F General options.protect options.pivots written → said ≡ [] → Answers options F status written said
-done_answers options F status written said is writes silent = record {
-  writes = subst (λ (s : Status). Writes options F s written said) (sym is) (writes, silent);
-  enough = λ e. is;
-}
+-- the document of what is found in what is left, written for the formula
+pub writes_kernel : (options : Options) (F : Cnf) (protect : Option (List ℕ)) (rest : Cnf) (found : Found) (d : DoneDocument) (written : List ℕ) → IsTrue (is_formula F) → IsWithinLimits F
+    → protect ≡ protect_line_of F options.protect → IsTrue (is_protect_line F.vars protect) → rest_of F protect ≡ rest → IsKernelFound rest options.conflicts found
+    → d ≡ document_of F protect found → written ≡ text_of (Finished d) → WritesFinished options F written
+writes_kernel options F protect rest found d written form limits lists line is h told text =
+    let there : IsKernelFound (rest_of F protect) options.conflicts found = subst (λ (G : Cnf). IsKernelFound G options.conflicts found) (sym is) h in
+    record {
+      reduction = record {
+        document = d;
+        reduces = subst (λ (e : DoneDocument). Reduces F General options.pivots e) (sym told) (h.kernel.reduces options.pivots F protect form limits line is);
+        protects = ap (λ (e : DoneDocument). e.protect) told ∙ lists;
+        written_is = text;
+      };
+      needed = subst (λ (e : DoneDocument). AreNeeded F (protected_by e.protect) (rounds_in e.body)) (sym told) (round_law.protected_needed F protect (rounds_in found.body) there.needed);
+      budget = subst (λ (e : DoneDocument). AreWithinBudget (protected_by e.protect) F options.conflicts (rounds_in e.body)) (sym told)
+          (round_law.protected_budget F options.conflicts protect (rounds_in found.body) there.budget);
+    }
+
+pub done_answers : (options : Options) (F : Cnf) (p : Problem) (found : Found) (d : DoneDocument) (status : Status) (written said : List ℕ) → IsProblem F options.protect p → IsTrue (is_formula p.formula) → IsWithinLimits p.formula
+    → IsKernelFound (left_of p) options.conflicts found → d ≡ document_of p.formula (line_of p) found
+    → status ≡ Done → written ≡ text_of (Finished d) → said ≡ [] → Answers options F status written said
+done_answers options F p found d status written said is form limits h told ends text silent =
+    let line = subst (λ (l : Option (List ℕ)). IsTrue (is_protect_line F.vars l)) (sym is.line) (line_form F options.protect) in
+    let told_of : d ≡ document_of F (line_of p) found = told ∙ ap (λ (G : Cnf). document_of G (line_of p) found) is.formula in
+    let writes = writes_kernel options F (line_of p) (left_of p) found d written (subst (λ (G : Cnf). IsTrue (is_formula G)) is.formula form) (subst (λ (G : Cnf). IsWithinLimits G) is.formula limits) is.line line (sym is.left) h told_of text in
+    record {
+      writes = subst (λ (s : Status). Writes options F s written said) (sym ends) (writes, silent);
+      enough = λ e. ends;
+    }
 
 -- WHERE THE BUDGET IS USED UP
+
+-- parts whose kernels are found can be finished
+each_finished : (P : Variables) (F : Cnf) (conflicts : ℕ) (parts : List (List ℕ)) → AllByRecursion (CanBeDone (formula_without F P) conflicts) parts → AllByRecursion (CanBeFinished P F conflicts) parts
+each_finished P F conflicts [] h = tt
+each_finished P F conflicts (part ∷ parts) h =
+    let d = h.0.1 in ((h.0.0, record { result = d.result; needed = d.needed; most = d.most }), each_finished P F conflicts parts h.1)
 
 -- the document of rounds over a part of what is left, written for the formula
 pub writes_open : (options : Options) (F : Cnf) (protect : Option (List ℕ)) (rounds : List Round) (d : OpenDocument) (written : List ℕ) → IsTrue (is_formula F) → IsWithinLimits F → protect ≡ protect_line_of F options.protect
@@ -67,6 +104,11 @@ writes_open options F protect rounds d written form limits lists h few told text
       part = h.part;
       is_part = subst (λ (e : OpenDocument). IsPartUnder (protected_by e.protect) F h.part) (sym told) ((run_law.part P F h.part).1 h.is_part);
       names = subst (λ (e : OpenDocument). IsTrue (names_within F h.part e.rounds)) (sym told) (check_law.names P F h.part rounds ∙ open_result_law.names G h.part rounds u.result);
+      wants = subst (λ (e : OpenDocument). WantsMore F (protected_by e.protect) h.part e.rounds) (sym told) (round_law.protected_wants F protect h.part rounds u.wants);
+      before = h.before;
+      after = h.after;
+      parts = subst (λ (e : OpenDocument). ArePartsUnder (protected_by e.protect) F (h.before ++ h.part ∷ h.after)) (sym told) ((run_law.parts P F (h.before ++ h.part ∷ h.after)).1 h.parts);
+      finished = subst (λ (e : OpenDocument). AllByRecursion (CanBeFinished (protected_by e.protect) F options.conflicts) h.before) (sym told) (each_finished P F options.conflicts h.before h.done);
     }
 
 -- the budget was not enough

@@ -6,11 +6,12 @@ use Rattle.std.proofs.lemmas.Bool.{cases_lt}
 use Rattle.lk_model.specs.Formulas.Formula.{Cnf}
 use Rattle.lk_model.specs.Texts.Dimacs.{Spells}
 use Rattle.lk_model.specs.Texts.Fault.{fault_of}
+use Rattle.lk_model.specs.Reduction.{ReducesTo, StopsUnfinished}
 use Rattle.lk_model.specs.declared.class.Class.TheVariants.{General}
 use Rattle.dimacs_reader.specs.Faults.{refusal_by, refusal_of}
-use Rattle.workbench.specs.Commands.GeneralReducing.{WritesUnfinished, Writes}
+use Rattle.workbench.specs.Commands.GeneralReducing.{WritesFinished, WritesUnfinished, Writes}
 use Rattle.workbench.specs.Endings.{Takes, IsDecided}
-use Rattle.workbench.specs.GeneralOutcomes.{StopsShort, GeneralOutcomes}
+use Rattle.workbench.specs.GeneralOutcomes.{ReducesWithin, StopsShort, GeneralOutcomes}
 use Rattle.workbench.specs.Inputs.{Formula, IsRefusal, IsFirstBad}
 use Rattle.workbench.specs.Lawful.{Request}
 use Rattle.workbench.specs.Settings.{Options}
@@ -20,7 +21,7 @@ use Rattle.workbench.specs.declared.status.Status.TheVariants as status
 use Rattle.workbench.specs.declared.status.Status.TheVariants.{Done, Budget, Input}
 use Rattle.workbench.specs.declared.stop.Stop.{Stop}
 use Rattle.workbench.specs.declared.stop.Stop.TheVariants as stop
-use Rattle.workbench.proofs.Outcomes.{result_of, input_of, only, not_spelled, reduces_to}
+use Rattle.workbench.proofs.Outcomes.{result_of, input_of, only, not_spelled}
 
 -- WHAT A STATUS TELLS
 
@@ -44,12 +45,20 @@ few_of n conflicts h = elim (cases_lt conflicts n) [
   | inr e ↦ absurd (let d = h e in let f : ⊥ = cc d in f)
 ]
 
+reduces_within : (told : Option (List ℕ)) (F : Cnf) (options : Options) (text : List ℕ) → IfSome told (λ bytes. Spells bytes F) → WritesFinished options F text → IfSome told (λ bytes. ReducesWithin bytes options text)
+reduces_within None F options text s w = tt
+reduces_within (Some bytes) F options text s w = record { formula = F; spells = s; writes = w }
+
 stops_short : (told : Option (List ℕ)) (F : Cnf) (options : Options) (text : List ℕ) → IfSome told (λ bytes. Spells bytes F) → WritesUnfinished options F text → options.conflicts < F.vars * 3 ^ F.vars → IfSome told (λ bytes. StopsShort bytes options text)
 stops_short None F options text s w few = tt
-stops_short (Some bytes) F options text s w few = record {
-  stops = record { formula = F; spells = s; unfinished = w.unfinished; part = w.part; is_part = w.is_part; names = w.names };
-  few = few;
-}
+stops_short (Some bytes) F options text s w few = record { formula = F; spells = s; writes = w; few = few }
+
+-- so the one reduces the text, and the other stops on it
+pub within_reduces : (text : List ℕ) (options : Options) (written : List ℕ) → ReducesWithin text options written → ReducesTo text General options.protect options.pivots written
+within_reduces text options written h = record { formula = h.formula; spells = h.spells; writes = h.writes.reduction }
+
+pub short_stops : (text : List ℕ) (options : Options) (written : List ℕ) → StopsShort text options written → StopsUnfinished text options.protect options.conflicts written
+short_stops text options written h = record { formula = h.formula; spells = h.spells; unfinished = h.writes.unfinished; part = h.writes.part; is_part = h.writes.is_part; names = h.writes.names }
 
 -- a text that is refused has a fault
 faulty : (told : Option (List ℕ)) (s : Stop) → IsRefusal Formula 0 told s → IfSome told (λ bytes. fault_of bytes ≢ None)
@@ -70,7 +79,7 @@ general_outcomes words shelf out say name options asked = record {
   done = λ e.
       let r = result_of words shelf out say _ 0 e asked refl in (
         e.written,
-        reduces_to (shelf.told name) General r.values.0 options e.written r.read.0 r.answers.writes.0,
+        reduces_within (shelf.told name) r.values.0 options e.written r.read.0 r.answers.writes.0,
         e.taken.0,
         e.taken.1.same r.answers.writes.1,
       );

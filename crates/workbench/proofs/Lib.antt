@@ -28,6 +28,9 @@ pub mod ExtendOutcomes
 pub mod LinearOutcomes
 pub mod GeneralOutcomes
 pub mod DemoOutcomes
+pub mod QuietEndings
+pub mod KeptClauses
+pub mod WrittenChecks
 pub mod Streams
 pub mod Feeding
 pub mod InputStops

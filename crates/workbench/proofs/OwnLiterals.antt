@@ -10,7 +10,7 @@ use Rattle.lk_model.specs.Formulas.Formula.{Cnf, is_formula, clause_at}
 use Rattle.lk_model.specs.declared.document.Own.{Own}
 use Rattle.lk_model.proofs.Variables.{variable_bound}
 use Rattle.kernel_laws.specs.Matching.MatchingResults.{IsOwn, literal_on, own_literal, set_line}
-use Rattle.lean_checker.specs.Matching.{IsFirstTable}
+use Rattle.kernel_laws.specs.FirstTables.{IsFirstTable}
 
 -- WHERE AN OWN LINE STANDS
 

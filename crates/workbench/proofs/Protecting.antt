@@ -115,7 +115,7 @@ set_is n flags vars within told = λ i v. by v i
     by v = by_test v (is_in flags v) refl ∙ sym (any-filter_same (λ k. k == v) (is_in flags) (is_in flags v) (λ k e. ap (is_in flags) (eqb-true k v e)) (variables_to n))
 
 -- so it is the line of a document
-line_form : (F : Cnf) (o : Option (List ℕ)) → IsTrue (is_protect_line F.vars (protect_line_of F o))
+pub line_form : (F : Cnf) (o : Option (List ℕ)) → IsTrue (is_protect_line F.vars (protect_line_of F o))
 line_form F None = refl
 line_form F (Some numbers) = filtered_rise F.vars (among numbers)
 

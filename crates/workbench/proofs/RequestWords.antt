@@ -1,6 +1,6 @@
 -- The words of a request, cut into those of its command, names and options.
 use Rattle.std.proofs.Common.{◌≡◌, ℕ, ◌+◌, ◌-◌, ◌<◌, ◌≤◌, ◌∙◌, List, [], ◌∷◌, ◌++◌, length, take, drop, drop-drop, Option, Some, None, refl, ap, sym, subst, arith, option_map, slice_range, Bor}
-use Rattle.std.proofs.lemmas.List.{drop-map, length-map, length-take-le, length-drop, length-append, take-append-drop, take_at, take_rest, map-append}
+use Rattle.std.proofs.lemmas.List.{drop-map, length-map, length-take-le, length-drop, take-append-drop, take_at, take_rest, map-append}
 use Rattle.std.proofs.Math.Seq.{take-append-add}
 use Rattle.lk_model.specs.Texts.Lines.{Word}
 use Rattle.workbench.specs.Commands.{words_of, number_of, keys_of}

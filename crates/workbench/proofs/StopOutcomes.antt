@@ -1,9 +1,9 @@
 -- What the clauses of a run come to where it ends without a result.
-use Rattle.std.proofs.Common.{◌≡◌, ℕ, List, subst}
+use Rattle.std.proofs.Common.{ℕ, List, subst}
 use Rattle.lk_model.specs.Texts.Lines.{Word}
 use Rattle.workbench.specs.Endings.{Shelved, Sunk, TakesBoth, Ends, Tells, Allows, IsWell}
 use Rattle.workbench.specs.Lawful.{request_of}
-use Rattle.workbench.specs.StopOutcomes.{SaysOnly, StopsMean, StopOutcomes}
+use Rattle.workbench.specs.StopOutcomes.{SaysOnly, StopOutcomes}
 use Rattle.workbench.specs.declared.status.Status.{Status}
 use Rattle.workbench.specs.declared.stop.Stop.{Stop}
 use Rattle.workbench.specs.declared.stop.Stop.TheVariants as stop

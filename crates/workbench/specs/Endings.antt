@@ -92,7 +92,7 @@ pub record Takes (sink : Sunk) (text : List ℕ) : Type 0 where
   pub taken : Appends sink.before sink.after text
   pub same : text ≡ [] → sink.after ≡ sink.before
 
--- the sink failed in the midst of the text
+-- the sink failed before it took the whole text
 pub record IsCut (sink : Sunk) (text : List ℕ) : Type 0 where
   pub count : ℕ
   pub part : count < length text
@@ -103,9 +103,11 @@ pub record IsCut (sink : Sunk) (text : List ℕ) : Type 0 where
 abbrev pub TakesBoth : Sunk → Sunk → List ℕ → List ℕ → Type 0
 TakesBoth out say written said = Takes out written × Takes say said
 
--- one of them failed in its text: the first before anything was said, or the second behind the whole of the first text
-abbrev pub IsCutIn : Sunk → Sunk → List ℕ → List ℕ → Type 0
-IsCutIn out say written said = (IsCut out written × (say.after ≡ say.before)) ⊎ (Takes out written × IsCut say said)
+-- one of them failed in its text: the first, and the other is as it was before, its bytes and as a whole; or the second behind
+-- the whole of the first text
+abbrev pub IsCutIn : Sunk → Sunk → List ℕ → List ℕ → Type 0 → Type 0
+IsCutIn out say written said SayIsSame =
+    (IsCut out written × (say.after ≡ say.before) × SayIsSame) ⊎ (Takes out written × IsCut say said)
 
 -- an allowed ending whose texts the sinks took; the shelf is ailing only where that tells of it
 pub record Ends (words : List Word) (shelf : Shelved) (out say : Sunk) (answer : ℕ) : Type 0 where
@@ -117,14 +119,21 @@ pub record Ends (words : List Word) (shelf : Shelved) (out say : Sunk) (answer :
   pub answer_is : answer ≡ code status
   pub taken : TakesBoth out say written said
 
--- an allowed ending in whose texts a sink failed
-pub record IsCutOff (words : List Word) (shelf : Shelved) (out say : Sunk) : Type 0 where
+-- so it is, and a text of it that is empty leaves its sink as a whole as it was: the two facts say that `out` is, and `say`
+pub record EndsQuietly (words : List Word) (shelf : Shelved) (out say : Sunk) (answer : ℕ) (OutIsSame SayIsSame : Type 0) : Type 0 where
+  pub ending : Ends words shelf out say answer
+  pub out_unused : ending.written ≡ [] → OutIsSame
+  pub say_unused : ending.said ≡ [] → SayIsSame
+
+-- an allowed ending in whose texts a sink failed; with the same two facts, where nothing is written, and before anything is said
+pub record IsCutOff (words : List Word) (shelf : Shelved) (out say : Sunk) (OutIsSame SayIsSame : Type 0) : Type 0 where
   pub status : Status
   pub written : List ℕ
   pub said : List ℕ
   pub allowed : Allows words shelf status written said
   pub well : IsWell status (request_of words) shelf.ailing
-  pub cut : IsCutIn out say written said
+  pub cut : IsCutIn out say written said SayIsSame
+  pub out_unused : written ≡ [] → OutIsSame
 
 -- WHAT IS DECIDED BEFOREHAND
 
@@ -145,10 +154,14 @@ abbrev pub IsDecided : Option Request → Told → Status → Type 0
 IsDecided None told answer = answer ≡ status.Words
 IsDecided (Some request) told answer = IsDecidedFor request told answer
 
--- the answer is this status, unless a call or memory failed
-abbrev pub IsUnlessFailed : ℕ → Status → Type 0
-IsUnlessFailed answer decided =
-    (answer ≡ code decided) ⊎ (answer ≡ code status.ReadFault) ⊎ (answer ≡ code status.WriteFault) ⊎ (answer ≡ code status.Memory)
+-- The answer is this status, unless a call or memory failed: it is 3, with what shows that the shelf failed, or 4, with what
+-- shows that a sink did, or 9.
+abbrev pub IsUnlessFailed : ℕ → Status → Type 0 → Type 0 → Type 0
+IsUnlessFailed answer decided ShelfFailed SinkFailed =
+    (answer ≡ code decided)
+    ⊎ ((answer ≡ code status.ReadFault) × ShelfFailed)
+    ⊎ ((answer ≡ code status.WriteFault) × SinkFailed)
+    ⊎ (answer ≡ code status.Memory)
 
 -- WHAT STANDS BEHIND A STOP
 

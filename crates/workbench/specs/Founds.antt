@@ -9,8 +9,12 @@ use Rattle.lk_model.specs.declared.class.Class.TheVariants.{General}
 use Rattle.lk_model.specs.declared.document.DoneDocument.{DoneDocument}
 use Rattle.lk_model.specs.declared.document.OpenDocument.{OpenDocument}
 use Rattle.lk_model.specs.declared.document.Round.{Round}
+use Rattle.lk_model.specs.Formulas.Crossed.{no_variable}
+use Rattle.lk_model.specs.Chains.Rounds.{AreNeeded}
 use Rattle.kernel_laws.specs.Protected.FoundLaw.{rest_of}
+use Rattle.round_laws.specs.Budgets.{AreWithinBudget}
 use Rattle.part_kernels.specs.ByParts.{IsFirstUnfinished}
+use Rattle.workbench.specs.Commands.GeneralReducing.{rounds_in}
 use Rattle.workbench.specs.declared.document.Found.{Found}
 use Rattle.workbench.specs.declared.find.GeneralFound.{GeneralFound}
 use Rattle.workbench.specs.declared.find.GeneralFound.TheVariants.{Done, Unfinished}
@@ -49,7 +53,13 @@ pub record IsFoundFor (class : Class) (rest : Cnf) (found : Found) : Type 0 wher
   pub positions : IsTrue (are_positions rest found.kept)
   pub reduces : (pivots : ℕ) → TellsReduction class pivots rest found
 
--- the general kernel, found by parts with so many learned clauses for each, or the rounds of the first unfinished part
+-- the general kernel, by rounds of which nothing is needless, with at most so many learned clauses for each part
+pub record IsKernelFound (rest : Cnf) (conflicts : ℕ) (found : Found) : Type 0 where
+  pub kernel : IsFoundFor General rest found
+  pub needed : AreNeeded rest no_variable (rounds_in found.body)
+  pub budget : AreWithinBudget no_variable rest conflicts (rounds_in found.body)
+
+-- it is found by parts, or these are the rounds of the first unfinished part
 abbrev pub IsGeneralFound : Cnf → ℕ → GeneralFound → Type 0
-IsGeneralFound rest conflicts (Done found) = IsFoundFor General rest found
+IsGeneralFound rest conflicts (Done found) = IsKernelFound rest conflicts found
 IsGeneralFound rest conflicts (Unfinished rounds) = IsFirstUnfinished rest conflicts rounds

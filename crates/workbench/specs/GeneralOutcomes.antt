@@ -5,9 +5,7 @@ use Rattle.lk_model.specs.Formulas.Formula.{Cnf}
 use Rattle.lk_model.specs.Texts.Dimacs.{Spells}
 use Rattle.lk_model.specs.Texts.Fault.{fault_of}
 use Rattle.lk_model.specs.Texts.Lines.{Word}
-use Rattle.lk_model.specs.Reduction.{ReducesTo, StopsUnfinished}
-use Rattle.lk_model.specs.declared.class.Class.TheVariants.{General}
-use Rattle.workbench.specs.Commands.GeneralReducing.{IsEnough, conflicts_line}
+use Rattle.workbench.specs.Commands.GeneralReducing.{IsEnough, WritesFinished, WritesUnfinished, conflicts_line}
 use Rattle.workbench.specs.Endings.{Shelved, Sunk, Takes, Ends, IsDecided}
 use Rattle.workbench.specs.Lawful.{request_of}
 use Rattle.workbench.specs.Outcomes.{AskFor, IsNoFormulaText}
@@ -15,18 +13,27 @@ use Rattle.workbench.specs.Settings.{Options}
 use Rattle.workbench.specs.declared.command.Command.TheVariants.{ReduceGeneral}
 use Rattle.workbench.specs.declared.status.Status.TheVariants.{Done, Input}
 
+-- The text spells a formula, and what is written is the document of a reduction of it. Of its rounds nothing is needless, and
+-- for each part they have at most as many learned clauses as were allowed.
+pub record ReducesWithin (text : List ℕ) (options : Options) (written : List ℕ) : Type 0 where
+  pub formula : Cnf
+  pub spells : Spells text formula
+  pub writes : WritesFinished options formula written
+
 -- The text spells a formula, and what is written is an unfinished document of it with as many learned clauses as were
--- allowed. These were not enough.
+-- allowed. The search used them up in the first part that is not finished (`WantsMore`).
 pub record StopsShort (text : List ℕ) (options : Options) (written : List ℕ) : Type 0 where
-  pub stops : StopsUnfinished text options.protect options.conflicts written
-  pub few : options.conflicts < stops.formula.vars * 3 ^ stops.formula.vars
+  pub formula : Cnf
+  pub spells : Spells text formula
+  pub writes : WritesUnfinished options formula written
+  pub few : options.conflicts < formula.vars * 3 ^ formula.vars
 
 -- With status 0 the document of a reduction of the formula for the class stands on `out`, and nothing was said. With 5 an
 -- unfinished document of the formula stands there, with as many learned clauses as were allowed, and `say` has their number.
 -- With 2 the text, where it is told, is outside the grammar. No status but these comes. A told text outside the grammar
 -- decides 2, and one of a formula for which the budget is enough decides 0.
 pub record GeneralMeans (words : List Word) (shelf : Shelved) (out say : Sunk) (name : Word) (options : Options) : Type 0 where
-  pub done : Ends words shelf out say 0 → (text : List ℕ) × IfSome (shelf.told name) (λ bytes. ReducesTo bytes General options.protect options.pivots text) × Takes out text × (say.after ≡ say.before)
+  pub done : Ends words shelf out say 0 → (text : List ℕ) × IfSome (shelf.told name) (λ bytes. ReducesWithin bytes options text) × Takes out text × (say.after ≡ say.before)
   pub budget : Ends words shelf out say 5 → (text : List ℕ) × IfSome (shelf.told name) (λ bytes. StopsShort bytes options text) × Takes out text × Takes say (conflicts_line options.conflicts)
   pub refused : Ends words shelf out say 2 → IfSome (shelf.told name) (λ bytes. fault_of bytes ≢ None)
   pub statuses : (answer : ℕ) → Ends words shelf out say answer → IsTrue (list_any (nat_eq answer) (0 ∷ 2 ∷ 3 ∷ 5 ∷ 9 ∷ []))

@@ -19,3 +19,6 @@ pub mod StopOutcomes
 pub mod LinearOutcomes
 pub mod GeneralOutcomes
 pub mod DemoOutcomes
+pub mod KeptClauses
+pub mod WrittenChecks
+pub mod QuietEndings

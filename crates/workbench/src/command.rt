@@ -131,6 +131,7 @@ pub(crate) fn perform<R: Threads + Sync, H: Shelf, G: Gate>(
         (map (λ w. w.now) request.entry.names.now) (H.ailing shelf.new) (H.current shelf.new)) }
     ensures cause { HasCause (H.faults shelf.old) (H.faults shelf.new) (IsErrAnd result (λ s. s ≡ Stop.Read)) }
     ensures well { IsTrue (H.ailing shelf.new) → (inputs_of request.entry.command ≡ []) ⊎ IsErrAnd result IsFailure }
+    ensures untouched { inputs_of request.entry.command ≡ [] → shelf.new ≡ shelf.old }
 {
     let names = request.names;
     let options = request.options;

@@ -4,9 +4,12 @@ ghost use Rattle.workbench.specs.Agreement.{WrittenIsAccepted, StoppedIsUnfinish
 ghost use Rattle.workbench.specs.declared.command.Command.TheVariants.{ReducePure, ReduceMatching};
 ghost use Rattle.workbench.specs.DemoOutcomes.{DemoOutcomes};
 ghost use Rattle.workbench.specs.GeneralOutcomes.{GeneralOutcomes};
+ghost use Rattle.workbench.specs.KeptClauses.{KeptLaw};
 ghost use Rattle.workbench.specs.LinearOutcomes.{LinearOutcomes};
+ghost use Rattle.workbench.specs.QuietEndings.{QuietOutcomes};
 ghost use Rattle.workbench.specs.StopOutcomes.{StopOutcomes};
 ghost use Rattle.workbench.specs.Outcomes.{ReduceOutcomes, CheckOutcomes, ExtendOutcomes, ReportOutcomes};
+ghost use Rattle.workbench.specs.WrittenChecks.{WrittenChecksAsAccepted, StoppedChecksAsUnfinished};
 
 /// Of `reduce`: with status 0 the document of a reduction for the class stands on `out`. For pure and matching
 /// each text without a fault is reduced; for linear exactly by the size of its rows and the end of its run, and
@@ -44,16 +47,31 @@ pub fn stop_law()
     ensures { StopOutcomes }
 {}
 
+/// With status 0 the text for `say` is empty, and with 1, 2, 3, 6, 7 and 9 that for `out`; so by `quiet` of `run` that
+/// sink is as it was.
+pub fn quiet_law()
+    ensures { QuietOutcomes }
+{}
+
 /// Of `demo` with a number of 64 bits: with status 0 its lines stand on `out`, with the sizes of the kernels of the number's
 /// formula; with 5 the text of an unfinished document of it. Nothing else comes, unless a call or memory fails.
 pub fn demo_law()
     ensures { DemoOutcomes }
 {}
 
-/// What `reduce` writes of a text with status 0, for any class, is accepted for that text. So `check` of the two
-/// says `accepted`, unless a call or memory fails. Of what it writes with status 5 no check fails, and so `check`
-/// says `unfinished` with the number of learned clauses.
+/// What `reduce` writes of a text with status 0, for any class, is accepted for that text, and of what it writes with
+/// status 5 no check fails. So where the one text is told and the other as well, `check` of the two is decided: status 0
+/// and `accepted`, or 5 and `unfinished` with the number of learned clauses.
 pub fn written_law()
     ensures done { WrittenIsAccepted }
     ensures budget { StoppedIsUnfinished }
+    ensures accepted { WrittenChecksAsAccepted }
+    ensures unfinished { StoppedChecksAsUnfinished }
+{}
+
+/// What is kept of a text is a function of the text, the class and the list of protected variables: two documents that are
+/// accepted for it have the same line of kept positions and the same clause lines, whoever made them; and so has what
+/// `reduce` writes, whatever the other options are.
+pub fn kept_law()
+    ensures { KeptLaw }
 {}

@@ -21,5 +21,8 @@ mod status;
 mod stop;
 mod words;
 
-pub use laws::{check_law, demo_law, extend_law, reduce_law, report_law, stop_law, written_law};
+pub use laws::{
+    check_law, demo_law, extend_law, kept_law, quiet_law, reduce_law, report_law, stop_law,
+    written_law,
+};
 pub use program::run;

@@ -1,10 +1,10 @@
 //! The whole run of the program.
-ghost use Rattle.std.specs.Prelude.{◌≡◌, ◌≢◌, ◌⊎◌, map, None, IsTrue, IfOk, IfErr, IsErrAnd};
-ghost use Rattle.lk_outside.specs.Causes.{HasCause};
+ghost use Rattle.std.specs.Prelude.{◌≡◌, ◌≢◌, ◌⊎◌, [], map, IsTrue, IfOk, IfErr, IsErrAnd};
+ghost use Rattle.lk_outside.specs.Causes.{HasCause, Rose};
 ghost use Rattle.workbench.specs.Lawful.{request_of};
 ghost use Rattle.workbench.specs.Statuses.{code};
 ghost use Rattle.workbench.specs.declared.status.Status.{Status as AnyStatus};
-ghost use Rattle.workbench.specs.Endings.{shelved, sunk, Allows, IsResult, Ends, IsCutOff, IsDecided, IsUnlessFailed, StopsAt, IsWell, ReadsNothing, TakesBoth, IsCutIn};
+ghost use Rattle.workbench.specs.Endings.{shelved, sunk, Allows, IsResult, Ends, IsCutOff, IsDecided, IsUnlessFailed, StopsAt, IsWell, ReadsNothing, TakesBoth, IsCutIn, EndsQuietly};
 ghost use Rattle.workbench.specs.Inputs.{IsFailure};
 
 use crate::command;
@@ -19,28 +19,34 @@ use lk_outside::{Failed, Gate, Shelf, Sink};
 use std::alloc::Global;
 use std::thread::Threads;
 
-/// Does what the words ask for, and answers the status with which the program ends:
+/// Does what the command line asks for, and answers the status with which the program ends. Where the bytes of an
+/// input are visible to contracts (`told`), they are those that this speaks of; else what is said of 0, 5, 6, 7 and 8
+/// holds of some formula, document or model, and of 2 nothing is said.
 ///
-/// - 0: the result stands on `out`. Of `reduce` it is the document of the kernel of the input's formula for
-///   the class that the words name, which the checks accept; of `check` it says that the document is
-///   accepted for the formula; of `extend` it is the line of a model of the formula; of `report` it is nine
-///   numbers of the formula, a line for each; of `demo` it is six lines on the formula of a number.
-/// - 1: the words are not lawful. `say` has the number of the refused word.
-/// - 2: the text of an input is outside its grammar. `say` has the line, and of a formula the kind.
-/// - 3: a call on the shelf failed.
-/// - 4: a call on `out` or `say` failed. A part of a text may stand there.
-/// - 5: the document that is checked is unfinished, and no check of it fails. `out` has how many clauses it
-///   learned. Or the one by which a model is to be extended is unfinished, and `say` tells this. Or, of
-///   `reduce linear`, the linear run wants a pivot more than it may make. `say` has their number.
-///   Or, of `reduce general` and `demo`, a part of the formula wants more learned clauses than it may have.
-///   `out` has an unfinished document of so many, and `say` their number.
+/// - 0: the result stands on `out`, and `say` has nothing. Of `reduce`, the text that was read spells a formula F,
+///   and `out` has a document with kept clauses K and an assignment φ. K is the largest subset of F that is lean for
+///   the class under the protected variables; φ is an autarky of the class on F, sets none of them and touches
+///   exactly the clauses of F outside K; a model of K, overridden by φ, is one of F; the checks accept the document.
+///   Of `check` the document is accepted, and so all this holds of it, whoever made it. Of `extend` it is the line of
+///   a model of the formula; of `report` nine numbers of the formula; of `demo` six lines on the formula of a number.
+/// - 1: the command line is not valid. `say` has the number of the refused word.
+/// - 2: an input is outside its grammar, and those before it are within theirs. `say` has the line of its first
+///   fault, and of a formula the kind.
+/// - 3: a call on the shelf failed: its count of faults rose, and it is ailing on an input.
+/// - 4: a call on `out` or `say` failed: its count of faults rose, and it took a proper prefix of its text. If it was
+///   `out`, `say` is as it was.
+/// - 5: the document that was read is unfinished: of `check` no check of it fails, and `out` has how many clauses it
+///   learned; of `extend` `say` has this. Or `reduce general` or `demo` used up its budget: `out` has a sound
+///   unfinished document of as many learned clauses as were allowed, and `say` their number. Or `reduce linear`
+///   needs more pivots than it may make, and `say` has how many it may make.
 /// - 6: a number of the linear run is too wide. `say` has its operands, and the number of pivots before.
-/// - 7: the rows of the linear run would be too large. `say` has the numbers of variables and clauses.
-/// - 8: a check of the document fails. `out` has the kind and the place of the first one, and of `extend`
-///   `say`.
-/// - 9: there was no memory. `say` has this, and `out` nothing.
+/// - 7: the rows of the linear run are too large. `say` has the numbers of variables and clauses.
+/// - 8: a check fails. `out` has the kind and the place of the first one, and of `extend` `say`.
+/// - 9: out of memory. `say` has this, and `out` nothing.
 ///
-/// Both texts are made before the first byte is written.
+/// If the command line and the inputs decide a status, it is that one, or 3 or 4 where a count of faults rose, or 9.
+/// If the command line is not valid, or names no input, the shelf is as it was. A sink whose text is empty is as it
+/// was. With any status but 4 both sinks took their whole texts.
 pub fn run<R: Threads + Sync, H: Shelf, O: Sink, E: Sink, G: Gate>(
     rt: &R,
     alloc: Global,
@@ -57,17 +63,28 @@ pub fn run<R: Threads + Sync, H: Shelf, O: Sink, E: Sink, G: Gate>(
         (sunk (E.written say.old) (E.written say.new) (E.faults say.old) (E.faults say.new))
         result }
 
-    // With 4 a sink failed in the midst of such an ending.
+    // With 4 a sink failed before it took its whole text of such an ending; where it was `out`, `say` is as it was.
     ensures cut { result ≡ 4 → IsCutOff (map (λ w. w.now) words.now)
         (shelved (H.told shelf.old) (H.faults shelf.old) (H.faults shelf.new) (H.ailing shelf.new) (H.current shelf.new))
         (sunk (O.written out.old) (O.written out.new) (O.faults out.old) (O.faults out.new))
-        (sunk (E.written say.old) (E.written say.new) (E.faults say.old) (E.faults say.new)) }
+        (sunk (E.written say.old) (E.written say.new) (E.faults say.old) (E.faults say.new))
+        (out.new ≡ out.old) (say.new ≡ say.old) }
 
-    // Where words and told inputs decide the status, it is that one, unless a call or memory failed.
-    ensures decided { (status : AnyStatus) → IsDecided (request_of (map (λ w. w.now) words.now)) (H.told shelf.old) status →
-        IsUnlessFailed result status }
+    // Where words and told inputs decide the status, it is that one; or 3, and the shelf's count of faults rose; or 4, and
+    // a sink's did; or 9.
+    ensures complete { (status : AnyStatus) → IsDecided (request_of (map (λ w. w.now) words.now)) (H.told shelf.old) status →
+        IsUnlessFailed result status (Rose (H.faults shelf.old) (H.faults shelf.new))
+        (Rose (O.faults out.old) (O.faults out.new) ⊎ Rose (E.faults say.old) (E.faults say.new)) }
 
-    ensures untouched { request_of (map (λ w. w.now) words.now) ≡ None → shelf.new ≡ shelf.old }
+    // Where no input is read, the whole shelf is as it was: of unlawful words, and of a command without inputs.
+    ensures untouched { ReadsNothing (request_of (map (λ w. w.now) words.now)) → shelf.new ≡ shelf.old }
+
+    // A text of such an ending that is empty leaves its sink as a whole as it was.
+    ensures quiet { result ≢ 4 → EndsQuietly (map (λ w. w.now) words.now)
+        (shelved (H.told shelf.old) (H.faults shelf.old) (H.faults shelf.new) (H.ailing shelf.new) (H.current shelf.new))
+        (sunk (O.written out.old) (O.written out.new) (O.faults out.old) (O.faults out.new))
+        (sunk (E.written say.old) (E.written say.new) (E.faults say.old) (E.faults say.new))
+        result (out.new ≡ out.old) (say.new ≡ say.old) }
 {
     match ending(rt, alloc, words, shelf, gate) {
         Ok(ending) => write_ending(
@@ -94,8 +111,9 @@ fn ending<R: Threads + Sync, H: Shelf, G: Gate>(
         e.status e.written.items e.said.items) }
     ensures well { IfOk result (λ e. IsWell e.status (request_of (map (λ w. w.now) words.now)) (H.ailing shelf.new)) }
     ensures decided { IfOk result (λ e. (status : AnyStatus) →
-        IsDecided (request_of (map (λ w. w.now) words.now)) (H.told shelf.old) status → IsUnlessFailed (code e.status) status) }
-    ensures untouched { request_of (map (λ w. w.now) words.now) ≡ None → shelf.new ≡ shelf.old }
+        IsDecided (request_of (map (λ w. w.now) words.now)) (H.told shelf.old) status →
+        IsUnlessFailed (code e.status) status (Rose (H.faults shelf.old) (H.faults shelf.new)) ⊥) }
+    ensures untouched { ReadsNothing (request_of (map (λ w. w.now) words.now)) → shelf.new ≡ shelf.old }
 {
     text_law();
     match perform(rt, alloc, words, shelf, gate) {
@@ -118,7 +136,7 @@ fn perform<R: Threads + Sync, H: Shelf, G: Gate>(
         (StopsAt (map (λ w. w.now) words.now) (H.told shelf.old) (H.ailing shelf.new) (H.current shelf.new)) }
     ensures cause { HasCause (H.faults shelf.old) (H.faults shelf.new) (IsErrAnd result (λ s. s ≡ Stop.Read)) }
     ensures well { IsTrue (H.ailing shelf.new) → ReadsNothing (request_of (map (λ w. w.now) words.now)) ⊎ IsErrAnd result IsFailure }
-    ensures untouched { request_of (map (λ w. w.now) words.now) ≡ None → shelf.new ≡ shelf.old }
+    ensures untouched { ReadsNothing (request_of (map (λ w. w.now) words.now)) → shelf.new ≡ shelf.old }
 {
     match request_of(words) {
         Err(number) => Err(Stop::Words(number)),
@@ -142,7 +160,9 @@ fn write_ending<O: Sink, E: Sink>(
     ensures cut { result ≡ 4 → IsCutIn
         (sunk (O.written out.old) (O.written out.new) (O.faults out.old) (O.faults out.new))
         (sunk (E.written say.old) (E.written say.new) (E.faults say.old) (E.faults say.new))
-        written.now said.now }
+        written.now said.now (say.new ≡ say.old) }
+    ensures out_unused { written.now ≡ [] → out.new ≡ out.old }
+    ensures say_unused { said.now ≡ [] → say.new ≡ say.old }
 {
     match write_both(out, say, written, said) {
         Ok(()) => status.code(),

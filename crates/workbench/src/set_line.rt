@@ -9,7 +9,7 @@ ghost use Rattle.lk_model.specs.declared.document.Own.{Own as AnOwn};
 ghost use Rattle.lk_model.specs.declared.document.Weight.{Weight as AWeight};
 ghost use Rattle.kernel_laws.specs.Matching.MatchingResults.{IsOwn, literal_on, set_line};
 ghost use Rattle.kernel_laws.specs.Pure.PureResults.{IsSetLine};
-ghost use Rattle.lean_checker.specs.Matching.{IsFirstTable};
+ghost use Rattle.kernel_laws.specs.FirstTables.{IsFirstTable};
 ghost use Rattle.linear_laws.specs.RunLaw.{sign_literal};
 ghost use Rattle.workbench.specs.SignTables.{AreSigns, NotesSigns};
 

@@ -166,7 +166,7 @@ used_carried F f r new = filter_same (among (reached r.steps)) (among (reached (
         ∙ ap (λ (j : ℕ). among (reached (map (renumbered f) r.steps)) j) (new.fixed p le)
 
 -- so it uses the same variables
-variables_carried : (F : Cnf) (f : ℕ → ℕ) (P : List ℕ) (b c : Variables) (low : ℕ) (r : Round) → IsRenumbering (length F.clauses) f → AgreeOn F P b c
+pub variables_carried : (F : Cnf) (f : ℕ → ℕ) (P : List ℕ) (b c : Variables) (low : ℕ) (r : Round) → IsRenumbering (length F.clauses) f → AgreeOn F P b c
     → length F.clauses ≤ low → AreRising low r.steps → NamesIn F P r.steps → variables_used F b r ≡ variables_used F c (renumbered_round f r)
 variables_carried F f P b c low r new agree past rising names =
     same_flat_map (λ p. map variable (crossed_out b (clause_at F p))) (λ p. map variable (crossed_out c (clause_at F p))) (used_positions F r) same

@@ -123,7 +123,7 @@ moved_same m up a b e = elim (cases_Bool (nat_le a m)) [
 ]
 
 -- so moving is a renumbering
-move : (m up : ℕ) → IsRenumbering m (moved m up)
+pub move : (m up : ℕ) → IsRenumbering m (moved m up)
 move m up = record {
   same = λ a b. elim (cases_Bool (a == b)) [
     | inl e ↦ eq-eqb (moved m up a) (moved m up b) (ap (moved m up) (eqb-true a b e)) ∙ sym e

@@ -68,7 +68,7 @@ names_pass F part (k ∷ ks) h =
     ]
 
 -- of all steps
-steps_pass : (F : Cnf) (part : List ℕ) (steps : List Step) → NamesIn F part steps
+pub steps_pass : (F : Cnf) (part : List ℕ) (steps : List Step) → NamesIn F part steps
     → list_all (λ (s : Step). list_all (λ k. nat_lt (length F.clauses) k || among part k) (names_of s)) steps ≡ true
 steps_pass F part [] n = refl
 steps_pass F part (s ∷ steps) n = and_from _ _ (names_pass F part (names_of s) n.0) (steps_pass F part steps n.1)

@@ -57,7 +57,7 @@ apart_below F ps low high (qs ∷ parts) h le rise all v there =
     (apart_below F ps (least_of qs) high parts h (omega (arith, le, above)) r.more all.1 v there)
 
 -- so parts in their order share none
-parts_apart : (F : Cnf) (low high : ℕ) (parts : List (List ℕ)) → rises_within low high (map least_of parts) ≡ true → AllByRecursion (IsPart F) parts → AreApart F parts
+pub parts_apart : (F : Cnf) (low high : ℕ) (parts : List (List ℕ)) → rises_within low high (map least_of parts) ≡ true → AllByRecursion (IsPart F) parts → AreApart F parts
 parts_apart F low high [] rise all = tt
 parts_apart F low high (ps ∷ parts) rise all =
     let r = rises low high (least_of ps) (map least_of parts) rise in

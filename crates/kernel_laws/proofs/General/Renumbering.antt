@@ -106,7 +106,7 @@ with_renumbered f [] = refl
 with_renumbered f (t ∷ turns) = ap (λ (ks : List ℕ). f t.with ∷ ks) (with_renumbered f turns)
 
 -- what a renumbered step names
-names_renumbered : (f : ℕ → ℕ) (s : Step) → names_of (renumbered f s) ≡ map f (names_of s)
+pub names_renumbered : (f : ℕ → ℕ) (s : Step) → names_of (renumbered f s) ≡ map f (names_of s)
 names_renumbered f s = ap (λ (ks : List ℕ). f s.first ∷ ks) (with_renumbered f s.turns)
 
 -- what is reached by new numbers

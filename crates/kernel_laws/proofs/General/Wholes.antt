@@ -80,7 +80,7 @@ steps_learned F part blocked earlier (s ∷ steps) apart pass none = (
     by_test true false c h e = absurd (let f : ⊥ = cc in f)
 
 -- the literals of the part's clauses are on its variables
-part_pass : (F : Cnf) (part : List ℕ) (blocked : Variables) → AllPass (λ l. variable_occurs F part (variable l)) (premises_in F part blocked [])
+pub part_pass : (F : Cnf) (part : List ℕ) (blocked : Variables) → AllPass (λ l. variable_occurs F part (variable l)) (premises_in F part blocked [])
 part_pass F part blocked k c e l m =
     let w = named_first F part blocked k c e in
     let there = from_filtered (λ l. not (blocked (variable l))) (clause_at F k) l (subst (λ (x : List ℤ). contains x l ≡ true) (sym w.1) m) in

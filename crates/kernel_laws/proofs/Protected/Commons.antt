@@ -73,7 +73,7 @@ count_same P d = refl
 -- CLAUSE LINES
 
 -- lists that pass the test are equal
-same_list : (c d : List ℤ) → is_same_list c d ≡ true → c ≡ d
+pub same_list : (c d : List ℤ) → is_same_list c d ≡ true → c ≡ d
 same_list [] [] e = refl
 same_list [] (k ∷ d) e = absurd (let f : ⊥ = cc in f)
 same_list (l ∷ c) [] e = absurd (let f : ⊥ = cc in f)

@@ -44,7 +44,7 @@ crossed_twice P blocked (l ∷ c) = elim (cases_Bool (P (variable l))) [
 ]
 
 -- so the crossed clauses at a position are the same
-crossed_same : (F : Cnf) (P blocked : Variables) (p : ℕ)
+pub crossed_same : (F : Cnf) (P blocked : Variables) (p : ℕ)
     → crossed_out (together P blocked) (clause_at F p) ≡ crossed_out blocked (clause_at (formula_without F P) p)
 crossed_same F P blocked p = sym (ap (crossed_out blocked) (clause_without F P p) ∙ crossed_twice P blocked (clause_at F p))
 

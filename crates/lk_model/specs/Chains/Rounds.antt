@@ -1,5 +1,5 @@
 -- Rounds of refutations: each whole round blocks the variables that the clauses of its refutation still hold.
-use Rattle.std.specs.Prelude.{ℕ, Bool, true, false, not, if◌then◌else◌, ◌&&◌, ◌||◌, List, [], ◌∷◌, ◌++◌, map, filter, length, nat_lt}
+use Rattle.std.specs.Prelude.{ℕ, Bool, true, false, not, if◌then◌else◌, ◌&&◌, ◌||◌, List, [], ◌∷◌, ◌++◌, map, filter, length, nat_lt, IsTrue}
 use Rattle.std.specs.List.{flat_map, list_all}
 use Rattle.lk_model.specs.Lists.{among, is_empty, with_earlier}
 use Rattle.lk_model.specs.Formulas.Literal.{variable}
@@ -65,3 +65,13 @@ unfoldable pub has_progress : Cnf → Variables → List Round → Bool
 has_progress F blocked [] = true
 has_progress F blocked (r ∷ rounds) = (not (is_refutation r.steps) || not (is_empty (variables_used F blocked r)))
     && has_progress F (blocked_after_round F blocked r) rounds
+
+-- each step is reached backwards from the last one
+abbrev pub is_trimmed : Round → Bool
+is_trimmed r = list_all (λ (s : Step). among (reached r.steps) s.number) r.steps
+
+-- Each step is reached backwards from the last one of its round, and each whole round blocks a variable that was not blocked
+-- before.
+pub record AreNeeded (F : Cnf) (blocked : Variables) (rounds : List Round) : Type 0 where
+  pub trimmed : IsTrue (list_all is_trimmed rounds)
+  pub progress : IsTrue (has_progress F blocked rounds)

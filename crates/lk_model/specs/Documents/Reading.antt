@@ -1,4 +1,4 @@
--- Which texts are documents, and the first line at which a text stops being one.
+-- Which texts are documents, and the first line at which a text stops being one; the same for any set of texts.
 use Rattle.std.specs.Prelude.{◌≡◌, ℕ, ◌<◌, ◌==◌, List, [], ◌∷◌, take, IsTrue, if◌then◌else◌}
 use Rattle.lk_model.specs.declared.document.Document.{Document}
 use Rattle.lk_model.specs.Documents.Form.{is_in_form}
@@ -30,3 +30,20 @@ pub record GoesOn (bytes : List ℕ) (k : ℕ) : Type 0 where
 pub record StopsAt (bytes : List ℕ) (line : ℕ) : Type 0 where
   pub stops : GoesOn bytes line → ⊥
   pub first : (k : ℕ) → k < line → GoesOn bytes k
+
+-- ANY SET OF TEXTS
+
+-- some text of the set has the same first k lines, or fewer where it ends there as this text does
+pub record GoesOnAs (Texts : List ℕ → Type 0) (bytes : List ℕ) (k : ℕ) : Type 0 where
+  pub text : List ℕ
+  pub admitted : Texts text
+  pub same : take k (cut_lines bytes) ≡ take k (cut_lines text)
+
+-- The line is the first with which no text of the set begins.
+pub record StopsAs (Texts : List ℕ → Type 0) (bytes : List ℕ) (line : ℕ) : Type 0 where
+  pub stops : GoesOnAs Texts bytes line → ⊥
+  pub first : (k : ℕ) → k < line → GoesOnAs Texts bytes k
+
+-- the texts of documents
+abbrev pub IsDocumentText : List ℕ → Type 0
+IsDocumentText bytes = (d : Document) × IsTextOf bytes d

@@ -1,6 +1,6 @@
 -- A formula in conjunctive normal form (DIMACS CNF 1993). Positions count from 1, and equal clauses at two positions are
 -- two clauses.
-use Rattle.std.specs.Prelude.{ℕ, zero, suc, ◌≤◌, Bool, ℤ, List, [], ◌∷◌, ◌++◌, length, map, filter, sum_by, slice_index_or}
+use Rattle.std.specs.Prelude.{ℕ, zero, suc, ◌≤◌, Bool, ℤ, List, [], ◌∷◌, ◌++◌, ◌-◌, length, take, map, filter, sum_by, slice_index_or}
 use Rattle.std.specs.List.{list_any, list_all}
 use Rattle.lk_model.specs.Lists.{up_to}
 use Rattle.lk_model.specs.Limits.{max_vars, max_clauses, max_literals}
@@ -59,3 +59,7 @@ clauses_at F ps = record { vars = F.vars; clauses = map (clause_at F) ps }
 -- the formula with one more clause at its end
 abbrev pub with_clause : Cnf → List ℤ → Cnf
 with_clause F c = record F { clauses = F.clauses ++ c ∷ [] }
+
+-- the formula without its last clause
+abbrev pub without_last : Cnf → Cnf
+without_last F = record F { clauses = take (length F.clauses - 1) F.clauses }

@@ -26,7 +26,7 @@ use std::alloc::Global;
 use std::thread::Threads;
 
 /// Writes the document of the general kernel of the formula under a name, or the unfinished one of the first
-/// part that wants more learned clauses than were allowed.
+/// part that is not finished.
 pub(crate) fn perform<R: Threads + Sync, H: Shelf, G: Gate>(
     rt: &R,
     alloc: Global,

@@ -1,5 +1,7 @@
-use Rattle.std.proofs.Common.{◌≡◌, ◌∙◌, ◌<◌, ◌^◌, ℕ, List, length, sym, ap, subst}
+use Rattle.std.proofs.Common.{◌≡◌, ◌∙◌, ◌<◌, ◌^◌, ℕ, List, length, sym, ap, subst, arith}
 use Rattle.lk_model.specs.declared.document.Step.{Step}
+use Rattle.watch_prop.specs.declared.entry.Propagated.{Propagated}
+use Rattle.watch_prop.specs.Propagation.{IsAnswered}
 use Rattle.learning_laws.proofs.Solving.{solve_law}
 use Rattle.cdcl_core.proofs.Searches.{search_forced, less_assigned}
 use Rattle.cdcl_core.proofs.decided.decide.Goals as goal
@@ -18,6 +20,7 @@ refute-requires-clause-search c = search_forced c.args.over.now c.turns.search c
 pub returns-then-steps-left : goal.returns-then-steps-left
 returns-then-steps-left c =
     let h = c.turns.invariant.search in
+    let forced = search_forced c.args.over.now c.turns.search c.propagate.new.self h c.propagate.ensures.goes_on c.propagate.ensures.held in
     let all : length c.turns.search.log.steps ≡ c.args.left = sym (ap (λ (xs : List Step). length xs) c.steps.ensures) ∙ c.if-steps-left.true in
     record {
       numbered = c.turns.invariant.first;
@@ -25,6 +28,13 @@ returns-then-steps-left c =
       filled = h.solving.filled;
       all = all;
       few = subst (λ (n : ℕ). n < 3 ^ c.args.over.now.formula.now.vars) all (solve_law.few c.args.over.now c.turns.search.log c.turns.search.propagator h.formula h.solving);
+      wants = record {
+        state = c.propagate.new.self;
+        solving = forced.solving;
+        above = omega (arith, c.present_level.ensures.value, c.if-present_level-eq0.false);
+        number = c.in-Conflict.conflict;
+        conflict = subst (λ (a : Propagated). IsAnswered c.propagate.new.self a) c.in-Conflict.is c.propagate.ensures.answer;
+      };
     }
 
 pub learn-requires-clause-search : goal.learn-requires-clause-search

@@ -4,7 +4,7 @@ use Rattle.std.proofs.lemmas.List.{get_or_default}
 use Rattle.lk_model.specs.Chains.Chain.{names_of}
 use Rattle.lk_model.specs.Laws.{last_number}
 use Rattle.lean_checker.specs.Blocking.{AreMarked, first_number}
-use Rattle.lean_checker.proofs.Numbers.{whole}
+use Rattle.kernel_laws.proofs.Overwritten.{whole}
 use Rattle.lean_checker.proofs.Reaching.{reached_from, number_at, first_is, refutes_some, last_marked, names_marked, names_as, none_marked, round_marked}
 use Rattle.lean_checker.proofs.blocking.block_reached.Goals as goal
 

@@ -7,7 +7,8 @@ use Rattle.lk_model.specs.Documents.Documents.{duals_at}
 use Rattle.lean_checker.specs.Linear.{AreNumbers, AddsNumbers}
 use Rattle.lk_model.specs.declared.document.Dual.{Dual}
 use Rattle.lean_checker.proofs.DualChecks.{dual_within}
-use Rattle.lean_checker.proofs.Numbers.{dual_added, whole}
+use Rattle.kernel_laws.proofs.Overwritten.{whole}
+use Rattle.lean_checker.proofs.Numbers.{dual_added}
 use Rattle.lean_checker.proofs.linear.dual_numbers.Goals as goal
 
 -- what stands where there is no dual

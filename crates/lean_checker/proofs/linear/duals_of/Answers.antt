@@ -2,7 +2,7 @@ use Rattle.std.proofs.Common.{◌≡◌, ◌+◌, ◌-◌, ◌<◌, Bool, not, l
 use Rattle.std.specs.Prelude.{int_lt, slice_set}
 use Rattle.lk_model.specs.declared.document.Dual.{Dual}
 use Rattle.lean_checker.specs.Linear.{AreDuals}
-use Rattle.lean_checker.proofs.FirstTables.{first_more}
+use Rattle.kernel_laws.proofs.FirstTables.{first_more}
 use Rattle.lean_checker.proofs.DualChecks.{dual_within, read_least}
 use Rattle.lean_checker.proofs.linear.duals_of.Goals as goal
 

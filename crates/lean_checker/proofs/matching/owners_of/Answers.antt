@@ -1,6 +1,6 @@
 use Rattle.std.proofs.Common.{◌≡◌, ◌+◌, ◌-◌, ◌<◌, length, arith}
 use Rattle.lk_model.specs.declared.document.Own.{Own}
-use Rattle.lean_checker.proofs.FirstTables.{first_more}
+use Rattle.kernel_laws.proofs.FirstTables.{first_more}
 use Rattle.lean_checker.proofs.MatchingChecks.{own_within}
 use Rattle.lean_checker.proofs.matching.owners_of.Goals as goal
 

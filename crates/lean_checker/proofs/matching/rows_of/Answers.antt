@@ -1,7 +1,7 @@
 use Rattle.std.proofs.Common.{◌≡◌, ◌∙◌, ℕ, ◌+◌, ◌-◌, ◌<◌, length, get_or, max, arith, Some, None}
 use Rattle.std.proofs.lemmas.List.{get_or_read}
 use Rattle.lk_model.specs.declared.document.MatchRow.{MatchRow}
-use Rattle.lean_checker.proofs.FirstTables.{first_more}
+use Rattle.kernel_laws.proofs.FirstTables.{first_more}
 use Rattle.lean_checker.proofs.MatchingChecks.{row_within, bounds_more}
 use Rattle.lean_checker.proofs.matching.rows_of.Goals as goal
 

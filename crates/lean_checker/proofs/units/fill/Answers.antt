@@ -5,7 +5,7 @@ use Rattle.std.proofs.lemmas.Int.{to_z-of_z}
 use Rattle.exact_rows.proofs.Wides.{fits_in_range}
 use Rattle.lk_model.specs.declared.document.Share.{Share}
 use Rattle.lean_checker.specs.Linear.{AreNumbers, AddsNumbers, numbers_by}
-use Rattle.lean_checker.proofs.Numbers.{whole}
+use Rattle.kernel_laws.proofs.Overwritten.{whole}
 use Rattle.lean_checker.proofs.UnitChecks.{share_bounds, share_range, share_added}
 use Rattle.lean_checker.proofs.units.fill.Goals as goal
 

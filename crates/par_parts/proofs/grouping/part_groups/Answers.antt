@@ -1,8 +1,8 @@
 use Rattle.std.proofs.Common.{◌≡◌, ◌∙◌, ℕ, List, length, sym, ap, subst, arith}
 use Rattle.std.proofs.lemmas.List.FromFn.{length-map-range_with_len}
 use Rattle.par_parts.specs.Numbering.{positions_with}
-use Rattle.par_parts.specs.Groups.{AreGroupNumbers, IsDisjointCover}
-use Rattle.par_parts.proofs.GroupLists.{groups_cover, none_zero}
+use Rattle.par_parts.specs.Groups.{AreGroupNumbers, IsDisjointCover, IsPartition}
+use Rattle.par_parts.proofs.GroupLists.{groups_cover, groups_partition, none_zero}
 use Rattle.par_parts.proofs.grouping.part_groups.Goals as goal
 
 -- the numbers, as they are read
@@ -27,3 +27,8 @@ pub returns-clause-cover : goal.returns-clause-cover
 returns-clause-cover c =
     subst (λ (gs : List (List ℕ)). IsDisjointCover c.args.f.now gs) (sym (c.from_vec.ensures ∙ c.in_ok-lists.ensures))
     (groups_cover c.args.f.now c.deref.result.now c.in_ok-found.found.last (numbers _ _ _ _ c.deref.ensures.value c.in_ok-found.ensures.numbers))
+
+pub returns-clause-partition : goal.returns-clause-partition
+returns-clause-partition c =
+    subst (λ (gs : List (List ℕ)). IsPartition c.args.f.now gs) (sym (c.from_vec.ensures ∙ c.in_ok-lists.ensures))
+    (groups_partition c.args.f.now c.deref.result.now c.in_ok-found.found.last (numbers _ _ _ _ c.deref.ensures.value c.in_ok-found.ensures.numbers))

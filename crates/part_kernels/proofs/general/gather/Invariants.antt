@@ -1,6 +1,6 @@
 use Rattle.std.proofs.Common.{◌≡◌, ◌++◌, length}
 use Rattle.std.specs.Vec.Iter.{into_iter_items, into_iter_len}
-use Rattle.part_kernels.specs.Gathered.{done}
+use Rattle.part_kernels.specs.ByParts.{done}
 use Rattle.part_kernels.proofs.general.gather.Given as goal
 
 abbrev pub invariant-loop-answer : goal.invariant-loop-answer

@@ -21,8 +21,8 @@ returns-in-Err-clause-allowed g c =
 
 pub returns-in-Err-clause-decided : goal.returns-in-Err-clause-decided
 returns-in-Err-clause-decided g c =
-    told_decided c.text_law.ensures.once c.text_law.ensures.never (map (λ w. w.now) c.args.words.now) (g.H.Shelf.told c.args.shelf.now) (g.H.Shelf.ailing c.perform.new.shelf) (g.H.Shelf.current c.perform.new.shelf) c.in-Err.stop
-    c.ending_of.result c.ending_of.ensures.status c.in-Err.ensures.stop
+    told_decided ⊥ c.text_law.ensures.once c.text_law.ensures.never (map (λ w. w.now) c.args.words.now) (g.H.Shelf.told c.args.shelf.now) (g.H.Shelf.ailing c.perform.new.shelf) (g.H.Shelf.current c.perform.new.shelf) c.in-Err.stop
+    c.ending_of.result c.ending_of.ensures.status c.in-Err.ensures.stop c.in-Err.ensures.cause.failed
 
 pub returns-in-Ok-clause-well : goal.returns-in-Ok-clause-well
 returns-in-Ok-clause-well g c = result_well c.in-Ok.ending.status (request_of (map (λ w. w.now) c.args.words.now)) (g.H.Shelf.ailing c.perform.new.shelf) c.in-Ok.ensures.well

@@ -1,6 +1,9 @@
-use Rattle.std.proofs.Common.{map}
+use Rattle.std.proofs.Common.{map, [], refl, inr}
 use Rattle.workbench.specs.Endings.{shelved, sunk}
-use Rattle.workbench.proofs.EndingLaws.{memory_ends, memory_cut}
+use Rattle.workbench.specs.Stops.{line_of}
+use Rattle.workbench.specs.declared.status.Status.TheVariants as status
+use Rattle.workbench.specs.declared.stop.Stop.TheVariants as stop
+use Rattle.workbench.proofs.EndingLaws.{memory_ends, memory_cut, memory_quiet, written_decided, ends_quietly}
 use Rattle.workbench.proofs.program.run.Goals as goal
 
 pub returns-in-Err-clause-ended : goal.returns-in-Err-clause-ended
@@ -24,4 +27,47 @@ returns-in-Err-clause-cut g c four =
     (shelved (shelf.told c.args.shelf.now) (shelf.faults c.args.shelf.now) (shelf.faults c.ending.new.shelf) (shelf.ailing c.ending.new.shelf) (shelf.current c.ending.new.shelf))
     (sunk (out.written c.args.out.now) (out.written c.write_ending-in-Err.new.out) (out.faults c.args.out.now) (out.faults c.write_ending-in-Err.new.out))
     (sunk (say.written c.args.say.now) (say.written c.write_ending-in-Err.new.say) (say.faults c.args.say.now) (say.faults c.write_ending-in-Err.new.say))
-    (c.write_ending-in-Err.ensures.cut four)
+    (c.write_ending-in-Err.ensures.cut four) (c.write_ending-in-Err.ensures.out_unused refl)
+
+pub returns-in-Ok-clause-complete : goal.returns-in-Ok-clause-complete
+returns-in-Ok-clause-complete g c =
+    let out = g.O.Sink in
+    let say = g.E.Sink in
+    λ decided is. written_decided
+    (sunk (out.written c.args.out.now) (out.written c.write_ending.new.out) (out.faults c.args.out.now) (out.faults c.write_ending.new.out))
+    (sunk (say.written c.args.say.now) (say.written c.write_ending.new.say) (say.faults c.args.say.now) (say.faults c.write_ending.new.say))
+    _ _ c.in-Ok.ending.status decided c.write_ending.result c.write_ending.ensures.ended c.write_ending.ensures.cut (c.in-Ok.ensures.decided decided is)
+
+pub returns-in-Err-clause-complete : goal.returns-in-Err-clause-complete
+returns-in-Err-clause-complete g c =
+    let out = g.O.Sink in
+    let say = g.E.Sink in
+    λ decided is. written_decided
+    (sunk (out.written c.args.out.now) (out.written c.write_ending-in-Err.new.out) (out.faults c.args.out.now) (out.faults c.write_ending-in-Err.new.out))
+    (sunk (say.written c.args.say.now) (say.written c.write_ending-in-Err.new.say) (say.faults c.args.say.now) (say.faults c.write_ending-in-Err.new.say))
+    [] (line_of stop.Memory) status.Memory decided c.write_ending-in-Err.result c.write_ending-in-Err.ensures.ended c.write_ending-in-Err.ensures.cut (inr (inr (inr refl)))
+
+pub returns-in-Err-clause-quiet : goal.returns-in-Err-clause-quiet
+returns-in-Err-clause-quiet g c four =
+    let shelf = g.H.Shelf in
+    let out = g.O.Sink in
+    let say = g.E.Sink in
+    let e = c.write_ending-in-Err.ensures.ended four in
+    memory_quiet (map (λ w. w.now) c.args.words.now)
+    (shelved (shelf.told c.args.shelf.now) (shelf.faults c.args.shelf.now) (shelf.faults c.ending.new.shelf) (shelf.ailing c.ending.new.shelf) (shelf.current c.ending.new.shelf))
+    (sunk (out.written c.args.out.now) (out.written c.write_ending-in-Err.new.out) (out.faults c.args.out.now) (out.faults c.write_ending-in-Err.new.out))
+    (sunk (say.written c.args.say.now) (say.written c.write_ending-in-Err.new.say) (say.faults c.args.say.now) (say.faults c.write_ending-in-Err.new.say))
+    c.write_ending-in-Err.result e.0 e.1 (c.write_ending-in-Err.ensures.out_unused refl) c.write_ending-in-Err.ensures.say_unused
+
+pub returns-in-Ok-clause-quiet : goal.returns-in-Ok-clause-quiet
+returns-in-Ok-clause-quiet g c four =
+    let shelf = g.H.Shelf in
+    let out = g.O.Sink in
+    let say = g.E.Sink in
+    let done = c.write_ending.ensures in
+    ends_quietly (map (λ w. w.now) c.args.words.now)
+    (shelved (shelf.told c.args.shelf.now) (shelf.faults c.args.shelf.now) (shelf.faults c.ending.new.shelf) (shelf.ailing c.ending.new.shelf) (shelf.current c.ending.new.shelf))
+    (sunk (out.written c.args.out.now) (out.written c.write_ending.new.out) (out.faults c.args.out.now) (out.faults c.write_ending.new.out))
+    (sunk (say.written c.args.say.now) (say.written c.write_ending.new.say) (say.faults c.args.say.now) (say.faults c.write_ending.new.say))
+    c.in-Ok.ending.status c.in-Ok.ending.written.items c.in-Ok.ending.said.items c.as_slice.result.now c.as_slice-in-Ok.result.now c.write_ending.result c.in-Ok.ensures.allowed c.in-Ok.ensures.well
+    c.as_slice.ensures.value c.as_slice-in-Ok.ensures.value (done.ended four) done.out_unused done.say_unused

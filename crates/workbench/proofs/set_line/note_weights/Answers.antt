@@ -2,7 +2,7 @@ use Rattle.std.proofs.Common.{◌≡◌, ◌∙◌, ◌+◌, ◌-◌, ◌<◌, l
 use Rattle.std.specs.Prelude.{slice_set}
 use Rattle.lk_model.specs.Formulas.Literal.{literal_of}
 use Rattle.lk_model.specs.declared.document.Weight.{Weight}
-use Rattle.lean_checker.proofs.StageChecks.{weight_within}
+use Rattle.kernel_laws.proofs.WeightLines.{weight_within}
 use Rattle.workbench.specs.SignTables.{weight_literal, NotesSigns}
 use Rattle.workbench.proofs.SignTables.{read_above, weights_more}
 use Rattle.workbench.proofs.set_line.note_weights.Goals as goal

@@ -2,8 +2,8 @@ use Rattle.std.proofs.Common.{◌≡◌, ◌∙◌, ℕ, ◌+◌, ◌-◌, ◌<�
 use Rattle.lk_model.specs.Formulas.Formula.{clause_at}
 use Rattle.lk_model.specs.declared.document.Own.{Own}
 use Rattle.kernel_laws.specs.Matching.MatchingResults.{literal_on}
-use Rattle.lean_checker.specs.Matching.{IsFirstTable}
-use Rattle.lean_checker.proofs.FirstTables.{first_more}
+use Rattle.kernel_laws.specs.FirstTables.{IsFirstTable}
+use Rattle.kernel_laws.proofs.FirstTables.{first_more}
 use Rattle.workbench.proofs.OwnLiterals.{own_placed}
 use Rattle.workbench.proofs.set_line.own_literals.Goals as goal
 

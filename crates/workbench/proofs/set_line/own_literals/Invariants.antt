@@ -2,7 +2,7 @@ use Rattle.std.proofs.Common.{drop, None}
 use Rattle.lk_model.specs.Formulas.Formula.{clause_at}
 use Rattle.lk_model.specs.declared.document.Own.{Own}
 use Rattle.kernel_laws.specs.Matching.MatchingResults.{literal_on}
-use Rattle.lean_checker.specs.Matching.{IsFirstTable}
+use Rattle.kernel_laws.specs.FirstTables.{IsFirstTable}
 use Rattle.workbench.proofs.set_line.own_literals.Given as goal
 
 -- the table of the lines so far, which stand last

@@ -3,7 +3,7 @@ use Rattle.lk_model.specs.declared.document.Stage.{Stage}
 use Rattle.lk_model.specs.declared.document.Weight.{Weight}
 use Rattle.lk_model.specs.Documents.Form.{is_stage}
 use Rattle.lk_model.proofs.ListTests.{all_at}
-use Rattle.lean_checker.proofs.Numbers.{whole}
+use Rattle.kernel_laws.proofs.Overwritten.{whole}
 use Rattle.workbench.specs.SignTables.{AreSigns, NotesSigns}
 use Rattle.workbench.proofs.SignTables.{signs_more}
 use Rattle.workbench.proofs.set_line.stage_literals.Goals as goal

@@ -7,7 +7,8 @@ use mir.Syntax.{w128}
 use mir.Val.{SFits}
 use Rattle.exact_rows.proofs.Wides.{fits_in_range}
 use Rattle.lk_model.specs.declared.document.Weight.{Weight}
-use Rattle.lean_checker.proofs.StageChecks.{weight_within, stage_more}
+use Rattle.kernel_laws.proofs.WeightLines.{weight_within}
+use Rattle.lean_checker.proofs.StageChecks.{stage_more}
 use Rattle.lean_checker.proofs.linear.Firsts.note.Goals as goal
 
 -- what stands where there is no weight

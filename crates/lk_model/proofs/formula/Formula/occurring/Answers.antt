@@ -11,7 +11,7 @@ pub loop-v-preserved : goal.loop-v-preserved
 loop-v-preserved c =
     let occurs = variable_occurs c.args.self.now c.args.part.now in
     let v = c.loop-v.v in
-    let has : c.has.result ≡ occurs (v + 1) = c.has.ensures ∙ c.mark_all.ensures.value (v + 1) ∙ ap (λ b. b || occurs (v + 1)) (ap (λ fs. is_in fs (v + 1)) c.in_ok-seen.ensures ∙ none_in _ (v + 1)) in
+    let has : c.has.result ≡ occurs (v + 1) = c.has.ensures ∙ c.add_clauses.ensures.vars (v + 1) ∙ ap (λ b. b || occurs (v + 1)) (ap (λ fs. is_in fs (v + 1)) c.in_ok-seen.ensures ∙ none_in _ (v + 1)) in
     elim c.if-has.branch [
       | then-has+in_ok-push w ↦ (let after = w.vars-is ∙ w.in_ok-push.ensures.ok in record {
         value = filter_took occurs v c.loop-v.vars c.if-has.vars c.loop-v.invariant.value (sym has ∙ w.if-has.true) after;

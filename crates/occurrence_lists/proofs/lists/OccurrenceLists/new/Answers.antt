@@ -42,4 +42,4 @@ pub returns : goal.returns
 returns c =
     let F = c.args.f.now in
     let all : c.loop-i.i ≡ length F.clauses = omega (arith, c.loop-i-test.false, c.loop-i.auto.i-end, c.len-i-end.ensures.value) in
-    rw c.finish.ensures (occurrences_told F c.loop-i.lists.lists (subst (λ (i : ℕ). AreNoted F i c.loop-i.lists.lists) all c.loop-i.invariant.noted))
+    rw c.finish.ensures (occurrences_told F c.loop-i.lists.lists c.len-i-end.ensures.formula (subst (λ (i : ℕ). AreNoted F i c.loop-i.lists.lists) all c.loop-i.invariant.noted))

@@ -1,14 +1,12 @@
 use Rattle.std.proofs.Common.{refl, sym, subst}
 use Rattle.std.specs.Prelude.{IsTrue}
 use Rattle.lk_model.specs.Formulas.Formula.{Cnf}
-use Rattle.lk_model.specs.declared.class.Class.TheVariants.{General}
 use Rattle.part_kernels.specs.ByParts.{IsFirstUnfinished}
-use Rattle.workbench.specs.Founds.{IsFoundFor, IsGeneralFound}
+use Rattle.workbench.specs.Founds.{IsKernelFound, IsGeneralFound}
 use Rattle.workbench.specs.OptionKeys.{values_of}
 use Rattle.workbench.specs.Statuses.{is_result}
 use Rattle.workbench.specs.declared.status.Status.{Status}
 use Rattle.workbench.proofs.GeneralEndings.{done_answers, open_answers}
-use Rattle.workbench.proofs.Protecting.{problem_writes}
 use Rattle.workbench.proofs.Texts.{one_name}
 use Rattle.workbench.proofs.command.reduce_general.perform.Goals as goal
 
@@ -17,15 +15,15 @@ returns-in_ok-written-in-Done-clause-ok g c =
     let options = values_of c.args.options in
     let F = c.in_ok-formula.formula in
     let e = c.in_ok-written-in-Done.field-0 in
-    let h : IsFoundFor General c.left.result.now c.in-Done.found = subst (IsGeneralFound c.left.result.now _) c.in-Done.is c.in_ok-found.ensures in
-    let writes = problem_writes F General options.protect c.in_ok-problem.problem c.in-Done.found options.pivots c.in_ok-document-in-Done.document e.written.items
-    c.in_ok-problem.ensures c.in_ok-document-in-Done.ensures.formula c.in_ok-document-in-Done.ensures.limits
-    ((subst (λ (G : Cnf). IsFoundFor General G c.in-Done.found) c.left.ensures h).reduces options.pivots) c.in_ok-document-in-Done.ensures.document c.in_ok-written-in-Done.ensures.written in
+    let d = c.in_ok-document-in-Done in
+    let told = c.in_ok-written-in-Done.ensures in
+    let h : IsKernelFound c.left.result.now options.conflicts c.in-Done.found = subst (IsGeneralFound c.left.result.now options.conflicts) c.in-Done.is c.in_ok-found.ensures in
     record {
       values = (F, tt);
       read = rw (one_name c.args.names.now c.requires.names) (c.in_ok-formula.ensures.formula, tt);
-      result = subst (λ (s : Status). IsTrue (is_result s)) (sym c.in_ok-written-in-Done.ensures.status) refl;
-      answers = done_answers options F e.status e.written.items e.said.items c.in_ok-written-in-Done.ensures.status writes c.in_ok-written-in-Done.ensures.said;
+      result = subst (λ (s : Status). IsTrue (is_result s)) (sym told.status) refl;
+      answers = done_answers options F c.in_ok-problem.problem c.in-Done.found d.document e.status e.written.items e.said.items c.in_ok-problem.ensures d.ensures.formula d.ensures.limits
+          (subst (λ (G : Cnf). IsKernelFound G options.conflicts c.in-Done.found) c.left.ensures h) d.ensures.document told.status told.written told.said;
     }
 
 pub returns-in_ok-unfinished-in-Unfinished-clause-ok : goal.returns-in_ok-unfinished-in-Unfinished-clause-ok

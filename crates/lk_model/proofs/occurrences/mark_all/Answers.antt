@@ -1,8 +1,0 @@
-use Rattle.lk_model.proofs.Rising.{rising_bounds}
-use Rattle.lk_model.proofs.occurrences.mark_all.Goals as goal
-
-pub clause-requires-clause-first : goal.clause-requires-clause-first
-clause-requires-clause-first c = (rising_bounds 0 _ _ c.loop-p.p-index c.requires.part c.loop-p-test.true).0
-
-pub clause-requires-clause-last : goal.clause-requires-clause-last
-clause-requires-clause-last c = (rising_bounds 0 _ _ c.loop-p.p-index c.requires.part c.loop-p-test.true).1

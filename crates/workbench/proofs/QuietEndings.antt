@@ -1,0 +1,46 @@
+-- Which texts of an ending are empty.
+use Rattle.std.proofs.Common.{◌≡◌, ℕ, List, [], ◌∷◌, Option, Some, None, subst}
+use Rattle.std.specs.Prelude.{IsTrue, nat_eq}
+use Rattle.std.specs.List.{list_any}
+use Rattle.lk_model.specs.Texts.Lines.{Word}
+use Rattle.workbench.specs.Endings.{Shelved, IsResult, Allows}
+use Rattle.workbench.specs.Inputs.{Told}
+use Rattle.workbench.specs.Lawful.{Request, request_of}
+use Rattle.workbench.specs.QuietEndings.{QuietOutcomes}
+use Rattle.workbench.specs.Statuses.{code}
+use Rattle.workbench.specs.declared.status.Status.{Status}
+use Rattle.workbench.specs.declared.status.Status.TheVariants.{Done, Words, Input, ReadFault, WriteFault, Budget, TooWide, TooLarge, Refused, Memory}
+use Rattle.workbench.proofs.CommandTable.{done_silent, wide_unwritten, large_unwritten}
+use Rattle.workbench.proofs.Outcomes.{one_status}
+
+-- of a result
+silent : (o : Option Request) (told : Told) (written said : List ℕ) → IsResult o told Done written said → said ≡ []
+silent None told written said h = absurd h
+silent (Some request) told written said h = done_silent request.command request.options h.values written said h.answers
+
+unwritten_wide : (o : Option Request) (told : Told) (written said : List ℕ) → IsResult o told TooWide written said → written ≡ []
+unwritten_wide None told written said h = absurd h
+unwritten_wide (Some request) told written said h = wide_unwritten request.command request.options h.values written said h.answers
+
+unwritten_large : (o : Option Request) (told : Told) (written said : List ℕ) → IsResult o told TooLarge written said → written ≡ []
+unwritten_large None told written said h = absurd h
+unwritten_large (Some request) told written said h = large_unwritten request.command request.options h.values written said h.answers
+
+-- of an ending with this status
+unwritten : (words : List Word) (shelf : Shelved) (s : Status) (written said : List ℕ) → IsTrue (list_any (nat_eq (code s)) (1 ∷ 2 ∷ 3 ∷ 6 ∷ 7 ∷ 9 ∷ [])) → Allows words shelf s written said → written ≡ []
+unwritten words shelf Words written said among h = h.2.0
+unwritten words shelf Input written said among h = h.2.0
+unwritten words shelf ReadFault written said among h = h.1.0
+unwritten words shelf Memory written said among h = h.0
+unwritten words shelf TooWide written said among h = unwritten_wide (request_of words) shelf.told written said h
+unwritten words shelf TooLarge written said among h = unwritten_large (request_of words) shelf.told written said h
+unwritten words shelf Done written said among h = absurd (let f : ⊥ = cc among in f)
+unwritten words shelf WriteFault written said among h = absurd h
+unwritten words shelf Budget written said among h = absurd (let f : ⊥ = cc among in f)
+unwritten words shelf Refused written said among h = absurd (let f : ⊥ = cc among in f)
+
+pub quiet_outcomes : QuietOutcomes
+quiet_outcomes words shelf out say = record {
+  done = λ e. silent (request_of words) shelf.told e.written e.said (subst (λ (s : Status). Allows words shelf s e.written e.said) (one_status e.status 0 e.answer_is) e.allowed);
+  failed = λ answer among e. unwritten words shelf e.status e.written e.said (subst (λ (n : ℕ). IsTrue (list_any (nat_eq n) (1 ∷ 2 ∷ 3 ∷ 6 ∷ 7 ∷ 9 ∷ []))) e.answer_is among) e.allowed;
+}

@@ -1,0 +1,13 @@
+-- Which texts of an ending are empty. An empty text leaves its sink as a whole as it was, by the clauses of a run.
+use Rattle.std.specs.Prelude.{◌≡◌, ℕ, List, [], ◌∷◌, IsTrue, nat_eq}
+use Rattle.std.specs.List.{list_any}
+use Rattle.lk_model.specs.Texts.Lines.{Word}
+use Rattle.workbench.specs.Endings.{Shelved, Sunk, Ends}
+
+-- With status 0 nothing is said. With 1, 2, 3, 6, 7 and 9 nothing is written.
+pub record QuietMeans (words : List Word) (shelf : Shelved) (out say : Sunk) : Type 0 where
+  pub done : (e : Ends words shelf out say 0) → e.said ≡ []
+  pub failed : (answer : ℕ) → IsTrue (list_any (nat_eq answer) (1 ∷ 2 ∷ 3 ∷ 6 ∷ 7 ∷ 9 ∷ [])) → (e : Ends words shelf out say answer) → e.written ≡ []
+
+abbrev pub QuietOutcomes : Type 0
+QuietOutcomes = (words : List Word) (shelf : Shelved) (out say : Sunk) → QuietMeans words shelf out say
