@@ -23,18 +23,19 @@ use Rattle.lk_model.specs.declared.document.Body.TheVariants as body
 use Rattle.lk_model.proofs.Booleans.{and_true}
 use Rattle.cert_text.specs.declared.part.Part.{Part}
 use Rattle.cert_text.specs.declared.part.Part.TheVariants.{General}
-use Rattle.cert_text.specs.declared.read_rounds.RoundsPart.{RoundsPart}
+use Rattle.round_text.specs.declared.read_rounds.RoundsPart.{RoundsPart}
 use Rattle.cert_text.specs.declared.draft.Draft.{Draft}
-use Rattle.cert_text.specs.Fields.{after}
-use Rattle.cert_text.specs.RoundLines.{fresh_rounds, step_within, number_after, next_step, put_step, is_round, rounds_next}
+use Rattle.line_text.specs.Fields.{after}
+use Rattle.round_text.specs.RoundLines.{fresh_rounds, step_within, number_after, next_step, put_step, is_round, rounds_next}
 use Rattle.cert_text.specs.Parts.{part_next}
-use Rattle.cert_text.proofs.Options.{map_some, then_some}
-use Rattle.cert_text.proofs.Words.{after_form}
-use Rattle.cert_text.proofs.LastOnes.{are_listed}
-use Rattle.cert_text.proofs.RoundSteps.{round_form}
-use Rattle.cert_text.proofs.RoundForms.{step_parts}
-use Rattle.cert_text.proofs.RoundRuns.{rounds_run, AreNumbered, shut_at, rounds_all_run}
-use Rattle.cert_text.proofs.Runs.{run, fresh_of, part_from, at_body, part_runs, pure_runs, matching_runs, linear_runs}
+use Rattle.line_text.proofs.Options.{map_some, then_some}
+use Rattle.line_text.proofs.Words.{after_form}
+use Rattle.line_text.proofs.LastOnes.{are_listed}
+use Rattle.round_text.proofs.RoundSteps.{round_form}
+use Rattle.round_text.proofs.RoundForms.{step_parts}
+use Rattle.round_text.proofs.RoundRuns.{rounds_run, AreNumbered, shut_at, rounds_all_run}
+use Rattle.cert_text.specs.Drafts.{run}
+use Rattle.cert_text.proofs.Runs.{fresh_of, part_from, at_body, part_runs, pure_runs, matching_runs, linear_runs}
 
 -- ROUNDS
 

@@ -20,9 +20,9 @@ use Rattle.lk_model.specs.declared.document.Body.TheVariants.{Pure, Matching, Li
 use Rattle.lk_model.specs.declared.document.Document.{Document}
 use Rattle.lk_model.specs.declared.document.Document.TheVariants.{Done, Unfinished}
 use Rattle.lk_text.specs.Cutting.{is_one_line}
-use Rattle.cert_text.specs.Fields.{has_no_space}
+use Rattle.line_text.specs.Fields.{has_no_space}
 use Rattle.cert_text.proofs.LinearSteps.{share_words}
-use Rattle.cert_text.proofs.CleanWords.{is_clean, is_clean_line, are_clean}
+use Rattle.line_text.proofs.CleanWords.{is_clean, is_clean_line, are_clean}
 
 -- NUMBERS
 

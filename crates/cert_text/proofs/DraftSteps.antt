@@ -23,16 +23,16 @@ use Rattle.cert_text.specs.declared.part.Part.TheVariants.{Pure, Matching, Linea
 use Rattle.cert_text.specs.declared.draft.Draft.{Draft}
 use Rattle.cert_text.specs.declared.draft.LineDue.{LineDue}
 use Rattle.cert_text.specs.declared.draft.LineDue.TheVariants.{Format, Sizes, Protect, Keep, Set, Learned, Body, Clauses}
-use Rattle.cert_text.specs.Fields.{after, one_within, two_within}
-use Rattle.cert_text.specs.FieldLists.{rising_from, literals_from, clause_from}
+use Rattle.line_text.specs.Fields.{after, one_within, two_within}
+use Rattle.line_text.specs.FieldLists.{rising_from, literals_from, clause_from}
 use Rattle.cert_text.specs.Parts.{part_word, part_of, part_lines, part_next, may_end, is_finished}
 use Rattle.cert_text.specs.Drafts.{format_line, size_line, keep_line, set_line, learned_line, problem_line, head_lines, middle_lines, clause_count, lines_before, lines_read, fresh_draft, protect_of, format_words, due_then, due_first, is_problem, has_room, put_clause, next_format, next_sizes, next_protect, next_keep, next_set, next_learned, next_body, next_clause, next_at, next_draft}
-use Rattle.cert_text.proofs.ListForms.{rising_form, literals_form, rising_literals, clause_form}
-use Rattle.cert_text.proofs.NumberForms.{number_form, two_form}
-use Rattle.cert_text.proofs.Words.{after_form}
-use Rattle.cert_text.proofs.Options.{map_some, ThenSome, then_some}
-use Rattle.cert_text.specs.RoundLines.{fresh_rounds}
-use Rattle.cert_text.proofs.RoundParts.{IsRounds}
+use Rattle.line_text.proofs.ListForms.{rising_form, literals_form, rising_literals, clause_form}
+use Rattle.line_text.proofs.NumberForms.{number_form, two_form}
+use Rattle.line_text.proofs.Words.{after_form}
+use Rattle.line_text.proofs.Options.{map_some, ThenSome, then_some}
+use Rattle.round_text.specs.RoundLines.{fresh_rounds}
+use Rattle.round_text.proofs.RoundParts.{IsRounds}
 use Rattle.cert_text.proofs.PartSteps.{IsPart, part_step, same_kind}
 
 -- DRAFTS IN FORM

@@ -11,14 +11,15 @@ use Rattle.lk_model.specs.declared.document.Weight.{Weight}
 use Rattle.lk_model.specs.declared.document.Share.{Share}
 use Rattle.lk_model.proofs.Booleans.{and_true}
 use Rattle.lk_text.specs.Kinds.{if_in_range}
-use Rattle.cert_text.specs.Fields.{number_within, if_weight}
-use Rattle.cert_text.specs.LastVars.{last_or}
+use Rattle.line_text.specs.Fields.{number_within}
+use Rattle.cert_text.specs.Entries.{if_weight}
+use Rattle.line_text.specs.LastVars.{last_or}
 use Rattle.cert_text.specs.LinearLines.{weight_by, share_by, unit_by, weight_within, share_within, unit_within}
-use Rattle.cert_text.proofs.NumberTexts.{spelled, plain_spelled, in_range}
-use Rattle.cert_text.proofs.ListForms.{number_back}
-use Rattle.cert_text.proofs.NumberForms.{number_form}
-use Rattle.cert_text.proofs.LastOnes.{are_listed, listed_more, listed_last, listed_front}
-use Rattle.cert_text.proofs.TwosSteps.{AreTwos}
+use Rattle.line_text.proofs.NumberTexts.{spelled, plain_spelled, in_range}
+use Rattle.line_text.proofs.ListForms.{number_back}
+use Rattle.line_text.proofs.NumberForms.{number_form}
+use Rattle.line_text.proofs.LastOnes.{are_listed, listed_more, listed_last, listed_front}
+use Rattle.line_text.proofs.TwosSteps.{AreTwos}
 
 -- READING ONE MORE
 

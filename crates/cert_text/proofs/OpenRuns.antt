@@ -21,20 +21,21 @@ use Rattle.lk_model.specs.declared.document.Document.TheVariants as document
 use Rattle.lk_model.proofs.Booleans.{and_true}
 use Rattle.cert_text.specs.declared.part.Part.{Part}
 use Rattle.cert_text.specs.declared.part.Part.TheVariants.{Unfinished}
-use Rattle.cert_text.specs.declared.read_rounds.RoundsPart.{RoundsPart}
+use Rattle.round_text.specs.declared.read_rounds.RoundsPart.{RoundsPart}
 use Rattle.cert_text.specs.declared.draft.Draft.{Draft}
 use Rattle.cert_text.specs.declared.draft.LineDue.{LineDue}
 use Rattle.cert_text.specs.declared.draft.LineDue.TheVariants as due
-use Rattle.cert_text.specs.Fields.{two_within}
-use Rattle.cert_text.specs.FieldLists.{rising_from}
-use Rattle.cert_text.specs.RoundLines.{fresh_rounds, round_of}
+use Rattle.line_text.specs.Fields.{two_within}
+use Rattle.line_text.specs.FieldLists.{rising_from}
+use Rattle.round_text.specs.RoundLines.{fresh_rounds, round_of}
 use Rattle.cert_text.specs.Parts.{part_next, may_end}
 use Rattle.cert_text.specs.Drafts.{format_line, size_line, learned_line, problem_line, clause_count, fresh_draft, is_problem, document_by, finished}
-use Rattle.cert_text.proofs.ListForms.{number_back, rising_back}
-use Rattle.cert_text.proofs.NumberForms.{two_back}
-use Rattle.cert_text.proofs.RoundRuns.{rounds_run, AreNumbered, open_at, shut_at, numbered_parts, open_run, round_run, rounds_all_run}
+use Rattle.line_text.proofs.ListForms.{number_back, rising_back}
+use Rattle.line_text.proofs.NumberForms.{two_back}
+use Rattle.round_text.proofs.RoundRuns.{rounds_run, AreNumbered, open_at, shut_at, numbered_parts, open_run, round_run, rounds_all_run}
 use Rattle.cert_text.proofs.BodyRuns.{numbered_from_first, rounds_lift}
-use Rattle.cert_text.proofs.Runs.{run, run_cons, after_ended, at_body, at_clauses, clauses_run}
+use Rattle.cert_text.specs.Drafts.{run}
+use Rattle.cert_text.proofs.Runs.{run_cons, after_ended, at_body, at_clauses, clauses_run}
 
 -- THE PROBLEM LINE
 

@@ -1,9 +1,9 @@
 -- Parts in form, and what the next line does to them.
 use Rattle.std.proofs.Common.{◌≡◌, ℕ, ◌+◌, ◌-◌, ◌^◌, ◌<◌, ◌≤◌, ◌∙◌, Bool, true, cond, ◌&&◌, List, [], ◌∷◌, ◌++◌, map, refl, sym, ap, arith, ℤ, Option, Some, None}
-use Rattle.std.specs.Prelude.{decimal, nat_le, nat_lt}
+use Rattle.std.specs.Prelude.{decimal, nat_lt}
 use Rattle.std.specs.Fmt.{signed_decimal}
 use Rattle.std.specs.List.{list_all, flat_map}
-use Rattle.std.proofs.lemmas.Bool.{leb-true, le-leb, lt-ltb, ltb-true, and_from}
+use Rattle.std.proofs.lemmas.Bool.{lt-ltb, ltb-true, and_from}
 use Rattle.lk_model.specs.Lists.{is_between, rises_within}
 use Rattle.lk_model.specs.Limits.{is_in_range}
 use Rattle.lk_model.specs.Texts.Lines.{Word}
@@ -18,16 +18,17 @@ use Rattle.lk_model.specs.declared.document.Share.{Share}
 use Rattle.lk_model.specs.declared.document.Unit.{Unit}
 use Rattle.lk_model.proofs.Booleans.{and_true}
 use Rattle.lk_text.specs.Kinds.{if_in_range}
-use Rattle.cert_text.specs.Fields.{number_within, pair_by, pair_within, own_by, own_within, row_by, row_within, dual_by, dual_within}
-use Rattle.cert_text.specs.FieldLists.{twos}
-use Rattle.cert_text.specs.LastVars.{last_or}
+use Rattle.line_text.specs.Fields.{number_within}
+use Rattle.cert_text.specs.Entries.{pair_by, pair_within, own_by, own_within, row_by, row_within, dual_by, dual_within}
+use Rattle.line_text.specs.FieldLists.{twos}
+use Rattle.line_text.specs.LastVars.{last_or}
 use Rattle.cert_text.specs.LinearLines.{share_within, unit_by, unit_within}
-use Rattle.cert_text.proofs.NumberTexts.{spelled, plain_spelled, in_range}
-use Rattle.cert_text.proofs.ListForms.{number_back}
-use Rattle.cert_text.proofs.NumberForms.{number_form}
+use Rattle.line_text.proofs.NumberTexts.{spelled, plain_spelled, in_range}
+use Rattle.line_text.proofs.ListForms.{number_back}
+use Rattle.line_text.proofs.NumberForms.{number_form, between, is_between_of}
 use Rattle.cert_text.proofs.LinearSteps.{range_form, shares_two, are_shares, share_words}
-use Rattle.cert_text.proofs.TwosSteps.{twos_form, twos_back}
-use Rattle.cert_text.proofs.LastOnes.{are_listed, listed_more, listed_last}
+use Rattle.line_text.proofs.TwosSteps.{twos_form, twos_back}
+use Rattle.line_text.proofs.LastOnes.{are_listed, listed_more, listed_last}
 
 -- HOW THE ITEMS OF LINES ARE READ AND SPELLED
 
@@ -35,18 +36,6 @@ use Rattle.cert_text.proofs.LastOnes.{are_listed, listed_more, listed_last}
 pub record AreItems {X : Type 0} (read : ℕ → List Word → Option X) (spell : X → List Word) (key : X → ℕ) (test : X → Bool) (high : ℕ) : Type 0 where
   pub form : (last : ℕ) (words : List Word) (x : X) → read last words ≡ Some x → (words ≡ spell x) × (last < key x) × (key x ≤ high) × (test x ≡ true)
   pub back : (last : ℕ) (x : X) → last < key x → key x ≤ high → test x ≡ true → read last (spell x) ≡ Some x
-
-pub between : (low high n : ℕ) → low ≤ n → n ≤ high → is_between low high n ≡ true
-between low high n a b = rw (le-leb low n a, le-leb n high b) refl
-
-pub record IsBetween (low high n : ℕ) : Type 0 where
-  pub least : low ≤ n
-  pub most : n ≤ high
-
-pub is_between_of : (low high n : ℕ) → is_between low high n ≡ true → IsBetween low high n
-is_between_of low high n h =
-    let both = and_true (nat_le low n) (nat_le n high) h in
-    record { least = leb-true low n both.0; most = leb-true n high both.1 }
 
 -- PAIRS
 

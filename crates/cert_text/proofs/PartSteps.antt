@@ -22,21 +22,22 @@ use Rattle.cert_text.specs.declared.part.Part.TheVariants.{Pure, Matching, Linea
 use Rattle.cert_text.specs.declared.read_pure.PurePart.{PurePart}
 use Rattle.cert_text.specs.declared.read_matching.MatchingPart.{MatchingPart}
 use Rattle.cert_text.specs.declared.read_linear.LinearPart.{LinearPart}
-use Rattle.cert_text.specs.Fields.{after, pair_within, own_within, row_within, dual_within}
-use Rattle.cert_text.specs.FieldLists.{literals_from, twos}
-use Rattle.cert_text.specs.LastVars.{last_or}
+use Rattle.line_text.specs.Fields.{after}
+use Rattle.cert_text.specs.Entries.{pair_within, own_within, row_within, dual_within}
+use Rattle.line_text.specs.FieldLists.{literals_from, twos}
+use Rattle.line_text.specs.LastVars.{last_or}
 use Rattle.cert_text.specs.PureLines.{next_order, next_pair, pure_next}
 use Rattle.cert_text.specs.MatchingLines.{next_own, next_row, matching_by, matching_next}
 use Rattle.cert_text.specs.LinearLines.{weight_within, unit_within, stage_of, next_stage, next_dual, next_unit, linear_by, linear_next}
-use Rattle.cert_text.specs.RoundLines.{rounds_next}
+use Rattle.round_text.specs.RoundLines.{rounds_next}
 use Rattle.cert_text.specs.Parts.{part_word, part_lines, part_next, is_finished}
-use Rattle.cert_text.proofs.ListForms.{literals_form, any_literals}
-use Rattle.cert_text.proofs.Options.{map_some, then_some}
-use Rattle.cert_text.proofs.RoundParts.{IsRounds, IsDoneRounds, rounds_step, rounds_over_some}
-use Rattle.cert_text.proofs.Words.{after_form}
+use Rattle.line_text.proofs.ListForms.{literals_form, any_literals}
+use Rattle.line_text.proofs.Options.{map_some, then_some}
+use Rattle.round_text.proofs.RoundParts.{IsRounds, IsDoneRounds, rounds_step, rounds_over_some}
+use Rattle.line_text.proofs.Words.{after_form}
 use Rattle.cert_text.proofs.LinearSteps.{weight_words, weights_two, are_weights, share_words}
-use Rattle.cert_text.proofs.TwosSteps.{twos_form}
-use Rattle.cert_text.proofs.LastOnes.{are_listed, tested_more}
+use Rattle.line_text.proofs.TwosSteps.{twos_form}
+use Rattle.line_text.proofs.LastOnes.{are_listed, tested_more}
 use Rattle.cert_text.proofs.PartForms.{pair_items, own_items, row_items, dual_items, unit_items, items_more}
 
 -- LINES

@@ -1,64 +1,75 @@
--- A text, line by line, beside what was read of it.
-use Rattle.std.proofs.Common.{◌≡◌, ℕ, ◌+◌, ◌<◌, ◌≤◌, ◌^◌, ◌∙◌, Bool, true, false, cond, ◌&&◌, ◌==◌, List, [], ◌∷◌, ◌++◌, length, take, drop, map, refl, sym, ap, subst, arith, append_assoc, Option, Some, None}
-use Rattle.std.specs.Prelude.{slice_range, option_and_then}
+-- What was read of a document, and the documents that complete it.
+use Rattle.std.proofs.Common.{◌≡◌, ℕ, ◌+◌, ◌<◌, ◌^◌, ◌∙◌, Bool, true, false, cond, ◌&&◌, ◌==◌, List, [], ◌∷◌, ◌++◌, length, take, map, refl, sym, ap, subst, arith, append_assoc, Option, Some, None, Result, Ok, Err, IfOk}
+use Rattle.std.specs.Prelude.{option_and_then, IsTrue, IfErr}
 use Rattle.std.specs.List.{concat}
 use Rattle.std.proofs.lemmas.Bool.{eqb-true}
-use Rattle.std.proofs.lemmas.List.{append-nil, map-append, length-append, length-map, length-take, take-append-le, take_at, take_all, take-append-drop}
+use Rattle.std.proofs.lemmas.List.{append-nil, map-append, length-append}
 use Rattle.std.proofs.lemmas.List.Folds.{list_all-append}
-use Rattle.std.proofs.Math.Seq.{drop-length}
+use Rattle.lk_model.specs.Held.Growing.{Growing}
 use Rattle.lk_model.specs.Texts.Lines.{Word}
 use Rattle.lk_model.specs.Texts.PlainText.{line}
-use Rattle.lk_model.specs.Documents.Reading.{cut_lines, IsTextOf, GoesOn, StopsAt}
+use Rattle.lk_model.specs.Documents.Reading.{cut_lines, IsTextOf, StopsAt, StopsAs}
 use Rattle.lk_model.specs.Documents.Text.{text_of, text_lines, document_lines}
 use Rattle.lk_model.specs.declared.document.Document.{Document}
+use Rattle.lk_model.specs.declared.verdict.ReadStop.{ReadStop}
+use Rattle.lk_model.specs.declared.verdict.ReadStop.TheVariants as reading
+use Rattle.lk_model.specs.declared.list.OutOfMemory.{OutOfMemory}
 use Rattle.lk_model.proofs.Booleans.{and_true}
-use Rattle.lk_text.specs.Cutting.{is_one_line, IsNextLine}
-use Rattle.lk_text.specs.declared.cuts.Cut.{Cut}
+use Rattle.line_text.specs.Fields.{fields}
+use Rattle.line_text.specs.Taking.{IsTaken}
+use Rattle.line_text.specs.LineReading.{are_whole_lines, IsReadBy, IsAdmitted, CanComplete, LeadsOn, LeadsNowhere, TakesLine, EndsWith, IsStopOf}
+use Rattle.line_text.proofs.LineCuts.{lines_in_row}
+use Rattle.line_text.proofs.CleanWords.{is_clean_line, are_clean, line_fields, words_of_line, same_lines, goes_on_by, cut_lines_in_row, clean_whole}
+use Rattle.line_text.proofs.Takings.{taken_next, not_taken}
 use Rattle.cert_text.specs.declared.draft.Draft.{Draft}
 use Rattle.cert_text.specs.declared.draft.LineDue.{LineDue}
 use Rattle.cert_text.specs.declared.draft.LineDue.TheVariants.{Format, Sizes, Protect, Keep, Set, Learned, Body, Clauses}
-use Rattle.cert_text.specs.Fields.{fields}
-use Rattle.cert_text.specs.Drafts.{fresh_draft, lines_read, lines_before, clause_count, next_draft, is_at_clauses, document_by, finished}
-use Rattle.cert_text.specs.ReadTexts.{IsOfOneDocument, HasOneText, StopsNowhere}
-use Rattle.cert_text.proofs.LineCuts.{cut_next, cut_last, cut_nothing, lines_in_row}
-use Rattle.cert_text.proofs.CleanWords.{is_clean_line, are_clean, line_fields, words_of_line, same_lines, GoesOnBy, goes_on_by, cut_lines_in_row, line_ends}
+use Rattle.cert_text.specs.Drafts.{fresh_draft, lines_read, lines_before, clause_count, next_draft, is_at_clauses, document_by, finished, run}
+use Rattle.cert_text.specs.Taking.{IsReadyAgain, IsSmall}
+use Rattle.cert_text.specs.Completing.{IsCompletedBy, IsRead}
+use Rattle.cert_text.specs.ReadTexts.{IsStopAt, IsOfOneDocument, HasOneText, StopsNowhere}
 use Rattle.cert_text.proofs.CleanLines.{clean_document}
-use Rattle.cert_text.proofs.DraftSteps.{IsDraft, IsDraftAt, draft_step}
+use Rattle.cert_text.proofs.DraftSteps.{IsDraft, IsDraftAt, draft_step, draft_facts, vars_limit, clauses_limit, kept_limit}
 use Rattle.cert_text.proofs.Completed.{IsWholeDraft, whole_lines, whole_form, goes_on}
-use Rattle.cert_text.proofs.Runs.{run, run_append, run_last}
+use Rattle.cert_text.proofs.Runs.{run_append, run_last}
 use Rattle.cert_text.proofs.WholeRuns.{document_runs}
 
--- the lines before a place are those of the draft
-pub record IsAt (bytes : List ℕ) (at number : ℕ) (d : Draft) : Type 0 where
-  pub form : IsDraft d
-  pub runs : run fresh_draft (lines_read d) ≡ Some d
-  pub lines : cut_lines bytes ≡ map line (lines_read d) ++ cut_lines (drop at bytes)
-  pub count : number ≡ length (lines_read d)
+-- WHAT LINES LEAD TO
 
--- before the first line
-pub at_start : (bytes : List ℕ) (d : Draft) → d ≡ fresh_draft → IsAt bytes 0 0 d
-at_start bytes d e = subst (IsAt bytes 0 0) (sym e) (record { form = refl; runs = refl; lines = refl; count = refl })
+-- drafts in form lead to drafts in form
+runs_form : (d e : Draft) (lines : List (List Word)) → IsDraft d → run d lines ≡ Some e → IsDraft e
+runs_form d e [] h r = let same : d ≡ e = cc in subst (λ (x : Draft). IsDraft x) same h
+runs_form d e (words ∷ lines) h r = by_next (λ x f s. runs_form x e lines f s) (next_draft d words) refl r
+  where
+    by_next : ((x : Draft) → IsDraft x → run x lines ≡ Some e → IsDraft e) → (o : Option Draft) → next_draft d words ≡ o → option_and_then (λ x. run x lines) o ≡ Some e → IsDraft e
+    by_next later None t f = absurd (let n : ⊥ = cc in n)
+    by_next later (Some x) t f = later x (draft_step d x words h t).form f
+
+draft_form : (d : Draft) → run fresh_draft (lines_read d) ≡ Some d → IsDraft d
+draft_form d r = runs_form fresh_draft d (lines_read d) refl r
+
+-- the numbers of such a draft are within the limits
+pub small_draft : (d : Draft) (growing : Growing) → IsRead d growing → IsSmall d
+small_draft d growing h =
+    let f = draft_facts d (draft_form d h.runs) in
+    record { vars = vars_limit d f; clauses = clauses_limit d f; kept = kept_limit d f; texts = f.texts_vars }
 
 -- one line more
-pub at_next : (bytes : List ℕ) (at number : ℕ) (d next : Draft) (cut : Cut) → IsAt bytes at number d → IsNextLine bytes at cut → cut.end < length bytes
-    → next_draft d (fields (slice_range bytes cut.begin cut.end)) ≡ Some next → IsAt bytes cut.next (number + 1) next
-at_next bytes at number d next cut h c w n =
-    let raw = slice_range bytes cut.begin cut.end in
+reads_on : (d next : Draft) (growing ready : Growing) (raw : List ℕ) (taken : Bool) → IsRead d growing → IsTaken (next_draft d (fields raw)) taken next → IsReadyAgain taken next ready → taken ≡ true
+    → IsRead next ready × (length (lines_read next) ≡ length (lines_read d) + 1)
+reads_on d next growing ready raw taken h n again t =
     let words = fields raw in
-    let rest = cut_lines (drop cut.next bytes) in
-    let step = draft_step d next words h.form n in
-    let read : map line (lines_read next) ≡ map line (lines_read d) ++ (raw ++ 10 ∷ []) ∷ [] =
-    ap (map line) step.lines ∙ map-append line (lines_read d) (words ∷ [])
-    ∙ ap (λ (l : List ℕ). map line (lines_read d) ++ l ∷ []) (line_fields raw) in
-    let one : run d (words ∷ []) ≡ Some next = ap (λ (o : Option Draft). option_and_then (λ e. run e []) o) n in
-    record {
-      form = step.form;
-      runs = ap (run fresh_draft) step.lines ∙ run_append fresh_draft d (lines_read d) (words ∷ []) h.runs ∙ one;
-      lines = h.lines ∙ ap (λ (ls : List (List ℕ)). map line (lines_read d) ++ ls) (cut_next bytes at cut c w)
-          ∙ sym (append_assoc (map line (lines_read d)) ((raw ++ 10 ∷ []) ∷ []) rest)
-          ∙ ap (λ (ls : List (List ℕ)). ls ++ rest) (sym read);
-      count = omega (arith, h.count, ap length step.lines, length-append (lines_read d) (words ∷ []));
-    }
+    let leads = taken_next (next_draft d words) taken next n t in
+    let step = draft_step d next words (draft_form d h.runs) leads in
+    let one : run d (words ∷ []) ≡ Some next = ap (λ (o : Option Draft). option_and_then (λ e. run e []) o) leads in (
+      record {
+        runs = ap (run fresh_draft) step.lines ∙ run_append fresh_draft d (lines_read d) (words ∷ []) h.runs ∙ one;
+        ready = subst (λ (b : Bool). IsReadyAgain b next ready) t again;
+      },
+      omega (arith, ap length step.lines, length-append (lines_read d) (words ∷ [])),
+    )
+
+-- WHAT COMPLETES A DRAFT
 
 -- the lines that were read are clean, as those of a document are
 clean_read : (d : Draft) → IsDraft d → length (lines_read d) < 2 ^ 63 → are_clean (lines_read d) ≡ true
@@ -67,104 +78,73 @@ clean_read d h few =
     (and_true (are_clean (lines_read d)) (are_clean g.more)
     (sym (list_all-append is_clean_line (lines_read d) g.more) ∙ ap are_clean (sym g.lines) ∙ clean_document (document_by g.whole))).0
 
--- WHERE A TEXT STOPS
-
--- a document whose lines are those read and some more
-goes_as_far : (bytes : List ℕ) (at number : ℕ) (d : Draft) → IsAt bytes at number d → number < 2 ^ 63 → (k : ℕ) → k < number + 1 → GoesOn bytes k
+-- some document does
+can_complete : (d : Draft) → IsDraft d → length (lines_read d) < 2 ^ 63 → CanComplete (IsCompletedBy d)
 unfolding text_lines
-goes_as_far bytes at number d h few k lt =
-    let g = goes_on d h.form (omega (arith, few, h.count)) in
+can_complete d h few =
+    let g = goes_on d h few in
     let document = document_by g.whole in
-    let read = map line (lines_read d) in
-    let within : k ≤ length read = omega (arith, lt, h.count, length-map (lines_read d) line) in
-    let text : text_lines document ≡ read ++ map line g.more = ap (map line) g.lines ∙ map-append line (lines_read d) g.more in
+    let clean = (and_true (are_clean (lines_read d)) (are_clean g.more)
+    (sym (list_all-append is_clean_line (lines_read d) g.more) ∙ ap are_clean (sym g.lines) ∙ clean_document document)).1 in
+    let cut = cut_lines_in_row g.more clean in (
+      concat (map line g.more),
+      (
+        document,
+        record {
+          whole = ap are_whole_lines cut ∙ clean_whole g.more clean;
+          lines = record {
+            form = whole_form g.whole g.is_whole;
+            lines = ap (map line) g.lines ∙ map-append line (lines_read d) g.more ∙ ap (λ (ls : List (List ℕ)). map line (lines_read d) ++ ls) (sym cut);
+          };
+        },
+      ),
+    )
+
+-- a line that is taken
+leads_on : (d next : Draft) (raw : List ℕ) → IsDraft d → length (lines_read d) + 1 < 2 ^ 63 → next_draft d (fields raw) ≡ Some next → LeadsOn (IsCompletedBy d) (IsCompletedBy next) (raw ++ 10 ∷ [])
+leads_on d next raw h few n =
+    let words = fields raw in
+    let step = draft_step d next words h n in
+    let longer : (more : List (List ℕ)) → map line (lines_read next) ++ more ≡ map line (lines_read d) ++ (raw ++ 10 ∷ []) ∷ more =
+    λ more.
+    ap (λ (ls : List (List Word)). map line ls ++ more) step.lines
+    ∙ ap (λ (ls : List (List ℕ)). ls ++ more) (map-append line (lines_read d) (words ∷ []))
+    ∙ ap (λ (l : List ℕ). (map line (lines_read d) ++ l ∷ []) ++ more) (line_fields raw)
+    ∙ append_assoc (map line (lines_read d)) ((raw ++ 10 ∷ []) ∷ []) more in
     record {
-      document = document;
-      form = whole_form g.whole g.is_whole;
-      same = ap (take k) h.lines ∙ take-append-le k read (cut_lines (drop at bytes)) within
-          ∙ sym (ap (take k) text ∙ take-append-le k read (map line g.more) within);
+      same = λ document more. (λ c. record { form = c.form; lines = c.lines ∙ longer more }, λ c. record { form = c.form; lines = c.lines ∙ sym (longer more) });
+      completed = can_complete next step.form (omega (arith, few, ap length step.lines, length-append (lines_read d) (words ∷ [])));
     }
 
--- one element more than so many
-taken_past : {X : Type 0} (xs ys rest : List X) (x : X) (n : ℕ) → length xs ≡ n → take (n + 1) (xs ++ x ∷ rest) ≡ take (n + 1) ys → ys ≡ xs ++ x ∷ drop (n + 1) ys
-taken_past {X = X} xs ys rest x n size e =
-    let longer : length (xs ++ x ∷ []) ≡ n + 1 = omega (arith, length-append xs (x ∷ []), size) in
-    let front : take (n + 1) (xs ++ x ∷ rest) ≡ xs ++ x ∷ [] =
-    ap (take (n + 1)) (sym (append_assoc xs (x ∷ []) rest)) ∙ take_at (xs ++ x ∷ []) rest (n + 1) longer in
-    sym (take-append-drop (n + 1) ys)
-    ∙ ap (λ (zs : List X). zs ++ drop (n + 1) ys) (sym e ∙ front)
-    ∙ append_assoc xs (x ∷ []) (drop (n + 1) ys)
-
--- no element more than so many
-taken_all : {X : Type 0} (xs ys : List X) (n : ℕ) → length xs ≡ n → take (n + 1) xs ≡ take (n + 1) ys → ys ≡ xs
-taken_all xs ys n size e =
-    let whole : take (n + 1) xs ≡ xs = take_all (n + 1) xs (omega (arith, size)) in
-    let short : length ys ≤ n + 1 = omega (arith, length-take (n + 1) ys, ap length (sym e ∙ whole), size) in
-    sym (take_all (n + 1) ys short) ∙ sym e ∙ whole
-
--- the next line of a document that begins like the text
-next_of_document : (bytes : List ℕ) (at number : ℕ) (d : Draft) (raw : List ℕ) (rest : List (List ℕ)) → IsAt bytes at number d → number < 2 ^ 63 → cut_lines (drop at bytes) ≡ raw ∷ rest
-    → (g : GoesOn bytes (number + 1)) → GoesOnBy (document_lines g.document) (lines_read d) raw
+-- a line that is not
+leads_nowhere : (d : Draft) (raw : List ℕ) → run fresh_draft (lines_read d) ≡ Some d → length (lines_read d) < 2 ^ 63 → next_draft d (fields raw) ≡ None → LeadsNowhere (IsCompletedBy d) (raw ++ 10 ∷ [])
 unfolding text_lines
-next_of_document bytes at number d raw rest h few cuts g =
-    let document = g.document in
-    let read = map line (lines_read d) in
-    let text : cut_lines bytes ≡ read ++ raw ∷ rest = h.lines ∙ ap (λ (ls : List (List ℕ)). read ++ ls) cuts in
-    let size : length read ≡ number = omega (arith, h.count, length-map (lines_read d) line) in
-    goes_on_by (document_lines document) (lines_read d) raw (drop (number + 1) (text_lines document)) (clean_document document) (clean_read d h.form (omega (arith, few, h.count)))
-    (taken_past read (text_lines document) rest raw number size (ap (take (number + 1)) (sym text) ∙ g.same))
+leads_nowhere d raw runs few n document more c =
+    let by = goes_on_by (document_lines document) (lines_read d) (raw ++ 10 ∷ []) more (clean_document document) (clean_read d (draft_form d runs) few) c.lines in
+    let whole = document_runs document c.form in
+    let next = run_last fresh_draft d whole.draft (lines_read d) by.words by.more runs (ap (run fresh_draft) (sym by.whole) ∙ whole.runs) in
+    let same = words_of_line by.words raw by.clean by.spelled in
+    let some : None ≡ Some next.0 = sym n ∙ ap (next_draft d) (sym same) ∙ next.1 in
+    cc
 
--- a line that leads to nothing
-pub stops_at_line : (bytes : List ℕ) (at number : ℕ) (d : Draft) (cut : Cut) → IsAt bytes at number d → number < 2 ^ 63 → IsNextLine bytes at cut → cut.end < length bytes
-    → next_draft d (fields (slice_range bytes cut.begin cut.end)) ≡ None → StopsAt bytes (number + 1)
-stops_at_line bytes at number d cut h few c w n = record { stops = never; first = goes_as_far bytes at number d h few }
-  where
-    never : GoesOn bytes (number + 1) → ⊥
-    never g =
-        let raw = slice_range bytes cut.begin cut.end in
-        let by = next_of_document bytes at number d (raw ++ 10 ∷ []) (cut_lines (drop cut.next bytes)) h few (cut_next bytes at cut c w) g in
-        let whole = document_runs g.document g.form in
-        let next = run_last fresh_draft d whole.draft (lines_read d) by.words by.more h.runs (ap (run fresh_draft) (sym by.whole) ∙ whole.runs) in
-        let same = words_of_line by.words raw by.clean by.spelled in
-        let some : None ≡ Some next.0 = sym n ∙ ap (next_draft d) (sym same) ∙ next.1 in
-        cc
+takes_line : (d next : Draft) (growing : Growing) (raw : List ℕ) (taken : Bool) → IsRead d growing → length (lines_read d) + 1 < 2 ^ 63 → IsTaken (next_draft d (fields raw)) taken next
+    → TakesLine (IsCompletedBy d) (IsCompletedBy next) raw taken
+takes_line d next growing raw true h few n = leads_on d next raw (draft_form d h.runs) few (taken_next (next_draft d (fields raw)) true next n refl)
+takes_line d next growing raw false h few n = leads_nowhere d raw h.runs (omega (arith, few)) (not_taken (next_draft d (fields raw)) false next n refl)
 
--- a line without its end
-pub stops_unended : (bytes : List ℕ) (at number : ℕ) (d : Draft) (cut : Cut) → IsAt bytes at number d → number < 2 ^ 63 → at < length bytes → IsNextLine bytes at cut → cut.end ≡ length bytes
-    → StopsAt bytes (number + 1)
-stops_unended bytes at number d cut h few i c e = record { stops = never; first = goes_as_far bytes at number d h few }
-  where
-    never : GoesOn bytes (number + 1) → ⊥
-    never g =
-        let by = next_of_document bytes at number d (slice_range bytes cut.begin cut.end) [] h few (cut_last bytes at cut i c e) g in
-        line_ends by.words (ap is_one_line by.spelled ∙ c.one_line)
+-- the same of what reading a line answers
+pub if_takes : (d next : Draft) (growing : Growing) (raw : List ℕ) (r : Result Bool OutOfMemory) → IsRead d growing → length (lines_read d) + 1 < 2 ^ 63 → IfOk r (λ taken. IsTaken (next_draft d (fields raw)) taken next)
+    → IfOk r (TakesLine (IsCompletedBy d) (IsCompletedBy next) raw)
+if_takes d next growing raw (Ok taken) h few n = takes_line d next growing raw taken h few n
+if_takes d next growing raw (Err e) h few n = tt
 
--- where the text ends, its lines are those that were read
-lines_at_end : (bytes : List ℕ) (number : ℕ) (d : Draft) → IsAt bytes (length bytes) number d → cut_lines bytes ≡ map line (lines_read d)
-lines_at_end bytes number d h =
-    h.lines ∙ ap (λ (bs : List ℕ). map line (lines_read d) ++ cut_lines bs) (drop-length bytes)
-    ∙ ap (λ (ls : List (List ℕ)). map line (lines_read d) ++ ls) cut_nothing
-    ∙ append-nil (map line (lines_read d))
+pub if_reads_on : (d next : Draft) (growing ready : Growing) (raw : List ℕ) (r : Result Bool OutOfMemory) → IsRead d growing → IfOk r (λ taken. IsTaken (next_draft d (fields raw)) taken next) → IfOk r (λ taken. IsReadyAgain taken next ready)
+    → IfOk r (λ taken. IsTrue taken → IsRead next ready) × IfOk r (λ taken. IsTrue taken → length (lines_read next) ≡ length (lines_read d) + 1)
+if_reads_on d next growing ready raw (Ok taken) h n again =
+    (λ t. (reads_on d next growing ready raw taken h n again t).0, λ t. (reads_on d next growing ready raw taken h n again t).1)
+if_reads_on d next growing ready raw (Err e) h n again = (tt, tt)
 
--- an end that comes too early
-pub stops_early : (bytes : List ℕ) (number : ℕ) (d : Draft) → IsAt bytes (length bytes) number d → number < 2 ^ 63 → finished d ≡ None → StopsAt bytes (number + 1)
-unfolding text_lines
-stops_early bytes number d h few n = record { stops = never; first = goes_as_far bytes (length bytes) number d h few }
-  where
-    never : GoesOn bytes (number + 1) → ⊥
-    never g =
-        let document = g.document in
-        let read = map line (lines_read d) in
-        let size : length read ≡ number = omega (arith, h.count, length-map (lines_read d) line) in
-        let all = taken_all read (text_lines document) number size (ap (take (number + 1)) (sym (lines_at_end bytes number d h)) ∙ g.same) in
-        let same = same_lines (document_lines document) (lines_read d) (clean_document document) (clean_read d h.form (omega (arith, few, h.count))) all in
-        let whole = document_runs document g.form in
-        let one : Some whole.draft ≡ Some d = sym whole.runs ∙ ap (run fresh_draft) same ∙ h.runs in
-        let draft : whole.draft ≡ d = cc in
-        let some : None ≡ Some document = sym n ∙ ap finished (sym draft) ∙ whole.is in
-        cc
-
--- WHOLE TEXTS
+-- THE END
 
 -- a draft with all lines
 record Finished (d : Draft) (document : Document) : Type 0 where
@@ -193,20 +173,87 @@ finished_is d document e = by_test (is_at_clauses d.due && length d.texts.clause
         record { due = clauses_due d.due both.0; count = eqb-true (length d.texts.clauses) (clause_count d) both.1; is = same }
 
 -- a whole document
-pub reads_whole : (bytes : List ℕ) (number : ℕ) (d : Draft) (document : Document) → IsAt bytes (length bytes) number d → finished d ≡ Some document → IsTextOf bytes document
-unfolding text_of text_lines
-reads_whole bytes number d document h e =
+ends_whole : (d : Draft) (document : Document) → IsDraft d → finished d ≡ Some document → IsCompletedBy d document []
+unfolding text_lines
+ends_whole d document h e =
     let f = finished_is d document e in
-    let at_end : IsDraftAt Clauses d = subst (λ (s : LineDue). IsDraftAt s d) f.due h.form in
+    let at_end : IsDraftAt Clauses d = subst (λ (s : LineDue). IsDraftAt s d) f.due h in
     let whole : IsWholeDraft d = record { facts = at_end.0; ends = at_end.1; count = f.count } in
     let lines : document_lines (document_by d) ≡ lines_read d = whole_lines d whole ∙ ap (λ (s : LineDue). lines_before s d) (sym f.due) in
-    let text = sym (lines_in_row bytes) ∙ ap concat (lines_at_end bytes number d h) ∙ ap (λ (ls : List (List Word)). concat (map line ls)) (sym lines) in
-    subst (IsTextOf bytes) f.is (record { form = whole_form d whole; text = text })
+    subst (λ (x : Document). IsCompletedBy d x []) f.is (record { form = whole_form d whole; lines = ap (map line) lines ∙ sym (append-nil (map line (lines_read d))) })
+
+-- none
+ends_nowhere : (d : Draft) → run fresh_draft (lines_read d) ≡ Some d → length (lines_read d) < 2 ^ 63 → finished d ≡ None → (document : Document) → IsCompletedBy d document [] → ⊥
+unfolding text_lines
+ends_nowhere d runs few n document c =
+    let same = same_lines (document_lines document) (lines_read d) (clean_document document) (clean_read d (draft_form d runs) few) (c.lines ∙ append-nil (map line (lines_read d))) in
+    let whole = document_runs document c.form in
+    let one : Some whole.draft ≡ Some d = sym whole.runs ∙ ap (run fresh_draft) same ∙ runs in
+    let draft : whole.draft ≡ d = cc in
+    let some : None ≡ Some document = sym n ∙ ap finished (sym draft) ∙ whole.is in
+    cc
+
+ends_with : (d : Draft) (growing : Growing) (o : Option Document) → IsRead d growing → length (lines_read d) < 2 ^ 63 → o ≡ finished d → EndsWith (IsCompletedBy d) o
+ends_with d growing (Some document) h few e = ends_whole d document (draft_form d h.runs) (sym e)
+ends_with d growing None h few e = ends_nowhere d h.runs few (sym e)
+
+pub if_ends : (d : Draft) (growing : Growing) (r : Result (Option Document) OutOfMemory) → IsRead d growing → length (lines_read d) < 2 ^ 63 → IfOk r (λ document. document ≡ finished d) → IfOk r (EndsWith (IsCompletedBy d))
+if_ends d growing (Ok document) h few e = ends_with d growing document h few e
+if_ends d growing (Err e) h few n = tt
+
+-- WHOLE TEXTS
+
+-- before the first line
+pub reads_nothing : (d : Draft) (growing : Growing) → d ≡ fresh_draft → growing ≡ record { vars = 0; literals = [] } → IsRead d growing
+reads_nothing d growing e g = subst (λ (x : Draft). IsRead x growing) (sym e) (record { runs = refl; ready = g })
+
+pub can_begin : (d : Draft) → d ≡ fresh_draft → CanComplete (IsCompletedBy d)
+can_begin d e = subst (λ (x : Draft). CanComplete (IsCompletedBy x)) (sym e) (can_complete fresh_draft refl (omega arith))
 
 -- the lines of a text are those of its document
 pub lines_of_text : (bytes : List ℕ) (d : Document) → IsTextOf bytes d → cut_lines bytes ≡ text_lines d
 unfolding text_of text_lines
 lines_of_text bytes d p = ap cut_lines p.text ∙ cut_lines_in_row (document_lines d) (clean_document d)
+
+-- what is read is the text of the document
+is_text : (d : Draft) (bytes : List ℕ) (document : Document) → d ≡ fresh_draft → IsReadBy (IsCompletedBy d) bytes document → IsTextOf bytes document
+unfolding text_of text_lines
+is_text d bytes document e h =
+    let r = subst (λ (x : Draft). IsReadBy (IsCompletedBy x) bytes document) e h in
+    record { form = r.lines.form; text = sym (lines_in_row bytes) ∙ ap concat (sym r.lines.lines) }
+
+admitted : (bytes : List ℕ) (document : Document) → IsTextOf bytes document → IsAdmitted (IsCompletedBy fresh_draft) bytes
+unfolding text_lines
+admitted bytes document p = (
+  document,
+  record {
+    whole = ap are_whole_lines (lines_of_text bytes document p) ∙ clean_whole (document_lines document) (clean_document document);
+    lines = record { form = p.form; lines = sym (lines_of_text bytes document p) };
+  },
+)
+
+-- where no text of the reader goes on, no document's does
+stops_at : (d : Draft) (bytes : List ℕ) (number : ℕ) → d ≡ fresh_draft → StopsAs (IsAdmitted (IsCompletedBy d)) bytes number → StopsAt bytes number
+stops_at d bytes number e h = record {
+  stops = λ g.
+      let is : IsTextOf (text_of g.document) g.document = record { form = g.form; text = refl } in
+      s.stops (record { text = text_of g.document; admitted = admitted (text_of g.document) g.document is; same = g.same ∙ ap (take number) (sym (lines_of_text (text_of g.document) g.document is)) });
+  first = λ k lt.
+      let g = s.first k lt in
+      record { document = g.admitted.0; form = g.admitted.1.lines.form; same = g.same ∙ ap (take k) (sym g.admitted.1.lines.lines) };
+}
+  where
+    s : StopsAs (IsAdmitted (IsCompletedBy fresh_draft)) bytes number
+    s = subst (λ (x : Draft). StopsAs (IsAdmitted (IsCompletedBy x)) bytes number) e h
+
+pub if_text : (d : Draft) (bytes : List ℕ) (r : Result Document ReadStop) → d ≡ fresh_draft → IfOk r (IsReadBy (IsCompletedBy d) bytes) → IfOk r (IsTextOf bytes)
+if_text d bytes (Ok document) e h = is_text d bytes document e h
+if_text d bytes (Err stop) e h = tt
+
+pub if_stop : (d : Draft) (bytes : List ℕ) (r : Result Document ReadStop) → d ≡ fresh_draft → IfErr r (IsStopOf (IsAdmitted (IsCompletedBy d)) bytes) → IfErr r (IsStopAt bytes)
+if_stop d bytes (Ok document) e h = tt
+if_stop d bytes (Err (reading.Line number)) e h = stops_at d bytes number e h
+if_stop d bytes (Err reading.OutOfMemory) e h = tt
 
 -- a text is that of one document at most
 pub of_one_document : IsOfOneDocument

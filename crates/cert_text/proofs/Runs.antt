@@ -31,27 +31,23 @@ use Rattle.cert_text.specs.declared.part.Part.TheVariants.{Pure, Matching, Linea
 use Rattle.cert_text.specs.declared.draft.Draft.{Draft}
 use Rattle.cert_text.specs.declared.draft.LineDue.TheVariants as due
 use Rattle.cert_text.specs.declared.draft.LineDue.TheVariants.{Clauses}
-use Rattle.cert_text.specs.Fields.{after, two_within, pair_within, own_within, row_within, dual_within}
-use Rattle.cert_text.specs.FieldLists.{literals_from}
+use Rattle.line_text.specs.Fields.{after, two_within}
+use Rattle.cert_text.specs.Entries.{pair_within, own_within, row_within, dual_within}
+use Rattle.line_text.specs.FieldLists.{literals_from}
 use Rattle.cert_text.specs.PureLines.{fresh_pure}
 use Rattle.cert_text.specs.MatchingLines.{fresh_matching}
 use Rattle.cert_text.specs.LinearLines.{fresh_linear, stage_of, weight_within, unit_within, linear_by}
-use Rattle.cert_text.specs.RoundLines.{fresh_rounds}
+use Rattle.round_text.specs.RoundLines.{fresh_rounds}
 use Rattle.cert_text.specs.Parts.{part_next, may_end}
-use Rattle.cert_text.specs.Drafts.{clause_count, is_problem, has_room, put_clause, next_draft}
-use Rattle.cert_text.proofs.ListForms.{literals_back, any_literals, clause_back}
-use Rattle.cert_text.proofs.Words.{after_first}
+use Rattle.cert_text.specs.Drafts.{clause_count, is_problem, has_room, put_clause, next_draft, run}
+use Rattle.line_text.proofs.ListForms.{literals_back, any_literals, clause_back}
+use Rattle.line_text.proofs.Words.{after_first}
 use Rattle.cert_text.proofs.LinearSteps.{weight_words, weights_two, are_weights, share_words}
-use Rattle.cert_text.proofs.TwosSteps.{twos_back}
-use Rattle.cert_text.proofs.LastOnes.{are_listed, listed_front, tested_front, tested_last}
+use Rattle.line_text.proofs.TwosSteps.{twos_back}
+use Rattle.line_text.proofs.LastOnes.{are_listed, listed_front, tested_front, tested_last}
 use Rattle.cert_text.proofs.PartForms.{pair_items, own_items, row_items, dual_items, unit_items, items_back}
 
 -- RUNS
-
--- what the lines lead to
-abbrev pub run : Draft → List (List Word) → Option Draft
-run d [] = Some d
-run d (words ∷ lines) = option_and_then (λ e. run e lines) (next_draft d words)
 
 pub run_cons : (d e : Draft) (words : List Word) (lines : List (List Word)) → next_draft d words ≡ Some e → run d (words ∷ lines) ≡ run e lines
 run_cons d e words lines h = ap (option_and_then (λ x. run x lines)) h

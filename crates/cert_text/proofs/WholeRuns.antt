@@ -25,14 +25,15 @@ use Rattle.cert_text.specs.declared.part.Part.{Part}
 use Rattle.cert_text.specs.declared.draft.Draft.{Draft}
 use Rattle.cert_text.specs.declared.draft.LineDue.{LineDue}
 use Rattle.cert_text.specs.declared.draft.LineDue.TheVariants as due
-use Rattle.cert_text.specs.FieldLists.{rising_from, literals_from}
+use Rattle.line_text.specs.FieldLists.{rising_from, literals_from}
 use Rattle.cert_text.specs.Parts.{may_end, is_finished, body_of}
 use Rattle.cert_text.specs.Drafts.{format_line, size_line, keep_line, set_line, problem_line, clause_count, fresh_draft, due_then, due_first, next_format, next_sizes, done_by, open_by, document_by, finished}
-use Rattle.cert_text.proofs.ListForms.{rising_back, literals_back, literals_rising}
-use Rattle.cert_text.proofs.NumberForms.{two_back}
+use Rattle.line_text.proofs.ListForms.{rising_back, literals_back, literals_rising}
+use Rattle.line_text.proofs.NumberForms.{two_back}
 use Rattle.cert_text.proofs.OpenRuns.{problem_run, open_runs}
 use Rattle.cert_text.proofs.BodyRuns.{body_runs}
-use Rattle.cert_text.proofs.Runs.{run, run_cons, after_ended, fresh_of, part_from, at_body, at_clauses, clauses_run}
+use Rattle.cert_text.specs.Drafts.{run}
+use Rattle.cert_text.proofs.Runs.{run_cons, after_ended, fresh_of, part_from, at_body, at_clauses, clauses_run}
 
 -- THE FIRST LINES
 

@@ -16,8 +16,8 @@ use Rattle.cert_text.specs.declared.part.Part.TheVariants as part
 use Rattle.cert_text.specs.declared.draft.Draft.{Draft}
 use Rattle.cert_text.specs.declared.draft.LineDue.{LineDue}
 use Rattle.cert_text.specs.declared.draft.LineDue.TheVariants.{Format, Sizes, Protect, Keep, Set, Learned, Body, Clauses}
-use Rattle.cert_text.specs.Fields.{after, one_within, two_within}
-use Rattle.cert_text.specs.FieldLists.{rising_from, literals_from, clause_from}
+use Rattle.line_text.specs.Fields.{after, one_within, two_within}
+use Rattle.line_text.specs.FieldLists.{rising_from, literals_from, clause_from}
 use Rattle.cert_text.specs.Parts.{part_word, part_of, part_lines, part_next, may_end, is_finished, body_of, rounds_of}
 use Rattle.cert_text.specs.PureLines.{fresh_pure}
 
@@ -144,6 +144,11 @@ next_at Clauses d words = next_clause d words
 -- what a line of these words leads to, if one may come
 abbrev pub next_draft : Draft → List Word → Option Draft
 next_draft d words = next_at d.due d words
+
+-- what these lines lead to, one after another
+abbrev pub run : Draft → List (List Word) → Option Draft
+run d [] = Some d
+run d (words ∷ lines) = option_and_then (λ e. run e lines) (next_draft d words)
 
 -- THE END
 

@@ -1,13 +1,11 @@
 pub mod Printed
-pub mod Fields
-pub mod FieldLists
-pub mod LastVars
+pub mod Entries
 pub mod PureLines
 pub mod MatchingLines
 pub mod LinearLines
-pub mod RoundLines
 pub mod Parts
 pub mod Drafts
 pub mod Taking
+pub mod Completing
 pub mod ReadTexts
 pub mod ModelTexts

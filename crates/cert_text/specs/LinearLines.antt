@@ -11,9 +11,10 @@ use Rattle.lk_model.specs.declared.document.Share.{Share}
 use Rattle.lk_model.specs.declared.document.Unit.{Unit}
 use Rattle.lk_text.specs.Kinds.{if_in_range}
 use Rattle.cert_text.specs.declared.read_linear.LinearPart.{LinearPart}
-use Rattle.cert_text.specs.Fields.{after, number_within, if_weight, dual_within}
-use Rattle.cert_text.specs.FieldLists.{twos}
-use Rattle.cert_text.specs.LastVars.{last_or}
+use Rattle.line_text.specs.Fields.{after, number_within}
+use Rattle.cert_text.specs.Entries.{if_weight, dual_within}
+use Rattle.line_text.specs.FieldLists.{twos}
+use Rattle.line_text.specs.LastVars.{last_or}
 
 abbrev pub fresh_linear : LinearPart
 fresh_linear = record { stages = []; dual = []; units = [] }

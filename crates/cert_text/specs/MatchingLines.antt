@@ -6,8 +6,9 @@ use Rattle.lk_model.specs.Documents.Text.{own_line, row_line}
 use Rattle.lk_model.specs.declared.document.Own.{Own}
 use Rattle.lk_model.specs.declared.document.MatchRow.{MatchRow}
 use Rattle.cert_text.specs.declared.read_matching.MatchingPart.{MatchingPart}
-use Rattle.cert_text.specs.Fields.{after, own_within, row_within}
-use Rattle.cert_text.specs.LastVars.{last_or}
+use Rattle.line_text.specs.Fields.{after}
+use Rattle.cert_text.specs.Entries.{own_within, row_within}
+use Rattle.line_text.specs.LastVars.{last_or}
 
 abbrev pub fresh_matching : MatchingPart
 fresh_matching = record { own = []; rows = [] }

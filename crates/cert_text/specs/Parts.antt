@@ -10,7 +10,7 @@ use Rattle.cert_text.specs.declared.part.Part.TheVariants.{Pure, Matching, Linea
 use Rattle.cert_text.specs.PureLines.{fresh_pure, pure_lines, pure_next}
 use Rattle.cert_text.specs.MatchingLines.{fresh_matching, matching_lines, matching_next}
 use Rattle.cert_text.specs.LinearLines.{fresh_linear, linear_lines, linear_next}
-use Rattle.cert_text.specs.RoundLines.{fresh_rounds, rounds_lines, rounds_next, all_rounds}
+use Rattle.round_text.specs.RoundLines.{fresh_rounds, rounds_lines, rounds_next, all_rounds}
 
 -- the word for it in the first line
 abbrev pub part_word : Part → Word

@@ -1,5 +1,5 @@
 -- Parts of documents as they are printed.
-use Rattle.std.specs.Prelude.{ℕ, List, [], ◌∷◌, ◌++◌, codes}
+use Rattle.std.specs.Prelude.{List, [], ◌∷◌, ◌++◌, codes}
 use Rattle.std.specs.List.{flat_map}
 use Rattle.std.specs.Fmt.{decimal, signed_decimal}
 use Rattle.lk_model.specs.Texts.Lines.{Word}
@@ -8,13 +8,7 @@ use Rattle.lk_model.specs.Documents.Text.{comment, class_lines}
 use Rattle.lk_model.specs.declared.document.Weight.{Weight}
 use Rattle.lk_model.specs.declared.document.Share.{Share}
 use Rattle.lk_model.specs.declared.document.Unit.{Unit}
-use Rattle.lk_model.specs.declared.document.Turn.{Turn}
-use Rattle.lk_model.specs.declared.document.Step.{Step}
 use Rattle.lk_model.specs.declared.document.DoneDocument.{DoneDocument}
-
--- the words in a row, each with a space behind it
-abbrev pub spaced : List Word → List ℕ
-spaced words = flat_map (λ word. word ++ 32 ∷ []) words
 
 -- the words of a line between its keyword and its closing 0, or some of them
 
@@ -26,12 +20,6 @@ share_words shares = flat_map (λ (s : Share). decimal s.pos ∷ signed_decimal 
 
 abbrev pub unit_words : Unit → List Word
 unit_words u = decimal u.var ∷ signed_decimal u.d ∷ share_words u.shares
-
-abbrev pub turn_words : List Turn → List Word
-turn_words turns = flat_map (λ (t : Turn). signed_decimal t.lit ∷ decimal t.with ∷ []) turns
-
-abbrev pub step_words : Step → List Word
-step_words s = decimal s.number ∷ literal_words s.clause ++ decimal s.first ∷ turn_words s.turns
 
 -- the lines of a finished document behind its first ones
 abbrev pub found_lines : DoneDocument → List (List Word)

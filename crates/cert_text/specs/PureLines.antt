@@ -5,9 +5,10 @@ use Rattle.lk_model.specs.Documents.Text.{comment, pair_line}
 use Rattle.lk_model.specs.Texts.PlainText.{literal_words}
 use Rattle.lk_model.specs.declared.document.Pair.{Pair}
 use Rattle.cert_text.specs.declared.read_pure.PurePart.{PurePart}
-use Rattle.cert_text.specs.Fields.{after, pair_within}
-use Rattle.cert_text.specs.FieldLists.{literals_from}
-use Rattle.cert_text.specs.LastVars.{last_or}
+use Rattle.line_text.specs.Fields.{after}
+use Rattle.cert_text.specs.Entries.{pair_within}
+use Rattle.line_text.specs.FieldLists.{literals_from}
+use Rattle.line_text.specs.LastVars.{last_or}
 
 abbrev pub fresh_pure : PurePart
 fresh_pure = record { ordered = false; order = []; pairs = [] }

@@ -1,13 +1,8 @@
 -- What becomes of a draft, or a part of one, and a line.
-use Rattle.std.specs.Prelude.{◌≡◌, ◌≤◌, Bool, true, false, [], length, Option, Some, None}
+use Rattle.std.specs.Prelude.{◌≡◌, ◌≤◌, Bool, true, false, [], length}
 use Rattle.lk_model.specs.Held.Growing.{Growing}
 use Rattle.lk_model.specs.Limits.{max_vars, max_clauses}
 use Rattle.cert_text.specs.declared.draft.Draft.{Draft}
-
--- the line led to what it leads to, or to nothing
-abbrev pub IsTaken : {X : Type 0} → Option X → Bool → X → Type 0
-IsTaken None taken now = taken ≡ false
-IsTaken (Some next) taken now = (taken ≡ true) × (now ≡ next)
 
 -- a clause that grows, over the draft's variables, with no literal yet
 abbrev pub IsReady : Draft → Growing → Type 0

@@ -3,7 +3,7 @@ use crate::part::Part;
 use lk_model::{Formula, List, Lit};
 
 /// Which line is due, that is, to come next.
-#[derive(Clone, Copy, PartialEq, Eq, Debug)]
+#[derive(Clone, Copy, PartialEq, Eq)]
 pub(crate) enum LineDue {
     Format,
     Sizes,

@@ -1,23 +1,19 @@
 //! The texts of documents, both ways.
 #![tactic(auto)]
 
-mod chain_lists;
 mod draft;
-mod fields;
+mod entries;
 mod laws;
-mod lists;
-mod model;
 mod part;
 mod printing;
 mod read_linear;
 mod read_matching;
 mod read_pure;
-mod read_rounds;
 mod reading;
 mod signed_lists;
 mod steps;
 
 pub use laws::text_law;
-pub use model::read_model;
-pub use printing::{print, print_model};
+pub use model_text::{print_model, read_model};
+pub use printing::print;
 pub use reading::read;

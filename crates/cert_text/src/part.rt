@@ -1,15 +1,15 @@
 //! What was read of the lines between the front of a document and its clauses: a kind for each body.
 ghost use Rattle.std.specs.Prelude.{◌≡◌, ◌≤◌, IfOk, false};
 ghost use Rattle.lk_model.specs.Limits.{max_vars};
-ghost use Rattle.cert_text.specs.Fields.{fields};
-ghost use Rattle.cert_text.specs.Taking.{IsTaken};
+ghost use Rattle.line_text.specs.Fields.{fields};
+ghost use Rattle.line_text.specs.Taking.{IsTaken};
 ghost use Rattle.cert_text.specs.Parts.{part_of, part_next, may_end, is_finished, body_of, rounds_of};
 
 use crate::read_linear::{LinearPart, take_linear};
 use crate::read_matching::{MatchingPart, take_matching};
 use crate::read_pure::{PurePart, take_pure};
-use crate::read_rounds::{RoundsPart, all_rounds, fresh_rounds, take_rounds};
 use lk_model::{Body, List, OutOfMemory, Round};
+use round_text::{RoundsPart, all_rounds, fresh_rounds, take_rounds};
 use std::alloc::Global;
 
 /// The lines of a body, as far as they were read.

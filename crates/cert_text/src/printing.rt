@@ -9,24 +9,20 @@ ghost use Rattle.cert_text.specs.Printed.{found_lines};
 
 mod formula;
 mod front;
-mod general;
-mod line;
 mod linear;
 mod matching;
-mod model;
 mod pure;
 mod unfinished;
 
 use self::formula::put_formula;
 use self::front::put_first_lines;
-use self::general::put_rounds;
-use self::line::{put_literal_line, put_number_line};
 use self::linear::put_linear;
 use self::matching::put_matching;
-pub use self::model::print_model;
 use self::pure::put_pure;
 use self::unfinished::put_unfinished;
+use line_text::{put_literal_line, put_number_line};
 use lk_model::{Body, Document, DoneDocument, OutOfMemory};
+use round_text::put_rounds;
 use std::alloc::Global;
 
 /// The one text of a document. The error is want of memory for the text.

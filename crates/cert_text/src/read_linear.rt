@@ -2,13 +2,14 @@
 ghost use Rattle.std.specs.Prelude.{◌≡◌, IfOk, map};
 ghost use Rattle.lk_model.specs.declared.document.Dual.{Dual};
 ghost use Rattle.lk_model.specs.declared.document.Unit.{Unit};
-ghost use Rattle.cert_text.specs.Fields.{fields};
-ghost use Rattle.cert_text.specs.LastVars.{last_or};
-ghost use Rattle.cert_text.specs.Taking.{IsTaken};
+ghost use Rattle.line_text.specs.Fields.{fields};
+ghost use Rattle.line_text.specs.LastVars.{last_or};
+ghost use Rattle.line_text.specs.Taking.{IsTaken};
 ghost use Rattle.cert_text.specs.LinearLines.{next_stage, next_dual, next_unit, linear_next};
 
-use crate::fields::{behind, dual_in};
+use crate::entries::dual_in;
 use crate::signed_lists::{unit_in, weights_in};
+use line_text::behind;
 use lk_model::{Dual, List, OutOfMemory, Stage, Unit};
 use std::alloc::Global;
 

@@ -2,12 +2,13 @@
 ghost use Rattle.std.specs.Prelude.{◌≡◌, IfOk, map};
 ghost use Rattle.lk_model.specs.declared.document.Own.{Own};
 ghost use Rattle.lk_model.specs.declared.document.MatchRow.{MatchRow};
-ghost use Rattle.cert_text.specs.Fields.{fields};
-ghost use Rattle.cert_text.specs.LastVars.{last_or};
-ghost use Rattle.cert_text.specs.Taking.{IsTaken};
+ghost use Rattle.line_text.specs.Fields.{fields};
+ghost use Rattle.line_text.specs.LastVars.{last_or};
+ghost use Rattle.line_text.specs.Taking.{IsTaken};
 ghost use Rattle.cert_text.specs.MatchingLines.{next_own, next_row, matching_next};
 
-use crate::fields::{behind, own_in, row_in};
+use crate::entries::{own_in, row_in};
+use line_text::behind;
 use lk_model::{List, MatchRow, OutOfMemory, Own};
 
 /// The own clauses, and behind them the rows.

@@ -2,13 +2,13 @@
 ghost use Rattle.std.specs.Prelude.{◌≡◌, ◌≤◌, IfOk, map};
 ghost use Rattle.lk_model.specs.Limits.{max_vars};
 ghost use Rattle.lk_model.specs.declared.document.Pair.{Pair};
-ghost use Rattle.cert_text.specs.Fields.{fields};
-ghost use Rattle.cert_text.specs.LastVars.{last_or};
-ghost use Rattle.cert_text.specs.Taking.{IsTaken};
+ghost use Rattle.line_text.specs.Fields.{fields};
+ghost use Rattle.line_text.specs.LastVars.{last_or};
+ghost use Rattle.line_text.specs.Taking.{IsTaken};
 ghost use Rattle.cert_text.specs.PureLines.{next_order, next_pair, pure_next};
 
-use crate::fields::{behind, pair_in};
-use crate::lists::literals_in;
+use crate::entries::pair_in;
+use line_text::{behind, literals_in};
 use lk_model::{List, Lit, OutOfMemory, Pair};
 use std::alloc::Global;
 

@@ -1,8 +1,9 @@
 //! Reading documents.
-ghost use Rattle.std.specs.Prelude.{◌≡◌, ◌<◌, IfOk, IfErr, false};
+ghost use Rattle.std.specs.Prelude.{◌≡◌, ◌<◌, IfOk, IfErr, false, length};
 ghost use Rattle.lk_model.specs.declared.document.Document.TheVariants.{Done, Unfinished};
 ghost use Rattle.cert_text.specs.Parts.{is_finished};
-ghost use Rattle.cert_text.specs.Drafts.{done_by, open_by, finished, fresh_draft};
+ghost use Rattle.cert_text.specs.Drafts.{done_by, open_by, finished, fresh_draft, lines_read};
+ghost use Rattle.cert_text.specs.Completing.{IsCompletedBy, IsRead};
 ghost use Rattle.lk_model.specs.Documents.Reading.{IsTextOf};
 ghost use Rattle.cert_text.specs.ReadTexts.{IsStopAt};
 
@@ -10,12 +11,37 @@ use crate::draft::{Draft, LineDue};
 use crate::part::{Part, body_of, is_finished, rounds_of};
 use crate::read_pure::PurePart;
 use crate::steps::{clause_count, take_line};
+use line_text::{LineReader, read_lines};
 use lk_model::{
     Document, DoneDocument, Formula, FormulaError, List, OpenClause, OpenDocument, OutOfMemory,
     ReadStop,
 };
-use lk_text::next_line;
 use std::alloc::Global;
+
+/// What was read of a document, and the clause that grows while a clause line is read.
+#[derive(Drop)]
+struct DocumentReader {
+    draft: Draft,
+    growing: OpenClause,
+}
+
+impl LineReader for DocumentReader {
+    type Value = Document;
+
+    ghost fits = { λ r. IsRead r.draft r.growing };
+
+    ghost count = { λ r. length (lines_read r.draft) };
+
+    ghost completes = { λ r. IsCompletedBy r.draft };
+
+    fn take(&mut self, alloc: Global, line: &[u8]) -> Result<bool, OutOfMemory> {
+        take_line(alloc, &mut self.draft, &mut self.growing, line)
+    }
+
+    fn finish(self) -> Result<Option<Document>, OutOfMemory> {
+        finish(self.draft)
+    }
+}
 
 /// The document that has this text. Other bytes are refused with the first line in which no document's
 /// text can go on, counted from 1. A last line without its byte 10 is such a line; where the text ends too
@@ -24,24 +50,11 @@ pub fn read(alloc: Global, bytes: &[u8]) -> Result<Document, ReadStop>
     ensures document { IfOk result (IsTextOf bytes.now) }
     ensures stop { IfErr result (IsStopAt bytes.now) }
 {
-    let mut draft = fresh(alloc)?;
-    let mut growing = OpenClause::new(alloc, 0)?;
-    let mut from = 0;
-    let mut number = 0u64;
-    while let Some(cut) = next_line(bytes, from) {
-        number += 1;
-        if cut.end == bytes.len() {
-            return Err(ReadStop::Line(number));
-        }
-        if !take_line(alloc, &mut draft, &mut growing, &bytes[cut.begin..cut.end])? {
-            return Err(ReadStop::Line(number));
-        }
-        from = cut.next;
-    }
-    match finish(draft)? {
-        Some(document) => Ok(document),
-        None => Err(ReadStop::Line(number + 1)),
-    }
+    let reader = DocumentReader {
+        draft: fresh(alloc)?,
+        growing: OpenClause::new(alloc, 0)?,
+    };
+    read_lines(alloc, reader, bytes)
 }
 
 /// The document of a draft, if all its lines were read.

@@ -1,12 +1,12 @@
 //! Lists of signed numbers, each behind the number of a variable or a position, that the word 0 closes.
 ghost use Rattle.std.specs.Prelude.{◌≡◌, ◌+◌, [], IfOk};
 ghost use Rattle.lk_model.specs.Texts.NumberWords.{plain_number};
-ghost use Rattle.cert_text.specs.Fields.{fields, if_weight, number_within};
-ghost use Rattle.cert_text.specs.FieldLists.{twos};
+ghost use Rattle.line_text.specs.Fields.{fields, number_within};
+ghost use Rattle.cert_text.specs.Entries.{if_weight};
+ghost use Rattle.line_text.specs.FieldLists.{twos};
 ghost use Rattle.cert_text.specs.LinearLines.{weight_by, share_by, weight_within, share_within, unit_within};
 
-use crate::fields::{first_field, number_above};
-use crate::lists::CLOSING;
+use line_text::{CLOSING, first_field, number_above};
 use lk_model::{List, OutOfMemory, Share, Unit, Weight};
 use lk_text::read_plain;
 use std::alloc::Global;

@@ -1,14 +1,16 @@
 //! One line more of a document.
 ghost use Rattle.std.specs.Prelude.{◌≡◌, ◌≤◌, IfOk, true};
 ghost use Rattle.lk_model.specs.Limits.{max_vars, max_clauses};
-ghost use Rattle.cert_text.specs.Fields.{fields};
+ghost use Rattle.line_text.specs.Fields.{fields};
 ghost use Rattle.cert_text.specs.Drafts.{clause_count, due_then, due_first, is_problem, next_format, next_sizes, next_protect, next_keep, next_set, next_learned, next_body, next_clause, next_draft, protect_of, format_words};
-ghost use Rattle.cert_text.specs.Taking.{IsReady, IsReadyAgain, IsSmall, IsTaken};
+ghost use Rattle.cert_text.specs.Taking.{IsReady, IsReadyAgain, IsSmall};
+ghost use Rattle.line_text.specs.Taking.{IsTaken};
 
 use crate::draft::{Draft, LineDue};
-use crate::fields::{behind, first_field, one_number, two_numbers};
-use crate::lists::{literals_in, numbers_in, read_clause};
 use crate::part::{Part, is_finished, may_end, part_of, take_part};
+use line_text::{
+    behind, first_field, literals_in, numbers_in, one_number, read_clause, two_numbers,
+};
 use lk_model::{Formula, FormulaError, List, MAX_CLAUSES, MAX_VARS, OpenClause, OutOfMemory};
 use std::alloc::Global;
 

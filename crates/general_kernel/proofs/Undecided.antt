@@ -32,7 +32,8 @@ use Rattle.learning_laws.proofs.Conflicts.{clause_of_held, held_false}
 use Rattle.learning_laws.proofs.Levels.{path_of, path_up_to}
 use Rattle.learning_laws.proofs.TrailLaws.{trail_law}
 use Rattle.cdcl_core.specs.Decision.{MeetsConflict}
-use Rattle.general_kernel.proofs.States.{round_of}
+use Rattle.general_kernel.proofs.Needed.{round_of}
+use Rattle.general_kernel.proofs.States.{}
 
 -- THE CLAUSES
 

@@ -10,39 +10,30 @@ ghost use Rattle.std.specs.Prelude.{◌≡◌, ◌<◌, ◌^◌, length, IfOk, I
 ghost use Rattle.lk_model.specs.Formulas.Lean.{are_positions};
 ghost use Rattle.lk_model.specs.Formulas.Formula.{variable_occurs};
 ghost use Rattle.lk_model.specs.Held.PartialValues.{assignment_by};
-ghost use Rattle.general_kernel.specs.Found.{IsFound};
+ghost use Rattle.kernel_laws.specs.General.Found.{IsFound};
 ghost use Rattle.general_kernel.specs.SetLiterals.{literals_on};
 
 use crate::blocking::{add_variables, covered};
 use crate::rounds::Rounds;
 use crate::setting::literals_on;
 use cdcl_core::{Decided, decide};
-use lk_model::{Crossed, Formula, GeneralResult, List, Lit, OutOfMemory, Round, VarSet};
+use lk_model::{
+    Budget, Crossed, Formula, General, GeneralResult, List, Lit, OutOfMemory, Round, VarSet,
+};
 use partial_assign::Partial;
 use std::alloc::Global;
 
-/// What is found of the general kernel in a part.
-#[derive(Drop)]
-pub enum General {
-    /// The kernel, with literals that satisfy the other clauses of the part, and trimmed rounds, of which none is needless.
-    Done(GeneralResult),
-    /// Whole rounds and an open one that is not at its end, with as many learned clauses as were allowed.
-    Unfinished(List<Round>),
-}
-
 /// Looks for the general kernel in the part of a formula at some positions, which ascend and count from 1, by at most so
-/// many learned clauses, from 1 to 2^63 - 1. The steps are numbered from the formula's number of clauses plus 1. It ends
+/// many learned clauses. The steps are numbered from the formula's number of clauses plus 1. It ends
 /// unfinished only where conflicts is below n * 3^n for the n variables of the formula. The error is that there is no
 /// memory.
 pub fn general_kernel(
     alloc: Global,
     f: &Formula,
     part: &[u32],
-    conflicts: u64,
+    conflicts: Budget,
 ) -> Result<General, OutOfMemory>
     requires part { IsTrue (are_positions f.now part.now) }
-    requires some { 0 < conflicts }
-    requires most { conflicts < 2 ^ 63 }
     ensures { IfOk result (IsFound f.now part.now conflicts) }
 {
     let mut rounds = Rounds::new(alloc, f, conflicts)?;
@@ -52,7 +43,7 @@ pub fn general_kernel(
             return Ok(General::Done(GeneralResult {
                 kept,
                 set: List::new(alloc),
-                rounds: rounds.trimmed,
+                rounds: rounds.trimmed(alloc)?,
             }));
         }
         if rounds.left == 0 {
@@ -70,12 +61,12 @@ pub fn general_kernel(
                 return Ok(General::Done(GeneralResult {
                     kept,
                     set: set_of(alloc, f, part, &values)?,
-                    rounds: rounds.trimmed,
+                    rounds: rounds.trimmed(alloc)?,
                 }));
             }
             Decided::Refuted(log) => {
                 let used = log.used(&over)?;
-                rounds.push(alloc, log)?;
+                rounds.push(log)?;
                 add_variables(f, used.as_slice(), &mut rounds.blocked);
             }
             Decided::Stopped(log) => {
@@ -85,8 +76,8 @@ pub fn general_kernel(
     }
 }
 
-// The true literals on the variables of the part, ascending.
-fn set_of(
+/// The true literals on the variables of the part of a formula at some positions, ascending by variable.
+pub fn set_of(
     alloc: Global,
     f: &Formula,
     part: &[u32],

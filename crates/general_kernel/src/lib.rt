@@ -6,4 +6,4 @@ mod general;
 mod rounds;
 mod setting;
 
-pub use general::{General, general_kernel};
+pub use general::{general_kernel, set_of};

@@ -1,17 +1,18 @@
 //! What a command gives.
-ghost use Rattle.std.specs.Prelude.{◌<◌, ◌^◌, ◌↔◌, IfOk, IsTrue};
+ghost use Rattle.std.specs.Prelude.{IfOk, IsTrue};
 ghost use Rattle.lk_model.specs.Formulas.Lean.{are_positions};
 
-use lk_model::Formula;
+use lk_model::{Budget, Formula};
 use lk_samples::{has_part, positions};
 use std::alloc::Global;
 use std::test::Fail;
 
-/// Whether so many clauses may be allowed.
-pub(crate) fn is_budget(conflicts: u64) -> bool
-    ensures { IsTrue result ↔ ((0 < conflicts) × (conflicts < 2 ^ 63)) }
-{
-    0 < conflicts && conflicts < 1 << 63
+/// The budget of so many learned clauses.
+pub(crate) fn budget_of(conflicts: u64) -> Result<Budget, Fail> {
+    match Budget::new(conflicts) {
+        Some(budget) => Ok(budget),
+        None => Err(Fail::from("no budget")),
+    }
 }
 
 /// The part that a text has, or all positions where it is blank.

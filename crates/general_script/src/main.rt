@@ -13,7 +13,7 @@
 mod given;
 mod telling;
 
-use crate::given::{is_budget, part_of};
+use crate::given::{budget_of, part_of};
 use crate::telling::put;
 use general_kernel::general_kernel;
 use lk_samples::formula_of_text;
@@ -31,10 +31,7 @@ fn tell_part(
 ) -> Result<(), Fail> {
     let f = formula_of_text(alloc, n, texts.0)?;
     let part = part_of(alloc, &f, texts.1)?;
-    if !is_budget(conflicts) {
-        return Err(Fail::from("no budget"));
-    }
-    let found = general_kernel(alloc, &f, part.as_slice(), conflicts)?;
+    let found = general_kernel(alloc, &f, part.as_slice(), budget_of(conflicts)?)?;
     Ok(put(&found, whole, out)?)
 }
 

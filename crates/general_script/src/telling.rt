@@ -1,6 +1,5 @@
 //! What is found, as lines.
-use general_kernel::General;
-use lk_model::{Lit, Round, Step, Turn};
+use lk_model::{General, Lit, Round, Step, Turn};
 use std::alloc::AllocError;
 
 /// Writes the numbers of literals.

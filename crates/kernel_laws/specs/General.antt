@@ -8,3 +8,4 @@ pub mod PartLaw
 pub mod ForeignLaw
 pub mod GeneralResults
 pub mod OpenResults
+pub mod Found

@@ -12,7 +12,7 @@ use Rattle.lk_model.specs.Checks.CommonChecks.{kept_clause}
 use Rattle.lk_model.specs.declared.document.DoneDocument.{DoneDocument}
 use Rattle.lk_model.proofs.Rising.{rises, rising_bounds}
 use Rattle.lean_checker.specs.Common.{is_changed_line}
-use Rattle.lean_checker.proofs.KeptFlags.{find_to}
+use Rattle.check_tables.proofs.KeptFlags.{find_to}
 
 -- the clause line of a position is not the formula's clause
 abbrev pub is_changed : Cnf → DoneDocument → ℕ → Bool

@@ -23,7 +23,7 @@ use Rattle.lk_model.specs.declared.document.Document.TheVariants.{Unfinished}
 use Rattle.lk_model.specs.declared.verdict.Kind.TheVariants.{OtherFormula, KeptClause, BadCount, BadStep, NotLearned}
 use Rattle.lk_model.specs.declared.verdict.Why.{Why}
 use Rattle.lk_model.proofs.Booleans.{and_true}
-use Rattle.lean_checker.specs.Learned.{are_open_but_last}
+use Rattle.check_rounds.specs.Learned.{are_open_but_last}
 use Rattle.kernel_laws.proofs.Protected.Crossing.{same_count, same_positions}
 use Rattle.kernel_laws.proofs.Protected.Rounds.{bad_step_same, not_learned_same}
 use Rattle.lean_checker.specs.Unfinished.{HasOpenSizes, text_checks, step_checks}

@@ -1,17 +1,5 @@
 pub mod Verdicts
 pub mod Accepted
 pub mod Lines
-pub mod LiteralSets
-pub mod Flags
-pub mod Order
-pub mod Pairs
-pub mod Matching
-pub mod Linear
-pub mod Places
 pub mod Common
-pub mod Blocking
-pub mod Chains
-pub mod Index
-pub mod Learned
-pub mod Steps
 pub mod Unfinished

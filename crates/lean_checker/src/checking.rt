@@ -12,16 +12,14 @@ ghost use Rattle.lean_checker.specs.Accepted.{HasSizes, IsReducedBy, IsSoundBy};
 
 use crate::common::{failure, first_common, marks_of, other_formula};
 use crate::general::general_failure;
-use crate::linear::{bad_balance, bad_dual, bad_sign, bad_stage};
-use crate::matching::{bad_owner, bad_row};
-use crate::order::bad_order;
-use crate::pairs::bad_pair;
-use crate::places::Workers;
 use crate::protected::{protected_set, without_protected};
 use crate::shared::{kept_clause, not_autarky, not_exactly_removed};
 use crate::unfinished::open_failure;
-use crate::units::bad_unit;
 use crate::verdict::Verdict;
+use check_lines::{
+    bad_balance, bad_dual, bad_order, bad_owner, bad_pair, bad_row, bad_sign, bad_stage, bad_unit,
+};
+use check_tables::Workers;
 use lk_model::{
     Body, Document, DoneDocument, Dual, Formula, Kind, Lit, MatchRow, OutOfMemory, Own, Pair,
     Stage, Unit, Why,

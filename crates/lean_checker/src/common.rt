@@ -1,6 +1,5 @@
 //! The checks of every finished document, each in one pass.
 ghost use Rattle.std.specs.Prelude.{◌≡◌, ◌≤◌, ◌<◌, length, IfOk, IsTrue};
-ghost use Rattle.lk_model.specs.Lists.{rises_within};
 ghost use Rattle.lk_model.specs.Formulas.Literal.{is_same_list};
 ghost use Rattle.lk_model.specs.Formulas.Formula.{clause_at, is_formula};
 ghost use Rattle.lk_model.specs.Formulas.Lean.{are_positions};
@@ -10,9 +9,10 @@ ghost use Rattle.lk_model.specs.Documents.Form.{is_done_in_form};
 ghost use Rattle.lk_model.specs.Checks.Check.{first_of};
 ghost use Rattle.lk_model.specs.Checks.CommonChecks.{other_formula, kept_clause, not_exactly_removed};
 ghost use Rattle.lean_checker.specs.Accepted.{HasSizes};
-ghost use Rattle.lean_checker.specs.Flags.{AreKeptFlags, is_flagged, is_misplaced};
-ghost use Rattle.lean_checker.specs.Common.{common_checks};
+ghost use Rattle.check_tables.specs.Flags.{AreKeptFlags, is_flagged};
+ghost use Rattle.lean_checker.specs.Common.{common_checks, is_misplaced};
 
+use check_tables::kept_flags;
 use lk_model::{DoneDocument, Formula, Kind, Lit, OutOfMemory, Why};
 use partial_assign::{Partial, assignment_of};
 use std::alloc::Global;
@@ -50,18 +50,6 @@ pub(crate) fn is_same_list(one: &[Lit], other: &[Lit]) -> bool
     ensures { result ≡ is_same_list one.now other.now }
 {
     one == other
-}
-
-/// Which of the positions from 1 to m are kept.
-pub(crate) fn kept_flags(alloc: Global, m: u32, kept: &[u32]) -> Result<Vec<bool>, OutOfMemory>
-    requires { IsTrue (rises_within 0 m kept.now) }
-    ensures { IfOk result (λ flags. AreKeptFlags m kept.now flags.items) }
-{
-    let mut flags = vec![in alloc; false; m as usize]?;
-    for p in kept {
-        flags[*p as usize - 1] = true;
-    }
-    Ok(flags)
 }
 
 /// The first position whose clause is touched and kept, or neither.

@@ -7,10 +7,9 @@ ghost use Rattle.lk_model.specs.Checks.Checks.{class_checks};
 ghost use Rattle.lk_model.specs.declared.document.Body.TheVariants.{General};
 ghost use Rattle.lean_checker.specs.Accepted.{HasSizes};
 
-use crate::blocking::{blocks_of, not_blocked};
-use crate::chains::bad_step;
 use crate::common::failure;
-use crate::places::Workers;
+use check_rounds::{bad_step, blocks_of, not_blocked};
+use check_tables::Workers;
 use lk_model::{DoneDocument, Formula, Kind, OutOfMemory, Round, Why};
 use par_parts::Gate;
 use std::alloc::Global;

@@ -6,11 +6,10 @@ ghost use Rattle.lk_model.specs.Formulas.Lean.{are_positions};
 ghost use Rattle.lk_model.specs.Held.PartialValues.{assignment_by};
 ghost use Rattle.lk_model.specs.Checks.CommonChecks.{kept_clause, not_exactly_removed};
 ghost use Rattle.lean_checker.specs.Common.{is_changed_line};
-ghost use Rattle.lean_checker.specs.Flags.{AreKeptFlags};
+ghost use Rattle.check_tables.specs.Flags.{AreKeptFlags};
 
 use crate::common::{is_misplaced, is_same_list};
-use crate::matching::number_at;
-use crate::places::Workers;
+use check_tables::{Workers, number_at};
 use lk_model::{DoneDocument, Formula, OutOfMemory};
 use par_parts::Gate;
 use partial_assign::Partial;

@@ -13,15 +13,13 @@ ghost use Rattle.lk_model.specs.Checks.RoundChecks.{learned_steps};
 ghost use Rattle.lk_model.specs.declared.document.Document.TheVariants.{Unfinished};
 ghost use Rattle.lk_model.specs.declared.document.Step.{Step as AStep};
 ghost use Rattle.lk_model.specs.declared.document.Round.{Round as ARound};
-ghost use Rattle.lean_checker.specs.Learned.{are_open_but_last};
+ghost use Rattle.check_rounds.specs.Learned.{are_open_but_last};
 ghost use Rattle.lean_checker.specs.Unfinished.{HasOpenSizes, text_checks, step_checks};
 
-use crate::blocking::blocks_of;
-use crate::chains::bad_step;
 use crate::common::{failure, is_same_list, other_formula};
-use crate::learned::not_learned;
-use crate::places::Workers;
 use crate::protected::without_protected;
+use check_rounds::{bad_step, blocks_of, not_learned};
+use check_tables::Workers;
 use lk_model::{Formula, Kind, OpenDocument, OutOfMemory, Round, Step, Why};
 use par_parts::Gate;
 use std::alloc::Global;

@@ -9,7 +9,7 @@ use lk_model::{Kind, Why};
 use std::marker::Model;
 
 /// What the checks say of a document and a formula.
-#[derive(Clone, Copy, PartialEq, Eq, Debug)]
+#[derive(Clone, Copy, PartialEq, Eq)]
 pub enum Verdict {
     /// A finished document without a failing check.
     Accepted,
@@ -20,7 +20,7 @@ pub enum Verdict {
 }
 
 /// A line of text: the first `len` of the bytes, with byte 10 at the end. The other bytes are 0.
-#[derive(Clone, Copy, Debug)]
+#[derive(Clone, Copy)]
 pub struct VerdictText {
     pub bytes: [u8; 64],
     pub len: usize,

@@ -1,6 +1,7 @@
 //! The types and the definitions that the other crates share.
 #![tactic(auto)]
 
+mod budget;
 mod class;
 mod crossed;
 mod document;
@@ -16,6 +17,7 @@ mod text_fault;
 mod verdict;
 mod wide;
 
+pub use budget::Budget;
 pub use class::Class;
 pub use crossed::{Crossed, VarSet};
 pub use document::{
@@ -28,7 +30,7 @@ pub use list::{List, OutOfMemory};
 pub use lit::{Lit, makes_clause};
 pub use lit_table::LitTable;
 pub use open_clause::OpenClause;
-pub use result::{GeneralResult, LinearResult, MatchingResult, MusResult, PureResult};
+pub use result::{General, GeneralResult, LinearResult, MatchingResult, MusResult, PureResult};
 pub use text_fault::{Fault, FaultKind};
 pub use verdict::{Kind, ReadStop, Why};
 pub use wide::{Op, Wide};

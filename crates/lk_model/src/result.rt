@@ -40,6 +40,15 @@ pub struct GeneralResult {
     pub rounds: List<Round>,
 }
 
+/// How a search for a general kernel ends.
+#[derive(Drop)]
+pub enum General {
+    /// With the kernel, literals that satisfy the other clauses, and trimmed rounds, of which none is needless.
+    Done(GeneralResult),
+    /// With its budget used up: whole rounds, and an open one that is not at its end.
+    Unfinished(List<Round>),
+}
+
 /// What is found of a minimally unsatisfiable core: its positions, a refutation by chains over its clauses
 /// alone, and for each of its positions literals that satisfy every other clause of the core.
 #[derive(Drop)]

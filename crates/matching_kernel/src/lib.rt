@@ -1,6 +1,8 @@
-//! The matching kernel of a part of a formula, with owners and rows (Kullmann 2003).
+//! The matching kernel of a part of a formula, with owners and rows (Kullmann 2003), and what owners make true.
 #![tactic(auto)]
 
 mod kernel;
+mod set_line;
 
 pub use kernel::matching_kernel;
+pub use set_line::set_of_own;

@@ -9,8 +9,8 @@
 mod spelled;
 
 use crate::spelled::bytes_of;
-use cert_text::read_model;
 use lk_model::{Lit, ReadStop};
+use model_text::read_model;
 use partial_assign::Partial;
 use std::alloc::{AllocError, Global};
 use std::test::Fail;

@@ -6,30 +6,28 @@
 ghost use Rattle.std.specs.Prelude.{◌≡◌, ◌<◌, ◌^◌, length, IfOk, IsTrue};
 ghost use Rattle.lk_model.specs.Formulas.Formula.{Cnf, is_formula, positions_of};
 ghost use Rattle.lk_model.specs.Formulas.Lean.{are_positions};
-ghost use Rattle.general_kernel.specs.Found.{IsFound};
+ghost use Rattle.kernel_laws.specs.General.Found.{IsFound};
 ghost use Rattle.renaming_laws.specs.Renaming.{IsDense};
 ghost use Rattle.part_formula.specs.Names.{AreNames};
 
 use crate::dense::dense_formula;
 use crate::names::names_of;
 use crate::renaming::Renaming;
-use general_kernel::{General, general_kernel};
-use lk_model::{Formula, OutOfMemory};
+use general_kernel::general_kernel;
+use lk_model::{Budget, Formula, General, OutOfMemory};
 use std::alloc::Global;
 
 /// What `general_kernel` finds in the part of a formula at some positions, which ascend and count from 1, by
-/// at most so many learned clauses, from 1 to 2^63 - 1. Variables, positions and steps have the formula's
+/// at most so many learned clauses. Variables, positions and steps have the formula's
 /// numbers. Time and memory are those of the part's clauses. The error is that there is no memory; more steps
 /// than have numbers of 64 bits count as that.
 pub fn kernel_of_part(
     alloc: Global,
     f: &Formula,
     part: &[u32],
-    conflicts: u64,
+    conflicts: Budget,
 ) -> Result<General, OutOfMemory>
     requires part { IsTrue (are_positions f.now part.now) }
-    requires some { 0 < conflicts }
-    requires most { conflicts < 2 ^ 63 }
     ensures { IfOk result (IsFound f.now part.now conflicts) }
 {
     let clauses = u64::from(f.len());

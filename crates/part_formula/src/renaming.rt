@@ -56,8 +56,8 @@ impl<'a> Renaming<'a> {
         Lit::from_var(nth(self.names, u64::from(l.var())), l.positive())
     }
 
-    // The literals, renamed.
-    fn literals(&self, literals: List<Lit>) -> List<Lit>
+    /// The literals, renamed.
+    pub fn literals(&self, literals: List<Lit>) -> List<Lit>
         requires names { IsTrue (rises_within 0 max_vars self.now.names.now) }
         requires within { IsTrue (list_all (is_literal (length self.now.names.now)) literals) }
         ensures { result ≡ map (named self.now.names.now) literals }
@@ -111,6 +111,18 @@ impl<'a> Renaming<'a> {
         Ok(Round {
             steps: List::from_vec(steps),
         })
+    }
+
+    /// The round, renamed, where it is the only one. Its steps are to have numbers of 64 bits.
+    pub fn only(&self, alloc: Global, round: Round) -> Result<Round, OutOfMemory>
+        requires names { IsTrue (rises_within 0 max_vars self.now.names.now) }
+        requires within { IsTrue (is_round_within (length self.now.names.now) round) }
+        ensures round { IfOk result (λ r. r ≡ renamed_round self.now.clauses self.now.part.now self.now.names.now round) }
+        ensures numbers { IfOk result (λ r. self.now.clauses + length round.steps < 2 ^ 64) }
+    {
+        let count = round.steps.len() as u64;
+        let _last = self.clauses.checked_add(count).ok_or(OutOfMemory)?;
+        self.round(alloc, round)
     }
 
     /// The rounds, renamed. Their steps are to have numbers of 64 bits.

@@ -12,9 +12,9 @@ use Rattle.round_laws.specs.Budgets.{IsFinished, AreFinished}
 use Rattle.round_laws.proofs.RoundLaws.{round_law}
 use Rattle.autarky_compose.specs.JoinedGeneral.{AreJoined as AreJoinedOver}
 use Rattle.autarky_compose.proofs.GeneralLaws.{joined_general_law, joined_in}
-use Rattle.general_kernel.specs.Found.{IsDone, IsFound, IsUnfinished}
-use Rattle.general_kernel.specs.declared.general.General.{General}
-use Rattle.general_kernel.specs.declared.general.General.TheVariants.{Done, Unfinished}
+use Rattle.kernel_laws.specs.General.Found.{IsDone, IsFound, IsUnfinished}
+use Rattle.lk_model.specs.declared.result.General.{General}
+use Rattle.lk_model.specs.declared.result.General.TheVariants.{Done, Unfinished}
 use Rattle.part_kernels.specs.ByParts.{AreFound, done, IsFirstOf, CanBeDone, IsFoundWhole, IsFirstUnfinished, IsFoundByParts}
 
 -- no rounds

@@ -11,8 +11,8 @@ use Rattle.lk_model.proofs.Literals.{same_int, int_self}
 use Rattle.lk_model.proofs.Rising.{rises}
 use Rattle.kernel_laws.specs.General.GeneralResults.{AreJoined}
 use Rattle.autarky_compose.proofs.Orders.{same_rising}
-use Rattle.general_kernel.specs.declared.general.General.{General}
-use Rattle.general_kernel.specs.declared.general.General.TheVariants.{Done, Unfinished}
+use Rattle.lk_model.specs.declared.result.General.{General}
+use Rattle.lk_model.specs.declared.result.General.TheVariants.{Done, Unfinished}
 use Rattle.part_kernels.specs.ByParts.{done, IsMadeOf, MadeLaw}
 
 -- LITERALS THAT ASCEND

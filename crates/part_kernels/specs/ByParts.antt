@@ -11,9 +11,9 @@ use Rattle.lk_model.specs.declared.result.GeneralResult.{GeneralResult}
 use Rattle.kernel_laws.specs.General.GeneralResults.{IsGeneralResult, AreJoined}
 use Rattle.kernel_laws.specs.General.JoinLaw.{IsApart}
 use Rattle.round_laws.specs.Budgets.{AreWithinBudget}
-use Rattle.general_kernel.specs.Found.{IsDone, IsUnfinished, IsFound}
-use Rattle.general_kernel.specs.declared.general.General.{General}
-use Rattle.general_kernel.specs.declared.general.General.TheVariants.{Done, Unfinished}
+use Rattle.kernel_laws.specs.General.Found.{IsDone, IsUnfinished, IsFound}
+use Rattle.lk_model.specs.declared.result.General.{General}
+use Rattle.lk_model.specs.declared.result.General.TheVariants.{Done, Unfinished}
 
 -- one answer for each of these parts
 abbrev pub AreFound : Cnf → ℕ → List (List ℕ) → List General → Type 0

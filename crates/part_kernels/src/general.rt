@@ -3,33 +3,24 @@
 //! Parts share no variable, so each has its kernel by itself, and what rounds over one part show they show
 //! over the whole formula.
 ghost use Rattle.std.specs.Prelude.{◌≡◌, ◌<◌, ◌≤◌, ◌^◌, map, Ok, IfOk, IsTrue};
+ghost use Rattle.std.specs.ControlFlow.{MatchControlFlow};
 ghost use Rattle.std.specs.List.{AllByRecursion};
 ghost use Rattle.lk_model.specs.Formulas.Lean.{are_positions};
 ghost use Rattle.lk_model.specs.Formulas.Parts.{IsPart};
-ghost use Rattle.general_kernel.specs.Found.{IsFound};
-ghost use Rattle.part_kernels.specs.ByParts.{AreFound, IsFoundByParts};
-ghost use Rattle.part_kernels.specs.Gathered.{IsGathered};
+ghost use Rattle.kernel_laws.specs.General.Found.{IsFound};
+ghost use Rattle.part_kernels.specs.ByParts.{AreFound, done, IsFirstOf, IsFoundByParts};
 
 use autarky_compose::join_general;
-use general_kernel::General;
-use lk_model::{Formula, GeneralResult, List, OutOfMemory, Round};
+use lk_model::{Budget, Formula, General, GeneralResult, List, OutOfMemory, Round};
 use par_parts::{Gate, map_halves, parts};
 use part_formula::kernel_of_part;
 use std::alloc::Global;
 use std::marker::Sync;
+use std::ops::ControlFlow;
 use std::thread::Threads;
 
-/// What is found in all parts.
-#[derive(Drop)]
-enum Gathered {
-    /// Their kernels.
-    All(List<GeneralResult>),
-    /// The rounds of the first part that is not finished.
-    First(List<Round>),
-}
-
 /// The general kernel of a formula with literals that satisfy its other clauses and trimmed rounds, by at
-/// most so many learned clauses for each part, from 1 to 2^63 - 1, and at most so many threads. Where parts
+/// most so many learned clauses for each part, and at most so many threads. Where parts
 /// are not finished: the rounds of the first of them, whole ones and an open one, untrimmed. Steps are
 /// numbered from the formula's number of clauses plus 1. With two workers or more and two parts or more a
 /// left half of the parts enters the gate as 0 and a right half as 1, each before it is worked on; else none
@@ -44,19 +35,17 @@ pub fn general_by_parts<R: Threads + Sync, G: Gate>(
     alloc: Global,
     gate: &G,
     f: &Formula,
-    conflicts: u64,
+    conflicts: Budget,
     workers: u32,
 ) -> Result<General, OutOfMemory>
-    requires some { 0 < conflicts }
-    requires most { conflicts < 2 ^ 63 }
     requires workers { 1 ≤ workers }
     ensures { IfOk result (IsFoundByParts f.now conflicts) }
 {
     let list = parts(alloc, f)?;
     let answers = answers(rt, alloc, gate, f, list.as_slice(), conflicts, workers)?;
     match gather(alloc, answers)? {
-        Gathered::All(found) => Ok(General::Done(join_general(alloc, f.len(), found)?)),
-        Gathered::First(rounds) => Ok(General::Unfinished(rounds)),
+        ControlFlow::Continue(found) => Ok(General::Done(join_general(alloc, f.len(), found)?)),
+        ControlFlow::Break(rounds) => Ok(General::Unfinished(rounds)),
     }
 }
 
@@ -67,12 +56,10 @@ fn answers<R: Threads + Sync, G: Gate>(
     gate: &G,
     f: &Formula,
     list: &[List<u32>],
-    conflicts: u64,
+    conflicts: Budget,
     workers: u32,
 ) -> Result<List<General>, OutOfMemory>
     requires parts { AllByRecursion (IsPart f.now) list.now }
-    requires some { 0 < conflicts }
-    requires most { conflicts < 2 ^ 63 }
     requires workers { 1 ≤ workers }
     ensures { IfOk result (AreFound f.now conflicts list.now) }
 {
@@ -92,11 +79,9 @@ fn kernel_of(
     alloc: Global,
     f: &Formula,
     part: &List<u32>,
-    conflicts: u64,
+    conflicts: Budget,
 ) -> Result<General, OutOfMemory>
     requires part { IsPart f.now part.now }
-    requires some { 0 < conflicts }
-    requires most { conflicts < 2 ^ 63 }
     ensures { IfOk result (IsFound f.now part.now conflicts) }
 {
     kernel_of_part(alloc, f, part.as_slice(), conflicts)
@@ -117,15 +102,18 @@ fn all_answered(
 }
 
 // The kernels, or the first rounds that are not finished.
-fn gather(alloc: Global, answers: List<General>) -> Result<Gathered, OutOfMemory>
-    ensures { IfOk result (IsGathered answers) }
+fn gather(
+    alloc: Global,
+    answers: List<General>,
+) -> Result<ControlFlow<List<Round>, List<GeneralResult>>, OutOfMemory>
+    ensures { IfOk result (λ flow. MatchControlFlow flow (λ found. answers ≡ done found) (IsFirstOf answers)) }
 {
     let mut found = List::new(alloc);
     for answer in answers.into_vec() {
         match answer {
             General::Done(r) => found.push(r)?,
-            General::Unfinished(rounds) => return Ok(Gathered::First(rounds)),
+            General::Unfinished(rounds) => return Ok(ControlFlow::Break(rounds)),
         }
     }
-    Ok(Gathered::All(found))
+    Ok(ControlFlow::Continue(found))
 }

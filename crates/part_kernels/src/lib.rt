@@ -6,7 +6,6 @@ mod laws;
 mod matching;
 
 pub use general::general_by_parts;
-pub use general_kernel::General;
 pub use laws::made_law;
 pub use matching::matching_by_parts;
 pub use par_parts::Gate;

@@ -1,7 +1,7 @@
 //! General kernels of parts, found in formulas of their own and in the whole formula.
 ghost use Rattle.std.specs.Prelude.{◌≤◌};
 
-use crate::general::is_budget;
+use crate::general::budget_of;
 use crate::telling::text_of;
 use general_kernel::general_kernel;
 use lk_model::Formula;
@@ -11,6 +11,15 @@ use part_formula::kernel_of_part;
 use std::alloc::Global;
 use std::test::Fail;
 
+/// The numbers that a text has.
+pub(crate) fn numbers(alloc: Global, text: &str) -> Result<Vec<u32>, Fail> {
+    let mut numbers: Vec<u32> = Vec::new(alloc);
+    for word in text.split_whitespace() {
+        numbers.push(word.parse().unwrap_or(0))?;
+    }
+    Ok(numbers)
+}
+
 /// What is found in a part by itself, as lines, and whether the same is found in the whole formula.
 fn found_alone(
     alloc: Global,
@@ -18,9 +27,10 @@ fn found_alone(
     part: &[u32],
     conflicts: u64,
 ) -> Result<(String, bool), Fail> {
-    if !has_part(f, part) || !is_budget(conflicts) {
-        return Err(Fail::from("no part, or no budget"));
+    if !has_part(f, part) {
+        return Err(Fail::from("no part"));
     }
+    let conflicts = budget_of(conflicts)?;
     let text = text_of(alloc, &kernel_of_part(alloc, f, part, conflicts)?)?;
     let whole = text_of(alloc, &general_kernel(alloc, f, part, conflicts)?)?;
     let same = text == whole;
@@ -36,10 +46,7 @@ pub(crate) fn tell_alone(
     out: &mut String,
 ) -> Result<(), Fail> {
     let f = formula_of_text(alloc, n, texts.0)?;
-    let mut part: Vec<u32> = Vec::new(alloc);
-    for word in texts.1.split_whitespace() {
-        part.push(word.parse().unwrap_or(0))?;
-    }
+    let part = numbers(alloc, texts.1)?;
     let (text, same) = found_alone(alloc, &f, &part, conflicts)?;
     write!(out, "{text}= the same {same}\n")?;
     Ok(())

@@ -1,22 +1,23 @@
 //! General kernels of formulas, found by parts.
-ghost use Rattle.std.specs.Prelude.{◌<◌, ◌≤◌, ◌^◌, ◌↔◌, IsTrue};
+ghost use Rattle.std.specs.Prelude.{◌≤◌};
 
 use crate::telling::text_of;
 use gate_samples::Meeting;
-use lk_model::Formula;
+use lk_model::{Budget, Formula, General};
 use lk_outside::OpenGate;
 use lk_samples::formula_of_text;
 use par_parts::Gate;
-use part_kernels::{General, general_by_parts};
+use part_kernels::general_by_parts;
 use std::alloc::Global;
 use std::test::Fail;
 use std::thread::Threads;
 
-/// Whether so many clauses may be learned.
-pub(crate) fn is_budget(conflicts: u64) -> bool
-    ensures { IsTrue result ↔ ((0 < conflicts) × (conflicts < 2 ^ 63)) }
-{
-    0 < conflicts && conflicts < 1 << 63
+/// The budget of so many learned clauses.
+pub(crate) fn budget_of(conflicts: u64) -> Result<Budget, Fail> {
+    match Budget::new(conflicts) {
+        Some(budget) => Ok(budget),
+        None => Err(Fail::from("no budget")),
+    }
 }
 
 /// What so many workers find.
@@ -30,9 +31,7 @@ pub(crate) fn found<R: Threads + Sync, G: Gate>(
 ) -> Result<General, Fail>
     requires workers { 1 ≤ workers }
 {
-    if !is_budget(conflicts) {
-        return Err(Fail::from("no budget"));
-    }
+    let conflicts = budget_of(conflicts)?;
     Ok(general_by_parts(rt, alloc, gate, f, conflicts, workers)?)
 }
 

@@ -24,6 +24,8 @@
 //! - `alone N C; CLAUSES; POSITIONS` tells what is found so in the part at these positions, in a formula of its
 //!   own, and whether the same is found in the whole formula.
 //! - `alone-drawn N C` compares the two for each part of so many drawn formulas.
+//! - `decide N C; CLAUSES; POSITIONS` tells whether the clauses at these positions have a model, as found by at
+//!   most C learned clauses: its literals, a refutation, or a round that stopped.
 //! - `squares N C` tells of parts of four clauses over two of N variables each, where N + 1 is a prime, whose
 //!   numbers are scattered, how much is kept by how many rounds and steps, whether two workers find the same,
 //!   and compares one part of each 20 as `alone` does.
@@ -33,6 +35,7 @@
 #![tactic(auto)]
 
 mod alone;
+mod deciding;
 mod formulas;
 mod general;
 mod halves;
@@ -42,6 +45,7 @@ mod squares;
 mod telling;
 
 use crate::alone::{tell_alone, tell_drawn_alone};
+use crate::deciding::tell_decision;
 use crate::formulas::{tell_chain, tell_drawn, tell_groups, tell_parts, tell_units, tell_without};
 use crate::general::{tell_general, tell_meeting};
 use crate::halves::tell_halves;
@@ -76,6 +80,7 @@ fn tell<R: Threads + Sync>(
         "general" => tell_general(rt, alloc, number, conflicts, others, out),
         "general-workers" => tell_meeting(rt, alloc, number, conflicts, others, out),
         "alone" => tell_alone(alloc, number, conflicts, texts, out),
+        "decide" => tell_decision(alloc, number, conflicts, texts, out),
         "alone-drawn" => tell_drawn_alone(alloc, number, conflicts, out),
         "squares" => tell_squares(rt, alloc, number, conflicts, out),
         "fours" => tell_fours(rt, alloc, number, out),

@@ -1,6 +1,6 @@
 //! What is found of general kernels, as lines.
-use lk_model::{Lit, Round, Step};
-use part_kernels::General;
+use lk_model::{General, Lit, Round, Step};
+use part_formula::Decision;
 use std::alloc::{AllocError, Global};
 
 /// Writes the numbers of literals.
@@ -52,6 +52,25 @@ fn put_found(found: &General, out: &mut String) -> Result<(), AllocError> {
         General::Unfinished(rounds) => {
             out.push_str("= unfinished\n")?;
             put_rounds(rounds.as_slice(), out)
+        }
+    }
+}
+
+/// Writes what is decided: the literals of a model, or a round.
+pub(crate) fn put_decision(decision: &Decision, out: &mut String) -> Result<(), AllocError> {
+    match decision {
+        Decision::Model(set) => {
+            out.push_str("= model")?;
+            put_literals(set.as_slice(), out)?;
+            out.push('\n')
+        }
+        Decision::Refuted(round) => {
+            out.push_str("= refuted\n")?;
+            put_round(round, out)
+        }
+        Decision::Stopped(round) => {
+            out.push_str("= stopped\n")?;
+            put_round(round, out)
         }
     }
 }

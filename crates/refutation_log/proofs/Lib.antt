@@ -8,7 +8,6 @@ pub mod Marking
 pub mod Renumbering
 pub mod Keeping
 pub mod Trimming
-pub mod Used
 pub mod ChainNames
 pub mod KeptNames
 pub mod TrimmedLaws

@@ -1,5 +1,5 @@
--- The new numbers of kept steps, and the positions that chains name.
-use Rattle.std.specs.Prelude.{◌≡◌, ℕ, ◌+◌, ◌-◌, ◌<◌, Bool, if◌then◌else◌, nat_lt, nat_le, ◌&&◌, List, [], ◌∷◌, ◌++◌, length, filter, take, count_by, slice_index, slice_index_or, false}
+-- The new numbers of kept steps, and the numbers that chains name.
+use Rattle.std.specs.Prelude.{◌≡◌, ℕ, ◌+◌, ◌-◌, ◌<◌, Bool, if◌then◌else◌, nat_lt, List, length, take, count_by, slice_index, slice_index_or, false}
 use Rattle.std.specs.List.{list_any}
 use Rattle.lk_model.specs.Lists.{among}
 use Rattle.lk_model.specs.Chains.Chain.{names_of}
@@ -17,15 +17,6 @@ is_marked first marks s = slice_index_or marks (s.number - first) false
 pub record AreNewNumbers (kept : List Bool) (next : ℕ) (numbers : List ℕ) : Type 0 where
   pub count : length numbers ≡ length kept
   pub each : (i : ℕ) → i < length kept → slice_index numbers i ≡ next + count_by (λ b. b) (take i kept)
-
--- the number is that of a position, up to a last one
-abbrev pub is_position : ℕ → ℕ → Bool
-is_position last k = nat_lt 0 k && nat_le k last
-
--- the positions that the chains of steps name, as they come
-abbrev pub positions_named : ℕ → List Step → List ℕ
-positions_named last [] = []
-positions_named last (s ∷ steps) = filter (is_position last) (names_of s) ++ positions_named last steps
 
 -- the chain of one of the steps names the number
 abbrev pub is_named : List Step → ℕ → Bool

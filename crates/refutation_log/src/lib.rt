@@ -5,7 +5,6 @@ mod axioms;
 mod chain_clause;
 mod laws;
 mod log;
-mod names;
 mod numbers;
 mod reach;
 mod work;

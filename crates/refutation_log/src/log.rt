@@ -17,8 +17,8 @@ ghost use Rattle.refutation_log.specs.Derivation.{next_number, clause_of_step, l
 ghost use Rattle.refutation_log.specs.Trimmed.{trimmed, names_positions_below};
 ghost use Rattle.refutation_log.specs.SameClause.{IsSameClause};
 
+use crate::axioms::positions_used;
 use crate::chain_clause::FlaggedClause;
-use crate::names::named_positions;
 use crate::numbers::{kept_steps, new_numbers};
 use crate::reach::marks_of;
 use crate::work::Work;
@@ -56,6 +56,19 @@ impl Log {
         Log {
             first: next,
             steps: Vec::new(alloc),
+            flagged: FlaggedClause::new(alloc),
+        }
+    }
+
+    /// The log whose steps, numbered from `first` on, are those of a round, as `into_round` gives them.
+    pub fn from_round(alloc: Global, first: u64, round: Round) -> Log
+        requires log { IsLog first round.steps }
+        ensures first { result.first ≡ first }
+        ensures steps { result.steps ≡ round.steps }
+    {
+        Log {
+            first,
+            steps: round.steps.into_vec(),
             flagged: FlaggedClause::new(alloc),
         }
     }
@@ -136,13 +149,7 @@ impl Log {
         requires { length over.now.formula.now.clauses < self.now.first }
         ensures { IfOk result (λ ps. ps ≡ used_positions over.now.formula.now (record { steps = self.now.steps })) }
     {
-        let alloc = *self.steps.allocator();
-        let marks = marks_of(alloc, 0, self.first, &self.steps)?;
-        let last = over.formula.len();
-        let mut positions = named_positions(alloc, last, self.first, &self.steps, &marks.steps)?;
-        positions.sort_unstable();
-        positions.dedup();
-        Ok(List::from_vec(positions))
+        positions_used(*self.steps.allocator(), over, self.first, &self.steps)
     }
 
     /// All steps.

@@ -19,7 +19,7 @@ use Rattle.kernel_laws.proofs.General.Reaching.{is_misstated}
 use Rattle.kernel_laws.proofs.General.Learning.{is_unlearned}
 use Rattle.kernel_laws.proofs.General.JoinLaws.{misstated_none, none_misstated}
 use Rattle.kernel_laws.proofs.General.Renumbering.{among_renumbered}
-use Rattle.general_kernel.specs.Found.{IsDone, IsUnfinished}
+use Rattle.kernel_laws.specs.General.Found.{IsDone, IsUnfinished}
 use Rattle.renaming_laws.proofs.Mapped.{map_twice, from_mapped, rises_by, rises_mapped}
 use Rattle.renaming_laws.proofs.RenamedClauses.{literal_on}
 use Rattle.renaming_laws.proofs.RenamedChains.{round_under, IsCopied, Agrees, misstated_renamed, unlearned_renamed}
@@ -41,7 +41,7 @@ rounds_under ν f rounds = map (round_under (literal_on ν) f) rounds
 -- ROUNDS
 
 -- rounds that state their clauses do under the new numbers
-stated_copied : (F G : Cnf) (ν f : ℕ → ℕ) → IsCopy F G ν f → (P : List ℕ) (rounds : List Round) → (bad_step no_variable G P rounds).place ≡ None
+pub stated_copied : (F G : Cnf) (ν f : ℕ → ℕ) → IsCopy F G ν f → (P : List ℕ) (rounds : List Round) → (bad_step no_variable G P rounds).place ≡ None
     → (bad_step no_variable F (map f P) (rounds_under ν f rounds)).place ≡ None
 stated_copied F G ν f copy P rounds e =
     none_misstated F no_variable (map f P) (rounds_under ν f rounds)

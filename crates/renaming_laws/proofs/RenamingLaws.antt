@@ -1,23 +1,31 @@
 -- What is found in all of a formula that has a part's clauses is, told in the numbers of the whole formula, found in the part.
-use Rattle.std.proofs.Common.{◌≡◌, ℕ, ◌+◌, ◌^◌, ◌<◌, ◌≤◌, true, List, sym, subst, map, length, arith}
+use Rattle.std.proofs.Common.{◌≡◌, ℕ, ◌+◌, ◌^◌, ◌<◌, ◌≤◌, ◌∙◌, true, None, List, [], ◌∷◌, refl, sym, ap, subst, map, length, arith}
 use Rattle.std.specs.List.{list_all}
+use Rattle.std.proofs.lemmas.Bool.{and_from}
+use Rattle.std.proofs.lemmas.List.{append-nil}
 use Rattle.lk_model.specs.Lists.{rises_within}
 use Rattle.lk_model.specs.Formulas.Literal.{variable}
 use Rattle.lk_model.specs.Formulas.Formula.{Cnf, positions_of}
 use Rattle.lk_model.specs.Formulas.Lean.{are_positions}
+use Rattle.lk_model.specs.Formulas.Crossed.{no_variable}
 use Rattle.lk_model.specs.Documents.Documents.{steps_of}
-use Rattle.lk_model.specs.Documents.Form.{counts_from, is_step, are_steps}
+use Rattle.lk_model.specs.Documents.Form.{counts_from, is_step, is_whole, are_steps}
+use Rattle.lk_model.specs.Checks.RoundChecks.{bad_step, learned_steps}
+use Rattle.lk_model.specs.Chains.Rounds.{AreNeeded}
+use Rattle.kernel_laws.specs.General.RefutationLaw.{IsRefutation}
 use Rattle.lk_model.specs.declared.document.Step.{Step}
 use Rattle.lk_model.specs.declared.document.Round.{Round}
 use Rattle.lk_model.specs.declared.result.GeneralResult.{GeneralResult}
 use Rattle.lk_model.proofs.Booleans.{and_true}
 use Rattle.lk_model.proofs.Rising.{rising_count}
-use Rattle.general_kernel.specs.Found.{IsDone, IsUnfinished}
+use Rattle.kernel_laws.specs.General.Found.{IsDone, IsUnfinished}
 use Rattle.renaming_laws.specs.Renaming.{nth, named, renamed_round, renamed_result, IsDense, RenamingLaw}
 use Rattle.renaming_laws.proofs.RenamedClauses.{literal_on}
 use Rattle.renaming_laws.proofs.Copies.{variable_in, place_in, part_length, copied, in_order, part_copied}
 use Rattle.renaming_laws.proofs.Telling.{set_told, kept_told, rounds_told}
-use Rattle.renaming_laws.proofs.CopiedResults.{IsCopy, rounds_under, result_under, done_copied, unfinished_copied}
+use Rattle.renaming_laws.proofs.RenamedForms.{are_steps_renamed, wholes_renamed, learned_count}
+use Rattle.renaming_laws.proofs.CopiedResults.{IsCopy, rounds_under, result_under, stated_copied, done_copied, unfinished_copied}
+use Rattle.renaming_laws.proofs.RenamedSearches.{needed_renamed}
 
 -- the part has a copy
 copy : (F G : Cnf) (part names : List ℕ) → are_positions F part ≡ true → IsDense F part names G → IsCopy F G (variable_in F names) (place_in F part)
@@ -63,9 +71,51 @@ unfinished F G part names conflicts rounds rise dense fits h =
     subst (λ (qs : List Round). IsUnfinished F part conflicts qs) (sym (rounds_in F G part names dense rounds h.result.steps))
     (subst (λ (ps : List ℕ). IsUnfinished F ps conflicts (rounds_under (variable_in F names) (place_in F part) rounds)) (part_copied F G part names dense) found)
 
+-- ROUNDS BY THEMSELVES
+
+-- a refutation of all of it
+refuted : (F G : Cnf) (part names : List ℕ) (r : Round) → are_positions F part ≡ true → IsDense F part names G
+    → length F.clauses + length r.steps < 2 ^ 64 → IsRefutation G (positions_of G) r → IsRefutation F part (renamed_round (length F.clauses) part names r)
+refuted F G part names r rise dense fits h =
+    let ν = variable_in F names in
+    let f = place_in F part in
+    let m = length F.clauses in
+    let both = copy F G part names rise dense in
+    let one = sym (append-nil r.steps) in
+    let steps = subst (λ (us : List Step). are_steps G.vars (length G.clauses) us ≡ true) one h.steps in
+    let is : rounds_under ν f (r ∷ []) ≡ renamed_round m part names r ∷ [] = sym (rounds_in F G part names dense (r ∷ []) steps) in
+    record {
+      steps = subst (λ (us : List Step). are_steps F.vars m us ≡ true) (append-nil (renamed_round m part names r).steps)
+          (subst (λ (qs : List Round). are_steps F.vars m (steps_of qs) ≡ true) is
+          (are_steps_renamed G.vars F.vars (length G.clauses) m ν (literal_on ν) f both.order (r ∷ []) (subst (λ (us : List Step). m + length us < 2 ^ 64) one fits) steps));
+      whole = (and_true (is_whole (renamed_round m part names r)) true
+          (subst (λ (qs : List Round). list_all is_whole qs ≡ true) is (wholes_renamed (literal_on ν) f (r ∷ []) ∙ and_from (is_whole r) true h.whole refl))).0;
+      stated = subst (λ (qs : List Round). (bad_step no_variable F part qs).place ≡ None) is
+          (subst (λ (ps : List ℕ). (bad_step no_variable F ps (rounds_under ν f (r ∷ []))).place ≡ None) (part_copied F G part names dense)
+          (stated_copied F G ν f both (positions_of G) (r ∷ []) h.stated));
+    }
+
+needed : (F G : Cnf) (part names : List ℕ) (rounds : List Round) → are_positions F part ≡ true → IsDense F part names G
+    → are_steps G.vars (length G.clauses) (steps_of rounds) ≡ true → AreNeeded G no_variable rounds
+    → AreNeeded F no_variable (map (renamed_round (length F.clauses) part names) rounds)
+needed F G part names rounds rise dense e h =
+    let ν = variable_in F names in
+    subst (λ (qs : List Round). AreNeeded F no_variable qs) (sym (rounds_in F G part names dense rounds e))
+    (needed_renamed F G ν (literal_on ν) (place_in F part) (copied F G part names rise dense) no_variable no_variable (λ v. refl) rounds h)
+
+learned : (F G : Cnf) (part names : List ℕ) (rounds : List Round) → IsDense F part names G
+    → are_steps G.vars (length G.clauses) (steps_of rounds) ≡ true
+    → length (learned_steps (map (renamed_round (length F.clauses) part names) rounds)) ≡ length (learned_steps rounds)
+learned F G part names rounds dense e =
+    ap (λ (qs : List Round). length (learned_steps qs)) (rounds_in F G part names dense rounds e)
+    ∙ learned_count (literal_on (variable_in F names)) (place_in F part) rounds
+
 -- all of it
 pub renaming_law : RenamingLaw
 renaming_law = record {
   done = λ F G part names conflicts r form rise dense fits h. done F G part names conflicts r rise dense fits h;
   unfinished = λ F G part names conflicts rounds form rise dense fits h. unfinished F G part names conflicts rounds rise dense fits h;
+  refuted = refuted;
+  needed = needed;
+  learned = learned;
 }

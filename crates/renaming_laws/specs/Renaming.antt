@@ -5,12 +5,17 @@ use Rattle.lk_model.specs.Lists.{rises_within}
 use Rattle.lk_model.specs.Formulas.Literal.{variable, is_positive, literal_of}
 use Rattle.lk_model.specs.Formulas.Formula.{Cnf, is_formula, positions_of, clauses_at}
 use Rattle.lk_model.specs.Formulas.Lean.{are_positions}
+use Rattle.lk_model.specs.Formulas.Crossed.{no_variable}
 use Rattle.lk_model.specs.Documents.Documents.{steps_of}
+use Rattle.lk_model.specs.Documents.Form.{are_steps}
+use Rattle.lk_model.specs.Checks.RoundChecks.{learned_steps}
+use Rattle.lk_model.specs.Chains.Rounds.{AreNeeded}
+use Rattle.kernel_laws.specs.General.RefutationLaw.{IsRefutation}
 use Rattle.lk_model.specs.declared.document.Turn.{Turn}
 use Rattle.lk_model.specs.declared.document.Step.{Step}
 use Rattle.lk_model.specs.declared.document.Round.{Round}
 use Rattle.lk_model.specs.declared.result.GeneralResult.{GeneralResult}
-use Rattle.general_kernel.specs.Found.{IsDone, IsUnfinished}
+use Rattle.kernel_laws.specs.General.Found.{IsDone, IsUnfinished}
 
 -- what stands at a place that counts from 1
 abbrev pub nth : List ℕ → ℕ → ℕ
@@ -53,6 +58,7 @@ renamed_result m part names r = record {
 }
 
 -- What is found in all of G is, told in the numbers of F, what is found in the part. The numbers of the steps have 64 bits.
+-- So it is with a refutation of all of G, with rounds of which nothing is needless, and with the number of learned clauses.
 pub record RenamingLaw : Type 0 where
   pub done : (F G : Cnf) (part names : List ℕ) (conflicts : ℕ) (r : GeneralResult) → IsTrue (is_formula F) → IsTrue (are_positions F part)
       → IsDense F part names G → length F.clauses + length (steps_of r.rounds) < 2 ^ 64
@@ -60,3 +66,12 @@ pub record RenamingLaw : Type 0 where
   pub unfinished : (F G : Cnf) (part names : List ℕ) (conflicts : ℕ) (rounds : List Round) → IsTrue (is_formula F) → IsTrue (are_positions F part)
       → IsDense F part names G → length F.clauses + length (steps_of rounds) < 2 ^ 64
       → IsUnfinished G (positions_of G) conflicts rounds → IsUnfinished F part conflicts (map (renamed_round (length F.clauses) part names) rounds)
+  pub refuted : (F G : Cnf) (part names : List ℕ) (r : Round) → IsTrue (are_positions F part)
+      → IsDense F part names G → length F.clauses + length r.steps < 2 ^ 64
+      → IsRefutation G (positions_of G) r → IsRefutation F part (renamed_round (length F.clauses) part names r)
+  pub needed : (F G : Cnf) (part names : List ℕ) (rounds : List Round) → IsTrue (are_positions F part)
+      → IsDense F part names G → IsTrue (are_steps G.vars (length G.clauses) (steps_of rounds))
+      → AreNeeded G no_variable rounds → AreNeeded F no_variable (map (renamed_round (length F.clauses) part names) rounds)
+  pub learned : (F G : Cnf) (part names : List ℕ) (rounds : List Round) → IsDense F part names G
+      → IsTrue (are_steps G.vars (length G.clauses) (steps_of rounds))
+      → length (learned_steps (map (renamed_round (length F.clauses) part names) rounds)) ≡ length (learned_steps rounds)

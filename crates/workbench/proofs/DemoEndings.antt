@@ -23,9 +23,9 @@ use Rattle.demo_formula.specs.Demo.{demo_formula}
 use Rattle.workbench.specs.Commands.Demonstrating.{conflicts, rows_of, Answers, WritesDemo, IsCheckedSize}
 use Rattle.workbench.specs.Commands.GeneralReducing.{conflicts_line}
 use Rattle.workbench.specs.Commands.Reporting.{IsKernelSize, row_line}
-use Rattle.workbench.specs.Founds.{document_of, open_document_of, IsFoundFor}
-use Rattle.workbench.specs.Settings.{Options, options_by}
-use Rattle.workbench.specs.declared.document.Found.{Found}
+use Rattle.reductions.specs.Founds.{document_of, open_document_of, IsFoundFor, IsKernelFound}
+use Rattle.command_words.specs.Settings.{Options, options_by}
+use Rattle.reductions.specs.declared.document.Found.{Found}
 use Rattle.workbench.specs.declared.ending.Ending.{Ending}
 use Rattle.workbench.specs.declared.status.Status.{Status}
 use Rattle.workbench.specs.declared.status.Status.TheVariants.{Budget}
@@ -45,10 +45,10 @@ general_size F found r =
     (subst (λ (class : Class). ReducesBy no_variable class F found.kept (assignment_of found.set)) r.class_is r.reduction)
 
 -- the lines of a formula that is the number's
-pub writes_demo : (number matching : ℕ) (F : Cnf) (found : Found) (text : List ℕ) → F ≡ demo_formula number → IsTrue (is_formula F) → IsWithinLimits F → IsFoundFor General F found → IsKernelSize Matching F matching
+pub writes_demo : (number matching : ℕ) (F : Cnf) (found : Found) (text : List ℕ) → F ≡ demo_formula number → IsTrue (is_formula F) → IsWithinLimits F → IsKernelFound F conflicts found → IsKernelSize Matching F matching
     → text ≡ flat_map row_line (rows_of number matching (length found.kept)) ++ line (verdict_words Accepted) → WritesDemo number text
 writes_demo number matching F found text is form limits h size told =
-    let r = reduces_formula F found form limits h in
+    let r = reduces_formula F found form limits h.kernel in
     record {
       matching = matching;
       general = length found.kept;
@@ -59,6 +59,8 @@ writes_demo number matching F found text is form limits h size told =
         class_is = r.class_is;
         accepted = accepted_verdict F (document_of F None found) r.accepted;
         size_is = refl;
+        needed = h.needed;
+        budget = h.budget;
       });
       written_is = told;
     }

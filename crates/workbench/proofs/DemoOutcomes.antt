@@ -1,31 +1,30 @@
 -- What the clauses of a run come to for the command `demo`.
-use Rattle.std.proofs.Common.{◌≡◌, ◌∙◌, ℕ, ◌<◌, ◌^◌, Bool, true, cond, List, [], ◌∷◌, Option, Some, None, refl, ap, sym, subst, arith}
+use Rattle.std.proofs.Common.{◌≡◌, ◌∙◌, ℕ, ◌<◌, ◌^◌, ◌-◌, Bool, true, cond, List, [], ◌∷◌, Option, Some, None, refl, ap, sym, subst, arith}
 use Rattle.std.specs.Prelude.{codes, IsTrue, nat_eq, nat_le}
 use Rattle.std.specs.List.{list_any}
 use Rattle.std.proofs.lemmas.Bool.{and_from, le-leb}
 use Rattle.lk_model.specs.Texts.Lines.{Word}
 use Rattle.lk_model.specs.Texts.NumberWords.{natural}
-use Rattle.workbench.specs.Commands.Demonstrating.{numbers}
 use Rattle.workbench.specs.DemoOutcomes.{DemoOutcomes}
 use Rattle.workbench.specs.Endings.{Shelved, Takes, Allows, DeservesStop, HasReadFault}
-use Rattle.workbench.specs.Lawful.{Request, request_of}
-use Rattle.workbench.specs.Settings.{number_within, options_by}
+use Rattle.command_words.specs.Lawful.{Request, request_of}
+use Rattle.command_words.specs.Settings.{number_within, numbers_from, options_by}
 use Rattle.workbench.specs.Statuses.{code}
-use Rattle.workbench.specs.declared.command.Command.TheVariants.{Demo}
+use Rattle.command_words.specs.declared.command.Command.TheVariants.{Demo}
 use Rattle.workbench.specs.declared.status.Status.{Status}
 use Rattle.workbench.specs.declared.status.Status.TheVariants.{Done, Words, Input, ReadFault, WriteFault, Budget, TooWide, TooLarge, Refused, Memory}
-use Rattle.workbench.proofs.CommandTable.{is_of}
+use Rattle.command_words.proofs.CommandTable.{is_of}
 use Rattle.workbench.proofs.Outcomes.{result_of, result_at}
 
 -- what is asked for
 abbrev demo_request : ℕ → Request
 demo_request number = record { command = Demo; names = []; options = record (options_by []) { number = number } }
 
-within : (word : Word) (number : ℕ) → natural word ≡ Some number → number < 2 ^ 64 → number_within numbers (natural word) ≡ Some number
+within : (word : Word) (number : ℕ) → natural word ≡ Some number → number < 2 ^ 64 → number_within (numbers_from 0 (2 ^ 64 - 1)) (natural word) ≡ Some number
 within word number e few =
     let low : nat_le 0 number ≡ true = le-leb 0 number (omega arith) in
     let high : nat_le number 18446744073709551615 ≡ true = le-leb number 18446744073709551615 (omega (arith, few)) in
-    ap (number_within numbers) e ∙ ap (λ (b : Bool). cond b (Some number) None) (and_from (nat_le 0 number) (nat_le number 18446744073709551615) low high)
+    ap (number_within (numbers_from 0 (2 ^ 64 - 1))) e ∙ ap (λ (b : Bool). cond b (Some number) None) (and_from (nat_le 0 number) (nat_le number 18446744073709551615) low high)
 
 asked : (word : Word) (number : ℕ) → natural word ≡ Some number → number < 2 ^ 64 → request_of (codes "demo" ∷ word ∷ []) ≡ Some (demo_request number)
 asked word number e few = is_of Demo (word ∷ []) ∙ rw (within word number e few) refl

@@ -6,19 +6,20 @@ use Rattle.lk_model.specs.Texts.Lines.{Word}
 use Rattle.lk_model.specs.declared.list.OutOfMemory.{OutOfMemory}
 use Rattle.lk_outside.specs.Causes.{Rose}
 use Rattle.cert_text.specs.ReadTexts.{IsOfOneDocument, StopsNowhere}
-use Rattle.workbench.specs.Commands.{inputs_of, Answers}
+use Rattle.command_words.specs.Shapes.{inputs_of}
+use Rattle.workbench.specs.Commands.{Answers}
 use Rattle.workbench.specs.Endings.{Shelved, Sunk, Takes, TakesBoth, IsCutIn, Ends, IsCutOff, EndsQuietly, IsResult, DeservesStop, HasReadFault, Tells, Allows, HasValues, IsDecidedFor, IsDecided, IsUnlessFailed, StopsAsRead, StopsAt, ReadsNothing, IsWell}
-use Rattle.workbench.specs.Inputs.{Told, Values, IsFirstBad, IsFailure}
-use Rattle.workbench.specs.Lawful.{Request, request_of}
+use Rattle.command_inputs.specs.Inputs.{nothing_known, Told, Values, IsFirstBad, IsFailure}
+use Rattle.command_words.specs.Lawful.{Request, request_of}
 use Rattle.workbench.specs.Statuses.{code, is_result}
-use Rattle.workbench.specs.Stops.{status_of, line_of}
+use Rattle.workbench.specs.StopLines.{status_of, line_of}
 use Rattle.workbench.specs.declared.ending.Ending.{Ending}
 use Rattle.workbench.specs.declared.status.Status.{Status}
 use Rattle.workbench.specs.declared.status.Status.TheVariants as status
-use Rattle.workbench.specs.declared.stop.Stop.{Stop}
-use Rattle.workbench.specs.declared.stop.Stop.TheVariants as stop
+use Rattle.command_inputs.specs.declared.stop.Stop.{Stop}
+use Rattle.command_inputs.specs.declared.stop.Stop.TheVariants as stop
 use Rattle.workbench.proofs.CommandTable.{one_status}
-use Rattle.workbench.proofs.InputLaws.{one_reading, none_bad, none_stops}
+use Rattle.command_inputs.proofs.InputLaws.{one_reading, none_bad, none_stops}
 
 -- WHAT IS ALLOWED
 
@@ -88,18 +89,18 @@ result_decided once None told s decided written said h d = absurd h
 result_decided once (Some request) told s decided written said h d = inl (ap code (by (decided_by request told decided d) d))
   where
     by : (decided ≡ status.Input) ⊎ HasValues request told decided → IsDecidedFor request told decided → s ≡ decided
-    by (inl e) d = absurd (none_bad once told 0 (inputs_of request.command) request.names h.values h.read (subst (IsDecidedFor request told) e d))
+    by (inl e) d = absurd (none_bad once told nothing_known (inputs_of request.command) request.names h.values h.read (subst (IsDecidedFor request told) e d))
     by (inr v) d =
-        let same = one_reading once told 0 (inputs_of request.command) request.names h.values v.values v.told_all h.read v.read in
+        let same = one_reading once told nothing_known (inputs_of request.command) request.names h.values v.values v.told_all h.read v.read in
         one_status request.command request.options v.values decided s written said v.decides (subst (λ (values : Values (inputs_of request.command)). Answers request.command request.options values s written said) same h.answers)
 
 -- a bad input has status 2
-bad_decided : IsOfOneDocument → StopsNowhere → (request : Request) (told : Told) (s : Stop) (decided : Status) → IsFirstBad told 0 (inputs_of request.command) request.names s → IsDecidedFor request told decided → decided ≡ status.Input
+bad_decided : IsOfOneDocument → StopsNowhere → (request : Request) (told : Told) (s : Stop) (decided : Status) → IsFirstBad told nothing_known (inputs_of request.command) request.names s → IsDecidedFor request told decided → decided ≡ status.Input
 bad_decided once never request told s decided h d = by (decided_by request told decided d)
   where
     by : (decided ≡ status.Input) ⊎ HasValues request told decided → decided ≡ status.Input
     by (inl e) = e
-    by (inr v) = absurd (none_stops once never told 0 (inputs_of request.command) request.names v.values s v.told_all v.read h)
+    by (inr v) = absurd (none_stops once never told nothing_known (inputs_of request.command) request.names v.values s v.told_all v.read h)
 
 -- so is that of a stop, unless a call or memory failed
 pub stop_decided : {ShelfFailed SinkFailed : Type 0} → IsOfOneDocument → StopsNowhere → (words : List Word) (told : Told) (ailing : Bool) (current : Option (List ℕ)) (s : Stop) (decided : Status) → StopsAt words told ailing current s → (s ≡ stop.Read → ShelfFailed) → IsDecided (request_of words) told decided → IsUnlessFailed (code (status_of s)) decided ShelfFailed SinkFailed

@@ -15,10 +15,10 @@ use Rattle.lk_model.specs.declared.verdict.Why.{Why}
 use Rattle.workbench.specs.Commands.Extending as extend
 use Rattle.workbench.specs.Commands.Extending.{Outcome, Open, Fails, Extends, extension, outcome_by, outcome_of, outcome_status, written_of, said_of}
 use Rattle.workbench.specs.Endings.{Takes, IsDecided}
-use Rattle.workbench.specs.Lawful.{Request}
+use Rattle.command_words.specs.Lawful.{Request}
 use Rattle.workbench.specs.Outcomes.{IsFormulaText, IsNoFormulaText, IsNoDocumentText, IsExtendedTo, IsNotExtended, IsUnfinished, IsNoModelText, ExtendOutcomes}
 use Rattle.workbench.specs.Statuses.{code}
-use Rattle.workbench.specs.declared.command.Command.TheVariants.{Extend}
+use Rattle.command_words.specs.declared.command.Command.TheVariants.{Extend}
 use Rattle.workbench.specs.declared.status.Status.{Status}
 use Rattle.workbench.specs.declared.status.Status.TheVariants.{Done, Input, Budget, Refused}
 use Rattle.workbench.proofs.Extensions.{accepted_extends}

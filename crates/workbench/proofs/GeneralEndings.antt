@@ -28,16 +28,16 @@ use Rattle.kernel_laws.proofs.Protected.Parts.{run_law}
 use Rattle.round_laws.specs.Budgets.{AreWithinBudget, CanBeFinished}
 use Rattle.round_laws.proofs.RoundLaws.{round_law}
 use Rattle.part_kernels.specs.ByParts.{CanBeDone, IsFirstUnfinished}
-use Rattle.workbench.specs.Commands.GeneralReducing.{IsEnough, WritesFinished, WritesUnfinished, rounds_in, conflicts_line, Writes, Answers}
-use Rattle.workbench.specs.Founds.{document_of, open_document_of, IsKernelFound}
-use Rattle.workbench.specs.Protecting.{line_of, left_of, IsProblem}
-use Rattle.workbench.specs.Settings.{Options}
-use Rattle.workbench.specs.declared.document.Found.{Found}
-use Rattle.workbench.specs.declared.problem.Problem.{Problem}
+use Rattle.workbench.specs.Commands.GeneralReducing.{IsEnough, WritesFinished, WritesUnfinished, conflicts_line, Writes, Answers}
+use Rattle.reductions.specs.Founds.{document_of, open_document_of, rounds_in, IsKernelFound}
+use Rattle.reductions.specs.Protecting.{line_of, left_of, IsProblem}
+use Rattle.command_words.specs.Settings.{Options}
+use Rattle.reductions.specs.declared.document.Found.{Found}
+use Rattle.reductions.specs.declared.problem.Problem.{Problem}
 use Rattle.workbench.specs.declared.status.Status.{Status}
 use Rattle.workbench.specs.declared.status.Status.TheVariants.{Done, Budget}
-use Rattle.workbench.proofs.Founds.{limits_left}
-use Rattle.workbench.proofs.Protecting.{line_form}
+use Rattle.reductions.proofs.Founds.{limits_left}
+use Rattle.reductions.proofs.Protecting.{line_form}
 
 -- WHERE ALL OF THE KERNEL IS FOUND
 

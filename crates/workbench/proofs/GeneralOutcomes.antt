@@ -12,15 +12,16 @@ use Rattle.dimacs_reader.specs.Faults.{refusal_by, refusal_of}
 use Rattle.workbench.specs.Commands.GeneralReducing.{WritesFinished, WritesUnfinished, Writes}
 use Rattle.workbench.specs.Endings.{Takes, IsDecided}
 use Rattle.workbench.specs.GeneralOutcomes.{ReducesWithin, StopsShort, GeneralOutcomes}
-use Rattle.workbench.specs.Inputs.{Formula, IsRefusal, IsFirstBad}
-use Rattle.workbench.specs.Lawful.{Request}
-use Rattle.workbench.specs.Settings.{Options}
+use Rattle.command_words.specs.declared.shape.Grammar.TheVariants.{Formula}
+use Rattle.command_inputs.specs.Inputs.{nothing_known, IsRefusal, IsFirstBad}
+use Rattle.command_words.specs.Lawful.{Request}
+use Rattle.command_words.specs.Settings.{Options}
 use Rattle.workbench.specs.Statuses.{code}
 use Rattle.workbench.specs.declared.status.Status.{Status}
 use Rattle.workbench.specs.declared.status.Status.TheVariants as status
 use Rattle.workbench.specs.declared.status.Status.TheVariants.{Done, Budget, Input}
-use Rattle.workbench.specs.declared.stop.Stop.{Stop}
-use Rattle.workbench.specs.declared.stop.Stop.TheVariants as stop
+use Rattle.command_inputs.specs.declared.stop.Stop.{Stop}
+use Rattle.command_inputs.specs.declared.stop.Stop.TheVariants as stop
 use Rattle.workbench.proofs.Outcomes.{result_of, input_of, only, not_spelled}
 
 -- WHAT A STATUS TELLS
@@ -61,7 +62,7 @@ pub short_stops : (text : List ℕ) (options : Options) (written : List ℕ) →
 short_stops text options written h = record { formula = h.formula; spells = h.spells; unfinished = h.writes.unfinished; part = h.writes.part; is_part = h.writes.is_part; names = h.writes.names }
 
 -- a text that is refused has a fault
-faulty : (told : Option (List ℕ)) (s : Stop) → IsRefusal Formula 0 told s → IfSome told (λ bytes. fault_of bytes ≢ None)
+faulty : (told : Option (List ℕ)) (s : Stop) → IsRefusal Formula nothing_known told s → IfSome told (λ bytes. fault_of bytes ≢ None)
 faulty None s h = tt
 faulty (Some bytes) (stop.Formula r) h = λ none. let no : refusal_of bytes ≡ None = ap (option_map refusal_by) none in let f : ⊥ = cc (no, h) in f
 faulty (Some bytes) (stop.Words i) h = absurd h
@@ -104,6 +105,6 @@ general_outcomes words shelf out say name options asked = record {
   refuses = λ h. subst (λ (o : Option Request). IsDecided o shelf.told Input) (sym asked) (inl (not_spelled (shelf.told name) h));
 }
   where
-    first_faulty : (s : Stop) → IsFirstBad shelf.told 0 (Formula ∷ []) (name ∷ []) s → IfSome (shelf.told name) (λ bytes. fault_of bytes ≢ None)
+    first_faulty : (s : Stop) → IsFirstBad shelf.told nothing_known (Formula ∷ []) (name ∷ []) s → IfSome (shelf.told name) (λ bytes. fault_of bytes ≢ None)
     first_faulty s (inl h) = faulty (shelf.told name) s h
     first_faulty s (inr later) = absurd later.2

@@ -1,5 +1,5 @@
 -- The sizes of kernels.
-use Rattle.std.proofs.Common.{◌≡◌, ℕ, List, length, ap}
+use Rattle.std.proofs.Common.{ℕ, List, length, ap}
 use Rattle.lk_model.specs.Formulas.Assignment.{Assignment}
 use Rattle.lk_model.specs.Formulas.Crossed.{no_variable}
 use Rattle.lk_model.specs.Formulas.Formula.{Cnf, positions_of}

@@ -9,14 +9,19 @@ use Rattle.lk_model.specs.declared.class.Class.TheVariants.{Linear}
 use Rattle.linear_kernel.specs.Answers.{AnswersRun}
 use Rattle.linear_kernel.specs.declared.stop.LinearStop.{LinearStop}
 use Rattle.linear_kernel.specs.declared.stop.LinearStop.TheVariants as stop
+use Rattle.reductions.specs.Founds.{EndsDone}
 use Rattle.workbench.specs.Commands.LinearReducing.{protected, status_by, line_by, budget_line, too_large_line, Writes, Answers}
 use Rattle.workbench.specs.LinearStops.{TellsStop}
-use Rattle.workbench.specs.Settings.{Options}
+use Rattle.command_words.specs.Settings.{Options}
 use Rattle.workbench.specs.Statuses.{is_result}
 use Rattle.workbench.specs.declared.status.Status.{Status}
 use Rattle.workbench.specs.declared.status.Status.TheVariants.{Done, Budget, TooWide, TooLarge}
 
--- a run that ends done has nothing to say
+-- a run that ends done has the status of it
+pub ends_done : (pivots : ℕ) (rest : Cnf) → EndsDone rest pivots → status_by (is_too_large rest) (linear_run rest pivots) ≡ Done
+ends_done pivots rest ends = let a = ends.1 in λ i. status_by (a.0 i) (a.1.1 i)
+
+-- it has nothing to say
 pub done_silent : (pivots : ℕ) (rest : Cnf) (large : Bool) (end : LinearEnd) → Done ≡ status_by large end → line_by pivots rest large end ≡ []
 done_silent pivots rest true end e = absurd (let f : ⊥ = cc e in f)
 done_silent pivots rest false (RunDone kept stages dual units made) e = refl

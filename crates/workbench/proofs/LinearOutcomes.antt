@@ -12,13 +12,13 @@ use Rattle.lk_model.specs.declared.wide.Wide.{Wide}
 use Rattle.lk_model.proofs.FaultConverse.{fault_law}
 use Rattle.workbench.specs.Commands.LinearReducing.{protected, status_by, status_of, line_by, line_of, budget_line, too_wide_line}
 use Rattle.workbench.specs.Endings.{HasValues, IsDecidedFor, IsDecided, Takes}
-use Rattle.workbench.specs.Inputs.{Told}
-use Rattle.workbench.specs.Lawful.{Request, request_of}
+use Rattle.command_inputs.specs.Inputs.{Told}
+use Rattle.command_words.specs.Lawful.{Request, request_of}
 use Rattle.workbench.specs.LinearOutcomes.{LinearOutcomes, large_line}
 use Rattle.workbench.specs.Outcomes.{AskFor, IsFormulaText}
-use Rattle.workbench.specs.Settings.{Options}
+use Rattle.command_words.specs.Settings.{Options}
 use Rattle.workbench.specs.Statuses.{code}
-use Rattle.workbench.specs.declared.command.Command.TheVariants.{ReduceLinear}
+use Rattle.command_words.specs.declared.command.Command.TheVariants.{ReduceLinear}
 use Rattle.workbench.specs.declared.status.Status.{Status}
 use Rattle.workbench.specs.declared.status.Status.TheVariants.{Input, Budget, TooWide, TooLarge}
 use Rattle.workbench.proofs.LinearEndings.{done_silent}

@@ -23,14 +23,14 @@ use Rattle.workbench.specs.Commands.Checking as check
 use Rattle.workbench.specs.Commands.Checking.{verdict_status}
 use Rattle.workbench.specs.Commands.Reporting.{WritesReport}
 use Rattle.workbench.specs.Endings.{Shelved, Sunk, Takes, Ends, Allows, HasResult, IsResult, DeservesStop, IsDecided}
-use Rattle.workbench.specs.Commands.{inputs_of}
-use Rattle.workbench.specs.Inputs.{Told, IsFirstBad}
-use Rattle.workbench.specs.Lawful.{Request, request_of}
+use Rattle.command_words.specs.Shapes.{inputs_of}
+use Rattle.command_inputs.specs.Inputs.{nothing_known, Told, IsFirstBad}
+use Rattle.command_words.specs.Lawful.{Request, request_of}
 use Rattle.workbench.specs.Outcomes.{IsFormulaText, IsNoFormulaText, IsNoDocumentText, IsProved, IsOpenFor, ReduceMeans, ReduceOutcomes, CheckOutcomes, ReportOutcomes, Reports}
-use Rattle.workbench.specs.Settings.{Options}
+use Rattle.command_words.specs.Settings.{Options}
 use Rattle.workbench.specs.Statuses.{code, is_result}
-use Rattle.workbench.specs.declared.command.Command.TheVariants.{ReducePure, ReduceMatching, Check}
-use Rattle.workbench.specs.declared.stop.Stop.{Stop}
+use Rattle.command_words.specs.declared.command.Command.TheVariants.{ReducePure, ReduceMatching, Check}
+use Rattle.command_inputs.specs.declared.stop.Stop.{Stop}
 use Rattle.workbench.specs.declared.status.Status.{Status}
 use Rattle.workbench.specs.declared.status.Status.TheVariants.{Done, Words, Input, ReadFault, WriteFault, Budget, TooWide, TooLarge, Refused, Memory}
 
@@ -86,7 +86,7 @@ result_of words shelf out say r n e asked is =
     result_at words shelf r (numbered n) e.written e.said asked is (subst (λ (s : Status). Allows words shelf s e.written e.said) (one_status e.status n e.answer_is) e.allowed)
 
 -- of an ending with 2, which input is the first outside its grammar
-pub input_of : (words : List Word) (shelf : Shelved) (out say : Sunk) (r : Request) (e : Ends words shelf out say 2) → request_of words ≡ Some r → (s : Stop) × IsFirstBad shelf.told 0 (inputs_of r.command) r.names s
+pub input_of : (words : List Word) (shelf : Shelved) (out say : Sunk) (r : Request) (e : Ends words shelf out say 2) → request_of words ≡ Some r → (s : Stop) × IsFirstBad shelf.told nothing_known (inputs_of r.command) r.names s
 input_of words shelf out say r e asked =
     let h : Allows words shelf Input e.written e.said = subst (λ (s : Status). Allows words shelf s e.written e.said) (one_status e.status 2 e.answer_is) e.allowed in
     (h.0, subst (λ (o : Option Request). DeservesStop o shelf.told h.0) asked h.1)

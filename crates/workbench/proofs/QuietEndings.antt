@@ -4,8 +4,8 @@ use Rattle.std.specs.Prelude.{IsTrue, nat_eq}
 use Rattle.std.specs.List.{list_any}
 use Rattle.lk_model.specs.Texts.Lines.{Word}
 use Rattle.workbench.specs.Endings.{Shelved, IsResult, Allows}
-use Rattle.workbench.specs.Inputs.{Told}
-use Rattle.workbench.specs.Lawful.{Request, request_of}
+use Rattle.command_inputs.specs.Inputs.{Told}
+use Rattle.command_words.specs.Lawful.{Request, request_of}
 use Rattle.workbench.specs.QuietEndings.{QuietOutcomes}
 use Rattle.workbench.specs.Statuses.{code}
 use Rattle.workbench.specs.declared.status.Status.{Status}

@@ -1,5 +1,5 @@
 -- What a verdict tells of a formula and a document.
-use Rattle.std.proofs.Common.{◌≡◌, ℕ, List, [], Option, Some, None, refl, ap, subst, sym, ◌∙◌}
+use Rattle.std.proofs.Common.{◌≡◌, ℕ, List, [], None, refl, ap, subst, sym, ◌∙◌}
 use Rattle.std.specs.Prelude.{IsTrue}
 use Rattle.lk_model.specs.Formulas.Formula.{Cnf}
 use Rattle.lk_model.specs.Texts.PlainText.{line}
@@ -7,7 +7,6 @@ use Rattle.lk_model.specs.Checks.Checks.{first_failure}
 use Rattle.lk_model.specs.Documents.Form.{is_in_form}
 use Rattle.lk_model.specs.declared.document.Document.{Document}
 use Rattle.lk_model.specs.declared.document.Document.TheVariants.{Done, Unfinished}
-use Rattle.lk_model.specs.declared.verdict.Why.{Why}
 use Rattle.lean_checker.specs.Accepted.{IsReducedBy}
 use Rattle.lean_checker.specs.Verdicts.{verdict_by, verdict_of, verdict_words}
 use Rattle.lean_checker.specs.declared.verdict.Verdict.{Verdict}

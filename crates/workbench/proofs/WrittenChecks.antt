@@ -19,9 +19,9 @@ use Rattle.cert_text.proofs.ReadLaws.{of_one_document}
 use Rattle.workbench.specs.Commands.Checking.{verdict_status}
 use Rattle.workbench.specs.Endings.{Shelved, Sunk, Takes, HasValues, IsDecidedFor, IsDecided}
 use Rattle.workbench.specs.GeneralOutcomes.{ReducesWithin, StopsShort}
-use Rattle.workbench.specs.Inputs.{Told}
-use Rattle.workbench.specs.Lawful.{Request}
-use Rattle.workbench.specs.Settings.{Options}
+use Rattle.command_inputs.specs.Inputs.{Told}
+use Rattle.command_words.specs.Lawful.{Request}
+use Rattle.command_words.specs.Settings.{Options}
 use Rattle.workbench.specs.Statuses.{code, is_result}
 use Rattle.workbench.specs.WrittenChecks.{HasWritten, AsksCheck, ChecksAs, WrittenChecksAsAccepted, StoppedChecksAsUnfinished}
 use Rattle.workbench.proofs.Agreement.{written_accepted, stopped_unfinished}

@@ -1,5 +1,5 @@
 -- How the code counts clauses of a kind, and holds the rows that tell it.
-use Rattle.std.specs.Prelude.{ℕ, ◌+◌, Bool, List, length, count_by, sum_by, ℤ}
+use Rattle.std.specs.Prelude.{◌+◌, List, length, count_by, sum_by, ℤ}
 use Rattle.std.specs.Int.{from_bool}
 use Rattle.lk_model.specs.Lists.{is_empty}
 use Rattle.lk_model.specs.Formulas.Literal.{is_tautology}

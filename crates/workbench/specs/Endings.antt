@@ -4,15 +4,16 @@ use Rattle.std.specs.declared.option.Option.{Option}
 use Rattle.std.specs.Io.KnownBytes.{Appends}
 use Rattle.lk_model.specs.Texts.Lines.{Word}
 use Rattle.lk_outside.specs.Causes.{Rose}
-use Rattle.workbench.specs.Commands.{inputs_of, Answers, Decides}
-use Rattle.workbench.specs.Inputs.{Told, Values, AreRead, AreTold, IsFirstBad, HasBad, StopsOn, IsAilingOn}
-use Rattle.workbench.specs.Lawful.{Request, request_of, IsRefusedAt}
+use Rattle.command_words.specs.Shapes.{inputs_of}
+use Rattle.workbench.specs.Commands.{Answers, Decides}
+use Rattle.command_inputs.specs.Inputs.{nothing_known, Told, Values, AreRead, AreTold, IsFirstBad, HasBad, StopsOn, IsAilingOn}
+use Rattle.command_words.specs.Lawful.{Request, request_of, IsRefusedAt}
 use Rattle.workbench.specs.Statuses.{code, is_result}
-use Rattle.workbench.specs.Stops.{line_of}
+use Rattle.workbench.specs.StopLines.{line_of}
 use Rattle.workbench.specs.declared.status.Status.{Status}
 use Rattle.workbench.specs.declared.status.Status.TheVariants as status
-use Rattle.workbench.specs.declared.stop.Stop.{Stop}
-use Rattle.workbench.specs.declared.stop.Stop.TheVariants as stop
+use Rattle.command_inputs.specs.declared.stop.Stop.{Stop}
+use Rattle.command_inputs.specs.declared.stop.Stop.TheVariants as stop
 
 -- WHICH ENDINGS ARE ALLOWED
 
@@ -31,7 +32,7 @@ shelved told before after ailing current = record { told = told; before = before
 -- what was read of the inputs, as far as they are told, and that the command may answer it so
 pub record HasResult (request : Request) (told : Told) (status : Status) (written said : List ℕ) : Type 0 where
   pub values : Values (inputs_of request.command)
-  pub read : AreRead told 0 (inputs_of request.command) request.names values
+  pub read : AreRead told nothing_known (inputs_of request.command) request.names values
   pub result : IsTrue (is_result status)
   pub answers : Answers request.command request.options values status written said
 
@@ -42,13 +43,13 @@ IsResult (Some request) told status written said = HasResult request told status
 -- the first input, in the order of the words, that is outside its grammar makes this stop
 abbrev pub DeservesStop : Option Request → Told → Stop → Type 0
 DeservesStop None told s = ⊥
-DeservesStop (Some request) told s = IsFirstBad told 0 (inputs_of request.command) request.names s
+DeservesStop (Some request) told s = IsFirstBad told nothing_known (inputs_of request.command) request.names s
 
 -- a call on the shelf failed: its count rose, and it is ailing on an input, those before which are read
 abbrev pub HasReadFault : Option Request → Shelved → Type 0
 HasReadFault None shelf = ⊥
 HasReadFault (Some request) shelf = Rose shelf.before shelf.after
-    × IsAilingOn shelf.told 0 (inputs_of request.command) request.names shelf.ailing shelf.current
+    × IsAilingOn shelf.told nothing_known (inputs_of request.command) request.names shelf.ailing shelf.current
 
 -- no input is read: the words are not lawful, or the command has none
 abbrev pub ReadsNothing : Option Request → Type 0
@@ -141,11 +142,11 @@ pub record IsCutOff (words : List Word) (shelf : Shelved) (out say : Sunk) (OutI
 pub record HasValues (request : Request) (told : Told) (status : Status) : Type 0 where
   pub told_all : AreTold told request.names
   pub values : Values (inputs_of request.command)
-  pub read : AreRead told 0 (inputs_of request.command) request.names values
+  pub read : AreRead told nothing_known (inputs_of request.command) request.names values
   pub decides : Decides request.command request.options values status
 
 abbrev pub IsDecidedFor : Request → Told → Status → Type 0
-IsDecidedFor request told status.Input = HasBad told 0 (inputs_of request.command) request.names
+IsDecidedFor request told status.Input = HasBad told nothing_known (inputs_of request.command) request.names
 IsDecidedFor request told answer = HasValues request told answer
 
 -- the words and the told inputs decide the status: unlawful words, an input outside its grammar, or what the command makes of
@@ -168,7 +169,7 @@ IsUnlessFailed answer decided ShelfFailed SinkFailed =
 -- as the inputs are read
 abbrev pub StopsAsRead : Option Request → Told → Bool → Option (List ℕ) → Stop → Type 0
 StopsAsRead None told ailing current s = ⊥
-StopsAsRead (Some request) told ailing current s = StopsOn told 0 (inputs_of request.command) request.names ailing current s
+StopsAsRead (Some request) told ailing current s = StopsOn told nothing_known (inputs_of request.command) request.names ailing current s
 
 -- the refused word, or what was met as the inputs were read
 abbrev pub StopsAt : List Word → Told → Bool → Option (List ℕ) → Stop → Type 0

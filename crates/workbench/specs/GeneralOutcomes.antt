@@ -7,10 +7,10 @@ use Rattle.lk_model.specs.Texts.Fault.{fault_of}
 use Rattle.lk_model.specs.Texts.Lines.{Word}
 use Rattle.workbench.specs.Commands.GeneralReducing.{IsEnough, WritesFinished, WritesUnfinished, conflicts_line}
 use Rattle.workbench.specs.Endings.{Shelved, Sunk, Takes, Ends, IsDecided}
-use Rattle.workbench.specs.Lawful.{request_of}
+use Rattle.command_words.specs.Lawful.{request_of}
 use Rattle.workbench.specs.Outcomes.{AskFor, IsNoFormulaText}
-use Rattle.workbench.specs.Settings.{Options}
-use Rattle.workbench.specs.declared.command.Command.TheVariants.{ReduceGeneral}
+use Rattle.command_words.specs.Settings.{Options}
+use Rattle.command_words.specs.declared.command.Command.TheVariants.{ReduceGeneral}
 use Rattle.workbench.specs.declared.status.Status.TheVariants.{Done, Input}
 
 -- The text spells a formula, and what is written is the document of a reduction of it. Of its rounds nothing is needless, and

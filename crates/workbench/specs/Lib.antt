@@ -1,17 +1,8 @@
-pub mod Settings
-pub mod OptionPlaces
-pub mod OptionKeys
 pub mod Statuses
-pub mod Inputs
 pub mod Commands
 pub mod Counting
-pub mod Founds
-pub mod SignTables
 pub mod LinearStops
-pub mod Protecting
-pub mod Lawful
-pub mod Requests
-pub mod Stops
+pub mod Listing
 pub mod Endings
 pub mod Agreement
 pub mod Outcomes
@@ -22,3 +13,5 @@ pub mod DemoOutcomes
 pub mod KeptClauses
 pub mod WrittenChecks
 pub mod QuietEndings
+pub mod StopLines
+pub mod Performing

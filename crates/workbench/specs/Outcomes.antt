@@ -22,10 +22,10 @@ use Rattle.lk_model.specs.Documents.Reading.{IsTextOf}
 use Rattle.workbench.specs.Commands.Extending.{IsExtended, extension, model_line, failure_line, open_line}
 use Rattle.workbench.specs.Commands.Reporting.{WritesReport}
 use Rattle.workbench.specs.Endings.{Shelved, Sunk, Takes, Ends, IsDecided}
-use Rattle.workbench.specs.Lawful.{request_of}
-use Rattle.workbench.specs.Settings.{Options}
-use Rattle.workbench.specs.declared.command.Command.{Command}
-use Rattle.workbench.specs.declared.command.Command.TheVariants.{Check, Extend, Report}
+use Rattle.command_words.specs.Lawful.{request_of}
+use Rattle.command_words.specs.Settings.{Options}
+use Rattle.command_words.specs.declared.command.Command.{Command}
+use Rattle.command_words.specs.declared.command.Command.TheVariants.{Check, Extend, Report}
 use Rattle.workbench.specs.declared.status.Status.TheVariants.{Done, Input, Budget, Refused}
 
 -- the words ask for the command over these inputs, with these options

@@ -2,11 +2,11 @@
 use Rattle.std.specs.Prelude.{◌≡◌, ℕ, List}
 use Rattle.lk_model.specs.Texts.Lines.{Word}
 use Rattle.workbench.specs.Endings.{Shelved, Sunk, Takes, Ends, DeservesStop, HasReadFault, IsWell}
-use Rattle.workbench.specs.Lawful.{request_of, IsRefusedAt}
-use Rattle.workbench.specs.Stops.{line_of}
+use Rattle.command_words.specs.Lawful.{request_of, IsRefusedAt}
+use Rattle.workbench.specs.StopLines.{line_of}
 use Rattle.workbench.specs.declared.status.Status.TheVariants as status
-use Rattle.workbench.specs.declared.stop.Stop.{Stop}
-use Rattle.workbench.specs.declared.stop.Stop.TheVariants as stop
+use Rattle.command_inputs.specs.declared.stop.Stop.{Stop}
+use Rattle.command_inputs.specs.declared.stop.Stop.TheVariants as stop
 
 -- the line of the stop was said, and nothing written
 abbrev pub SaysOnly : Sunk → Sunk → Stop → Type 0

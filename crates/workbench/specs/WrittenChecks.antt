@@ -9,13 +9,13 @@ use Rattle.lean_checker.specs.declared.verdict.Verdict.{Verdict}
 use Rattle.lean_checker.specs.declared.verdict.Verdict.TheVariants.{Accepted, Unfinished}
 use Rattle.workbench.specs.Commands.Checking.{verdict_status}
 use Rattle.workbench.specs.Endings.{Shelved, Sunk, Takes, Ends, IsDecided}
-use Rattle.workbench.specs.Inputs.{Told}
-use Rattle.workbench.specs.Lawful.{request_of}
+use Rattle.command_inputs.specs.Inputs.{Told}
+use Rattle.command_words.specs.Lawful.{request_of}
 use Rattle.workbench.specs.Outcomes.{AskFor}
-use Rattle.workbench.specs.Settings.{Options}
+use Rattle.command_words.specs.Settings.{Options}
 use Rattle.workbench.specs.Statuses.{code}
-use Rattle.workbench.specs.declared.command.Command.{Command}
-use Rattle.workbench.specs.declared.command.Command.TheVariants.{ReducePure, ReduceMatching, ReduceLinear, ReduceGeneral, Check}
+use Rattle.command_words.specs.declared.command.Command.{Command}
+use Rattle.command_words.specs.declared.command.Command.TheVariants.{ReducePure, ReduceMatching, ReduceLinear, ReduceGeneral, Check}
 
 -- the command that reduces for a class
 abbrev pub reducing : Class → Command

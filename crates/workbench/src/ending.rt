@@ -1,11 +1,11 @@
 //! How a run ends.
 ghost use Rattle.std.specs.Prelude.{◌≡◌, IfOk};
 ghost use Rattle.workbench.specs.Endings.{Tells};
-ghost use Rattle.workbench.specs.Stops.{status_of};
+ghost use Rattle.workbench.specs.StopLines.{status_of};
 
 use crate::lines::line_of;
-use crate::status::Status;
-use crate::stop::Stop;
+use crate::status::{Status, status_of};
+use command_inputs::Stop;
 use lk_model::OutOfMemory;
 use std::alloc::Global;
 
@@ -23,7 +23,7 @@ pub(crate) fn ending_of(alloc: Global, stop: Stop) -> Result<Ending, OutOfMemory
     ensures texts { IfOk result (λ e. Tells stop e.written.items e.said.items) }
 {
     Ok(Ending {
-        status: stop.status(),
+        status: status_of(stop),
         written: Vec::new(alloc),
         said: line_of(alloc, stop)?,
     })

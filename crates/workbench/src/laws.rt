@@ -1,7 +1,7 @@
 //! What the clauses of a run come to.
 ghost use Rattle.lk_model.specs.declared.class.Class.TheVariants.{Pure, Matching};
 ghost use Rattle.workbench.specs.Agreement.{WrittenIsAccepted, StoppedIsUnfinished};
-ghost use Rattle.workbench.specs.declared.command.Command.TheVariants.{ReducePure, ReduceMatching};
+ghost use Rattle.command_words.specs.declared.command.Command.TheVariants.{ReducePure, ReduceMatching};
 ghost use Rattle.workbench.specs.DemoOutcomes.{DemoOutcomes};
 ghost use Rattle.workbench.specs.GeneralOutcomes.{GeneralOutcomes};
 ghost use Rattle.workbench.specs.KeptClauses.{KeptLaw};

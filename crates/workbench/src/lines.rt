@@ -2,9 +2,9 @@
 ghost use Rattle.std.specs.Prelude.{◌≡◌, ◌++◌, codes, decimal, IfOk, OnOk};
 ghost use Rattle.workbench.specs.Commands.GeneralReducing.{conflicts_line};
 ghost use Rattle.workbench.specs.Commands.LinearReducing.{budget_line, op_word, operands, too_large_line, too_wide_line};
-ghost use Rattle.workbench.specs.Stops.{line_of, formula_line, refusal_line};
+ghost use Rattle.workbench.specs.StopLines.{line_of, formula_line, refusal_line};
 
-use crate::stop::Stop;
+use command_inputs::Stop;
 use dimacs_reader::Refused;
 use lk_model::{Op, OutOfMemory, Wide};
 use lk_text::put_i128;

@@ -1,19 +1,19 @@
 //! The whole run of the program.
 ghost use Rattle.std.specs.Prelude.{◌≡◌, ◌≢◌, ◌⊎◌, [], map, IsTrue, IfOk, IfErr, IsErrAnd};
 ghost use Rattle.lk_outside.specs.Causes.{HasCause, Rose};
-ghost use Rattle.workbench.specs.Lawful.{request_of};
+ghost use Rattle.command_words.specs.Lawful.{request_of};
 ghost use Rattle.workbench.specs.Statuses.{code};
 ghost use Rattle.workbench.specs.declared.status.Status.{Status as AnyStatus};
 ghost use Rattle.workbench.specs.Endings.{shelved, sunk, Allows, IsResult, Ends, IsCutOff, IsDecided, IsUnlessFailed, StopsAt, IsWell, ReadsNothing, TakesBoth, IsCutIn, EndsQuietly};
-ghost use Rattle.workbench.specs.Inputs.{IsFailure};
+ghost use Rattle.command_inputs.specs.Inputs.{IsFailure};
 
 use crate::command;
 use crate::ending::{Ending, ending_of};
 use crate::output::write_both;
 use crate::status::Status;
-use crate::stop::Stop;
-use crate::words::request_of;
 use cert_text::text_law;
+use command_inputs::Stop;
+use command_words::request_of;
 use lk_model::OutOfMemory;
 use lk_outside::{Failed, Gate, Shelf, Sink};
 use std::alloc::Global;
@@ -140,7 +140,7 @@ fn perform<R: Threads + Sync, H: Shelf, G: Gate>(
 {
     match request_of(words) {
         Err(number) => Err(Stop::Words(number)),
-        Ok(request) => command::perform(rt, alloc, gate, shelf, request),
+        Ok(request) => command::perform(rt, alloc, gate, shelf, &request),
     }
 }
 

@@ -1,9 +1,12 @@
 //! The statuses with which the program ends.
 ghost use Rattle.std.specs.Prelude.{◌≡◌};
 ghost use Rattle.workbench.specs.Statuses.{code};
+ghost use Rattle.workbench.specs.StopLines.{status_of};
+
+use command_inputs::Stop;
 
 /// The status with which the program ends.
-#[derive(Clone, Copy, Debug, PartialEq, Eq)]
+#[derive(Clone, Copy)]
 pub(crate) enum Status {
     /// The result was written.
     Done,
@@ -44,5 +47,17 @@ impl Status {
             Status::Refused => 8,
             Status::Memory => 9,
         }
+    }
+}
+
+/// The status with which the program ends behind a stop.
+pub(crate) fn status_of(stop: Stop) -> Status
+    ensures { result ≡ status_of stop }
+{
+    match stop {
+        Stop::Words(_) => Status::Words,
+        Stop::Formula(_) | Stop::Document(_) | Stop::Model(_) => Status::Input,
+        Stop::Read => Status::ReadFault,
+        Stop::Memory => Status::Memory,
     }
 }

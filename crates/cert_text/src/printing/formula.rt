@@ -3,7 +3,7 @@ ghost use Rattle.std.specs.Prelude.{◌≡◌, ◌++◌, ◌∷◌, [], OnOk, co
 ghost use Rattle.std.specs.List.{flat_map};
 ghost use Rattle.lk_model.specs.Texts.PlainText.{line, literal_words, number_words, plain_text};
 
-use super::line::{put, put_clause_line, put_number};
+use line_text::{put, put_clause_line, put_number};
 use lk_model::{Formula, OutOfMemory};
 
 /// Appends the plain text of a formula: its problem line, and a line for each clause.

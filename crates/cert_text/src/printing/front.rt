@@ -4,7 +4,7 @@ ghost use Rattle.std.specs.List.{flat_map};
 ghost use Rattle.lk_model.specs.Texts.PlainText.{line, number_words};
 ghost use Rattle.lk_model.specs.Documents.Text.{comment, first_lines, protect_lines, version};
 
-use super::line::{put, put_keyword, put_number, put_number_line, put_word};
+use line_text::{put, put_keyword, put_number, put_number_line, put_word};
 use lk_model::{List, OutOfMemory};
 
 /// Appends the lines of the format and of the sizes, and that of the protected variables where there is

@@ -4,9 +4,10 @@ ghost use Rattle.std.specs.List.{flat_map};
 ghost use Rattle.lk_model.specs.Texts.PlainText.{line};
 ghost use Rattle.lk_model.specs.Documents.Text.{class_lines, dual_line, stage_line, unit_line};
 ghost use Rattle.lk_model.specs.declared.document.Body.TheVariants.{Linear};
-ghost use Rattle.cert_text.specs.Printed.{share_words, spaced, unit_words, weight_words};
+ghost use Rattle.cert_text.specs.Printed.{share_words, unit_words, weight_words};
+ghost use Rattle.line_text.specs.Spaced.{spaced};
 
-use super::line::{put, put_closing_zero, put_entry, put_keyword, put_number, put_signed};
+use line_text::{put, put_closing_zero, put_entry, put_keyword, put_number, put_signed};
 use lk_model::{Dual, OutOfMemory, Share, Stage, Unit, Weight};
 
 /// Appends a line for each stage, for each dual number, and for each unit.

@@ -5,7 +5,7 @@ ghost use Rattle.lk_model.specs.Texts.PlainText.{line};
 ghost use Rattle.lk_model.specs.Documents.Text.{class_lines, own_line, row_line};
 ghost use Rattle.lk_model.specs.declared.document.Body.TheVariants.{Matching};
 
-use super::line::{put, put_number};
+use line_text::{put, put_number};
 use lk_model::{MatchRow, OutOfMemory, Own};
 
 /// Appends a line for each owned variable, and then one for each row.

@@ -5,7 +5,7 @@ ghost use Rattle.lk_model.specs.Texts.PlainText.{line};
 ghost use Rattle.lk_model.specs.Documents.Text.{class_lines, pair_line};
 ghost use Rattle.lk_model.specs.declared.document.Body.TheVariants.{Pure};
 
-use super::line::{put, put_literal_line, put_number};
+use line_text::{put, put_literal_line, put_number};
 use lk_model::{Lit, OutOfMemory, Pair};
 
 /// Appends the order, and a line for each pair.

@@ -7,9 +7,9 @@ ghost use Rattle.lk_model.specs.declared.document.Document.TheVariants.{Unfinish
 
 use super::formula::put_formula;
 use super::front::put_first_lines;
-use super::general::put_rounds;
-use super::line::{put, put_number};
+use line_text::{put, put_number};
 use lk_model::{OpenDocument, OutOfMemory};
+use round_text::put_rounds;
 
 /// Appends the lines of an unfinished document.
 pub(crate) fn put_unfinished(out: &mut Vec<u8>, d: &OpenDocument) -> Result<(), OutOfMemory>

@@ -1,7 +1,6 @@
 -- The command `check`.
-use Rattle.std.specs.Prelude.{◌≡◌, ℕ, List, [], ◌∷◌, codes, None}
+use Rattle.std.specs.Prelude.{◌≡◌, ℕ, List, [], None}
 use Rattle.lk_model.specs.Formulas.Formula.{Cnf}
-use Rattle.lk_model.specs.Texts.Lines.{Word}
 use Rattle.lk_model.specs.Texts.PlainText.{line}
 use Rattle.lk_model.specs.Checks.Checks.{first_failure, Accepts, IsSound}
 use Rattle.lk_model.specs.Reduction.{IsReduction}
@@ -10,19 +9,8 @@ use Rattle.lk_model.specs.declared.document.Document.TheVariants.{Done as Finish
 use Rattle.lean_checker.specs.Verdicts.{verdict_of, verdict_words}
 use Rattle.lean_checker.specs.declared.verdict.Verdict.{Verdict}
 use Rattle.lean_checker.specs.declared.verdict.Verdict.TheVariants as verdict
-use Rattle.workbench.specs.Inputs.{Grammar, Formula, Document}
-use Rattle.workbench.specs.Settings.{Key, workers}
 use Rattle.workbench.specs.declared.status.Status.{Status}
 use Rattle.workbench.specs.declared.status.Status.TheVariants.{Done, Budget, Refused}
-
-abbrev pub words : List Word
-words = codes "check" ∷ []
-
-abbrev pub inputs : List Grammar
-inputs = Formula ∷ Document ∷ []
-
-abbrev pub keys : List Key
-keys = workers ∷ []
 
 -- the status that tells a verdict
 abbrev pub verdict_status : Verdict → Status

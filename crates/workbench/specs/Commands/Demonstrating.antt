@@ -1,7 +1,8 @@
 -- The command `demo`.
-use Rattle.std.specs.Prelude.{◌≡◌, ℕ, ◌-◌, ◌^◌, List, [], ◌∷◌, ◌++◌, codes, length, flat_map, None}
+use Rattle.std.specs.Prelude.{◌≡◌, ℕ, List, [], ◌∷◌, ◌++◌, codes, length, flat_map, None}
 use Rattle.lk_model.specs.Formulas.Formula.{Cnf}
-use Rattle.lk_model.specs.Texts.Lines.{Word}
+use Rattle.lk_model.specs.Formulas.Crossed.{no_variable}
+use Rattle.lk_model.specs.Chains.Rounds.{AreNeeded}
 use Rattle.lk_model.specs.Texts.PlainText.{line}
 use Rattle.lk_model.specs.Documents.Documents.{class_of}
 use Rattle.lk_model.specs.Reduction.{IsUnfinishedText}
@@ -11,26 +12,12 @@ use Rattle.lk_model.specs.declared.document.DoneDocument.{DoneDocument}
 use Rattle.lean_checker.specs.Verdicts.{verdict_of, verdict_words}
 use Rattle.lean_checker.specs.declared.verdict.Verdict.TheVariants.{Accepted}
 use Rattle.demo_formula.specs.Demo.{demo_formula}
+use Rattle.round_laws.specs.Budgets.{AreWithinBudget}
+use Rattle.reductions.specs.Founds.{rounds_in}
 use Rattle.workbench.specs.Commands.GeneralReducing.{conflicts_line}
 use Rattle.workbench.specs.Commands.Reporting.{IsKernelSize, Row, row, row_line}
-use Rattle.workbench.specs.Inputs.{Grammar}
-use Rattle.workbench.specs.Settings.{Key}
-use Rattle.workbench.specs.declared.number.Range.{Range}
 use Rattle.workbench.specs.declared.status.Status.{Status}
 use Rattle.workbench.specs.declared.status.Status.TheVariants.{Done, Budget}
-
-abbrev pub words : List Word
-words = codes "demo" ∷ []
-
--- its number: any of 64 bits
-abbrev pub numbers : Range
-numbers = record { least = 0; greatest = 2 ^ 64 - 1 }
-
-abbrev pub inputs : List Grammar
-inputs = []
-
-abbrev pub keys : List Key
-keys = []
 
 -- the budget of the general kernel
 abbrev pub conflicts : ℕ
@@ -38,12 +25,15 @@ conflicts = 100000
 
 -- WHAT IS WRITTEN
 
--- the checks accept a document of the class general, which keeps so many clauses
+-- The checks accept a document of the class general, which keeps so many clauses. Of its rounds each step is used and each
+-- blocks a new variable, and those over each part are within the budget.
 pub record IsCheckedSize (F : Cnf) (size : ℕ) : Type 0 where
   pub document : DoneDocument
   pub class_is : class_of document.body ≡ General
   pub accepted : verdict_of F (Finished document) ≡ Accepted
   pub size_is : size ≡ length document.kept
+  pub needed : AreNeeded F no_variable (rounds_in document.body)
+  pub budget : AreWithinBudget no_variable F conflicts (rounds_in document.body)
 
 -- the rows before the verdict
 abbrev pub rows_of : ℕ → ℕ → ℕ → List Row

@@ -4,7 +4,6 @@ use Rattle.lk_model.specs.Formulas.Formula.{Cnf}
 use Rattle.lk_model.specs.Formulas.Assignment.{Assignment, assignment_of, extended, extended_value, extended_literals}
 use Rattle.lk_model.specs.Formulas.Crossed.{protected_by}
 use Rattle.lk_model.specs.Formulas.Lean.{all_of}
-use Rattle.lk_model.specs.Texts.Lines.{Word}
 use Rattle.lk_model.specs.Texts.PlainText.{line, literal_words}
 use Rattle.lk_model.specs.Checks.Checks.{first_failure_to_extend}
 use Rattle.lk_model.specs.Documents.KindWords.{refused_words}
@@ -13,19 +12,8 @@ use Rattle.lk_model.specs.declared.document.Document.{Document as AnyDocument}
 use Rattle.lk_model.specs.declared.document.Document.TheVariants.{Done as Finished, Unfinished}
 use Rattle.lk_model.specs.declared.document.DoneDocument.{DoneDocument}
 use Rattle.lk_model.specs.declared.verdict.Why.{Why}
-use Rattle.workbench.specs.Inputs.{Grammar, Formula, Document, Model}
-use Rattle.workbench.specs.Settings.{Key}
 use Rattle.workbench.specs.declared.status.Status.{Status}
 use Rattle.workbench.specs.declared.status.Status.TheVariants.{Done, Budget, Refused}
-
-abbrev pub words : List Word
-words = codes "extend" ∷ []
-
-abbrev pub inputs : List Grammar
-inputs = Formula ∷ Document ∷ Model ∷ []
-
-abbrev pub keys : List Key
-keys = []
 
 -- WHAT COMES OF A MODEL
 

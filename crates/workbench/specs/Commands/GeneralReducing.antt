@@ -9,11 +9,9 @@ use Rattle.lk_model.specs.Chains.Searches.{WantsMore}
 use Rattle.lk_model.specs.Checks.RoundChecks.{learned_steps}
 use Rattle.lk_model.specs.Reduction.{WritesReduction, IsUnfinishedText}
 use Rattle.lk_model.specs.declared.class.Class.TheVariants.{General}
-use Rattle.lk_model.specs.declared.document.Body.{Body}
-use Rattle.lk_model.specs.declared.document.Body.TheVariants as body
-use Rattle.lk_model.specs.declared.document.Round.{Round}
 use Rattle.round_laws.specs.Budgets.{AreWithinBudget, CanBeFinished}
-use Rattle.workbench.specs.Settings.{Options}
+use Rattle.reductions.specs.Founds.{rounds_in}
+use Rattle.command_words.specs.Settings.{Options}
 use Rattle.workbench.specs.declared.status.Status.{Status}
 use Rattle.workbench.specs.declared.status.Status.TheVariants.{Done, Budget}
 
@@ -22,13 +20,6 @@ abbrev pub IsEnough : ℕ → Cnf → Type 0
 IsEnough conflicts F = F.vars * 3 ^ F.vars ≤ conflicts
 
 -- WHERE ALL OF THE KERNEL IS FOUND
-
--- the rounds of a general document; those of another class have none
-abbrev pub rounds_in : Body → List Round
-rounds_in (body.General rounds) = rounds
-rounds_in (body.Pure order pairs) = []
-rounds_in (body.Matching own rows) = []
-rounds_in (body.Linear stages dual units) = []
 
 -- What is written is the text of the document of a reduction of the formula, in which the listed variables are protected. Of
 -- its rounds each step is used and each blocks a new variable, and those over each part have at most as many learned clauses

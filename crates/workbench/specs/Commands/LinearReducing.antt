@@ -9,7 +9,7 @@ use Rattle.lk_model.specs.declared.class.Class.TheVariants.{Linear}
 use Rattle.lk_model.specs.declared.wide.Op.{Op}
 use Rattle.lk_model.specs.declared.wide.Op.TheVariants.{Product, Sum, Difference}
 use Rattle.lk_model.specs.declared.wide.Wide.{Wide}
-use Rattle.workbench.specs.Settings.{Options}
+use Rattle.command_words.specs.Settings.{Options}
 use Rattle.workbench.specs.declared.status.Status.{Status}
 use Rattle.workbench.specs.declared.status.Status.TheVariants.{Done, Budget, TooWide, TooLarge}
 

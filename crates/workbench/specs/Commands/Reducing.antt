@@ -1,23 +1,11 @@
 -- The command `reduce` for the classes that end with status 0 alone.
-use Rattle.std.specs.Prelude.{◌≡◌, ℕ, List, [], ◌∷◌, codes}
+use Rattle.std.specs.Prelude.{◌≡◌, ℕ, List, []}
 use Rattle.lk_model.specs.Formulas.Formula.{Cnf}
-use Rattle.lk_model.specs.Texts.Lines.{Word}
-use Rattle.lk_model.specs.Documents.Text.{class_word}
 use Rattle.lk_model.specs.Reduction.{WritesReduction}
 use Rattle.lk_model.specs.declared.class.Class.{Class}
-use Rattle.workbench.specs.Inputs.{Grammar, Formula}
-use Rattle.workbench.specs.Settings.{Key, Options, conflicts, pivots, workers, protect}
+use Rattle.command_words.specs.Settings.{Options}
 use Rattle.workbench.specs.declared.status.Status.{Status}
 use Rattle.workbench.specs.declared.status.Status.TheVariants.{Done}
-
-abbrev pub words : Class → List Word
-words class = codes "reduce" ∷ class_word class ∷ []
-
-abbrev pub inputs : List Grammar
-inputs = Formula ∷ []
-
-abbrev pub keys : List Key
-keys = conflicts ∷ pivots ∷ workers ∷ protect ∷ []
 
 -- It writes the document of a reduction of the formula for the class, in which the listed variables are protected.
 pub record Answers (class : Class) (options : Options) (F : Cnf) (status : Status) (written said : List ℕ) : Type 0 where

@@ -8,19 +8,8 @@ use Rattle.lk_model.specs.Texts.Lines.{Word}
 use Rattle.lk_model.specs.Texts.PlainText.{line}
 use Rattle.lk_model.specs.declared.class.Class.{Class}
 use Rattle.lk_model.specs.declared.class.Class.TheVariants.{Pure, Matching}
-use Rattle.workbench.specs.Inputs.{Grammar, Formula}
-use Rattle.workbench.specs.Settings.{Key}
 use Rattle.workbench.specs.declared.status.Status.{Status}
 use Rattle.workbench.specs.declared.status.Status.TheVariants.{Done}
-
-abbrev pub words : List Word
-words = codes "report" ∷ []
-
-abbrev pub inputs : List Grammar
-inputs = Formula ∷ []
-
-abbrev pub keys : List Key
-keys = []
 
 -- THE NUMBERS
 

@@ -1,20 +1,19 @@
 //! The command `check`.
 ghost use Rattle.std.specs.Prelude.{◌≡◌, ◌<◌, ◌∷◌, [], length, map, IfOk, IfErr, IsErrAnd, IsTrue};
+ghost use Rattle.lk_model.specs.Documents.Form.{is_in_form};
 ghost use Rattle.lk_model.specs.Texts.PlainText.{line};
-ghost use Rattle.lk_outside.specs.Causes.{HasCause};
 ghost use Rattle.lean_checker.specs.Verdicts.{verdict_words};
-ghost use Rattle.workbench.specs.Commands.{inputs_of};
+ghost use Rattle.command_words.specs.Shapes.{inputs_of};
 ghost use Rattle.workbench.specs.Commands.Checking.{verdict_status};
-ghost use Rattle.workbench.specs.Endings.{HasResult};
-ghost use Rattle.workbench.specs.Inputs.{IsFailure, StopsOn};
-ghost use Rattle.workbench.specs.Requests.{request_for};
+ghost use Rattle.command_words.specs.OptionRows.{values_of};
+ghost use Rattle.workbench.specs.Endings.{shelved};
+ghost use Rattle.workbench.specs.Performing.{IsAnswer, Performs};
+ghost use Rattle.command_words.specs.Requests.{request_for};
 
-use crate::command::Command;
 use crate::ending::Ending;
-use crate::input::read_checked;
-use crate::options::Options;
 use crate::status::Status;
-use crate::stop::Stop;
+use command_inputs::{Checked, Stop, read_checked};
+use command_words::{Command, Options};
 use lean_checker::{Verdict, check, put_verdict};
 use lk_model::OutOfMemory;
 use lk_outside::{Gate, Shelf};
@@ -28,28 +27,37 @@ pub(crate) fn perform<R: Threads + Sync, H: Shelf, G: Gate>(
     gate: &G,
     shelf: &mut H,
     names: &[&str],
-    options: Options<'_>,
+    options: &Options<'_>,
 ) -> Result<Ending, Stop>
     requires names { length names.now ≡ length (inputs_of Command.Check) }
-    requires workers { 0 < options.workers }
-    ensures ok { IfOk result (λ e. HasResult
-        (request_for Command.Check (map (λ w. w.now) names.now) options.entry) (H.told shelf.old)
-        e.status e.written.items e.said.items) }
-    ensures stop { IfErr result (StopsOn (H.told shelf.old) 0 (inputs_of Command.Check) (map (λ w. w.now) names.now)
-        (H.ailing shelf.new) (H.current shelf.new)) }
-    ensures cause { HasCause (H.faults shelf.old) (H.faults shelf.new) (IsErrAnd result (λ s. s ≡ Stop.Read)) }
-    ensures well { IsTrue (H.ailing shelf.new) → IsErrAnd result IsFailure }
+    ensures { Performs (request_for Command.Check (map (λ w. w.now) names.now) options.now)
+        (shelved (H.told shelf.old) (H.faults shelf.old) (H.faults shelf.new) (H.ailing shelf.new) (H.current shelf.new))
+        result }
 {
     let read = read_checked(alloc, shelf, names[0], names[1])?;
+    Ok(answer(rt, alloc, gate, &read, options)?)
+}
+
+/// What the checks say of a formula and a document.
+fn answer<R: Threads + Sync, G: Gate>(
+    rt: &R,
+    alloc: Global,
+    gate: &G,
+    read: &Checked,
+    options: &Options<'_>,
+) -> Result<Ending, OutOfMemory>
+    requires form { IsTrue (is_in_form read.now.document) }
+    ensures { IfOk result (IsAnswer Command.Check (values_of options.now) (read.now.formula, (read.now.document, tt))) }
+{
     let verdict = check(
         rt,
         alloc,
         gate,
         &read.formula,
         &read.document,
-        options.workers,
+        options.workers.get(),
     )?;
-    Ok(told(alloc, verdict)?)
+    told(alloc, verdict)
 }
 
 /// The ending that tells a verdict: 0 where the document is accepted, 5 where it is unfinished, and 8 where a

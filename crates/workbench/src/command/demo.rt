@@ -7,22 +7,21 @@ ghost use Rattle.lk_model.specs.Checks.Checks.{Accepts};
 ghost use Rattle.lk_model.specs.Formulas.Formula.{is_formula};
 ghost use Rattle.lk_model.specs.Texts.PlainText.{line};
 ghost use Rattle.lk_model.specs.declared.class.Class.TheVariants.{General, Matching};
-ghost use Rattle.workbench.specs.Commands.Demonstrating.{Answers, WritesDemo};
+ghost use Rattle.workbench.specs.Commands.Demonstrating.{conflicts, Answers, WritesDemo};
 ghost use Rattle.workbench.specs.Commands.Reporting.{IsKernelSize};
-ghost use Rattle.workbench.specs.Founds.{IsFoundFor};
+ghost use Rattle.reductions.specs.Founds.{IsKernelFound};
 ghost use Rattle.workbench.specs.Statuses.{is_result};
 
 use crate::command::reduce_general::unfinished;
-use crate::document::{Found, document_of, open_document_of};
 use crate::ending::Ending;
-use crate::find::{GeneralFound, find_general};
 use crate::rows::{Row, text_of};
 use crate::status::Status;
 use demo_formula::demo_formula;
 use lean_checker::{check, put_verdict};
-use lk_model::{Document, DoneDocument, Formula, OutOfMemory};
+use lk_model::{Budget, Document, DoneDocument, Formula, OutOfMemory};
 use lk_outside::Gate;
 use part_kernels::matching_by_parts;
+use reductions::{Found, GeneralStop, document_of, find_general, open_document_of};
 use std::alloc::Global;
 use std::thread::Threads;
 
@@ -30,27 +29,29 @@ use std::thread::Threads;
 const CONFLICTS: u64 = 100_000;
 
 /// Writes the sizes of the kernels of the formula of a number, and what the checks say of the document of the
-/// general one; or, where that wants more learned clauses than it may take, an unfinished document.
-pub(crate) fn perform<R: Threads + Sync, G: Gate>(
+/// general one; or, if that is not finished when the budget is used up, an unfinished document.
+pub(crate) fn answer<R: Threads + Sync, G: Gate>(
     rt: &R,
     alloc: Global,
     gate: &G,
     number: u64,
 ) -> Result<Ending, OutOfMemory>
-    ensures ok { IfOk result (λ e. Answers number e.status e.written.items e.said.items) }
+    ensures answers { IfOk result (λ e. Answers number e.status e.written.items e.said.items) }
     ensures result { IfOk result (λ e. IsTrue (is_result e.status)) }
 {
     let formula = demo_formula(alloc, number)?;
-    match find_general(rt, alloc, gate, &formula, CONFLICTS, 1)? {
-        GeneralFound::Done(found) => Ok(Ending {
+    let conflicts = Budget::new(CONFLICTS).unwrap();
+    match find_general(rt, alloc, gate, &formula, conflicts, 1) {
+        Ok(found) => Ok(Ending {
             status: Status::Done,
             written: lines_of(rt, alloc, gate, number, &formula, found)?,
             said: Vec::new(alloc),
         }),
-        GeneralFound::Unfinished(rounds) => {
+        Err(GeneralStop::Unfinished(rounds)) => {
             let document = open_document_of(formula, None, CONFLICTS, rounds);
             unfinished(alloc, document)
         }
+        Err(GeneralStop::OutOfMemory) => Err(OutOfMemory),
     }
 }
 
@@ -67,7 +68,7 @@ fn lines_of<R: Threads + Sync, G: Gate>(
     requires formula { f.now ≡ demo_formula number }
     requires vars { f.now.vars ≡ 2200 }
     requires clauses { length f.now.clauses ≡ 6400 }
-    requires found { IsFoundFor General f.now found }
+    requires found { IsKernelFound f.now conflicts found }
     ensures { IfOk result (λ text. WritesDemo number text.items) }
 {
     let vars = f.vars();

@@ -6,20 +6,18 @@ ghost use Rattle.lk_model.specs.Formulas.Assignment.{assignment_of, extended, ex
 ghost use Rattle.lk_model.specs.Held.PartialValues.{assignment_by};
 ghost use Rattle.lk_model.specs.Documents.Form.{is_done_in_form, is_in_form};
 ghost use Rattle.lk_model.specs.declared.document.Document.TheVariants.{Done as Finished};
-ghost use Rattle.lk_outside.specs.Causes.{HasCause};
-ghost use Rattle.workbench.specs.Commands.{inputs_of};
+ghost use Rattle.command_words.specs.Shapes.{inputs_of};
 ghost use Rattle.workbench.specs.Commands.Extending.{Tells, failure_line};
-ghost use Rattle.workbench.specs.Endings.{HasResult};
-ghost use Rattle.workbench.specs.Inputs.{IsFailure, StopsOn};
-ghost use Rattle.workbench.specs.Requests.{request_for};
+ghost use Rattle.command_words.specs.OptionRows.{values_of};
+ghost use Rattle.workbench.specs.Endings.{shelved};
+ghost use Rattle.workbench.specs.Performing.{IsAnswer, Performs};
+ghost use Rattle.command_words.specs.Requests.{request_for};
 
-use crate::command::Command;
 use crate::ending::Ending;
-use crate::input::{read_checked, read_values};
-use crate::options::Options;
 use crate::status::Status;
-use crate::stop::Stop;
 use cert_text::print_model;
+use command_inputs::{Stop, read_checked, read_values};
+use command_words::{Command, Options};
 use lean_checker::{Verdict, check_extend, put_verdict};
 use lk_model::{Document, DoneDocument, Formula, List, Lit, OutOfMemory, Why};
 use lk_outside::Shelf;
@@ -32,19 +30,15 @@ pub(crate) fn perform<H: Shelf>(
     alloc: Global,
     shelf: &mut H,
     names: &[&str],
-    options: Options<'_>,
+    options: &Options<'_>,
 ) -> Result<Ending, Stop>
     requires names { length names.now ≡ length (inputs_of Command.Extend) }
-    ensures ok { IfOk result (λ e. HasResult
-        (request_for Command.Extend (map (λ w. w.now) names.now) options.entry) (H.told shelf.old)
-        e.status e.written.items e.said.items) }
-    ensures stop { IfErr result (StopsOn (H.told shelf.old) 0 (inputs_of Command.Extend) (map (λ w. w.now) names.now)
-        (H.ailing shelf.new) (H.current shelf.new)) }
-    ensures cause { HasCause (H.faults shelf.old) (H.faults shelf.new) (IsErrAnd result (λ s. s ≡ Stop.Read)) }
-    ensures well { IsTrue (H.ailing shelf.new) → IsErrAnd result IsFailure }
+    ensures { Performs (request_for Command.Extend (map (λ w. w.now) names.now) options.now)
+        (shelved (H.told shelf.old) (H.faults shelf.old) (H.faults shelf.new) (H.ailing shelf.new) (H.current shelf.new))
+        result }
 {
     let read = read_checked(alloc, shelf, names[0], names[1])?;
-    let model = read_values(alloc, shelf, names[2], read.formula.vars())?;
+    let model = read_values(alloc, shelf, names[2], &read.formula)?;
     Ok(told(alloc, &read.formula, &read.document, &model)?)
 }
 

@@ -2,26 +2,24 @@
 ghost use Rattle.std.specs.Prelude.{◌≡◌, ◌<◌, ◌∷◌, [], length, map, IfOk, IfErr, IsErrAnd, IsTrue};
 ghost use Rattle.lk_model.specs.Documents.Text.{text_of};
 ghost use Rattle.lk_model.specs.declared.document.Document.TheVariants.{Done as Finished};
-ghost use Rattle.lk_outside.specs.Causes.{HasCause};
-ghost use Rattle.workbench.specs.Commands.{inputs_of};
-ghost use Rattle.workbench.specs.Endings.{HasResult};
-ghost use Rattle.workbench.specs.Inputs.{IsFailure, StopsOn};
+ghost use Rattle.command_words.specs.Shapes.{inputs_of};
+ghost use Rattle.command_words.specs.OptionRows.{values_of};
+ghost use Rattle.workbench.specs.Endings.{shelved};
+ghost use Rattle.workbench.specs.Performing.{IsAnswer, Performs};
 ghost use Rattle.workbench.specs.LinearStops.{TellsStop};
-ghost use Rattle.workbench.specs.Requests.{request_for};
+ghost use Rattle.command_words.specs.Requests.{request_for};
 
-use crate::command::Command;
 use crate::ending::Ending;
-use crate::find::{find_linear, find_matching, find_pure};
-use crate::input::read_formula;
 use crate::lines::{budget_line, too_large_line, too_wide_line};
-use crate::options::Options;
-use crate::problem::Problem;
+use crate::protect::problem_of;
 use crate::status::Status;
-use crate::stop::Stop;
 use cert_text::print;
+use command_inputs::{Stop, read_formula};
+use command_words::{Command, Options};
 use linear_kernel::LinearStop;
-use lk_model::{Document, DoneDocument, OutOfMemory};
+use lk_model::{Document, DoneDocument, Formula, OutOfMemory};
 use lk_outside::{Gate, Shelf};
+use reductions::{find_linear, find_matching, find_pure};
 use std::alloc::Global;
 use std::thread::Threads;
 
@@ -30,22 +28,29 @@ pub(crate) fn perform_pure<H: Shelf>(
     alloc: Global,
     shelf: &mut H,
     names: &[&str],
-    options: Options<'_>,
+    options: &Options<'_>,
 ) -> Result<Ending, Stop>
     requires names { length names.now ≡ length (inputs_of Command.ReducePure) }
-    ensures ok { IfOk result (λ e. HasResult
-        (request_for Command.ReducePure (map (λ w. w.now) names.now) options.entry) (H.told shelf.old)
-        e.status e.written.items e.said.items) }
-    ensures stop { IfErr result (StopsOn (H.told shelf.old) 0 (inputs_of Command.ReducePure) (map (λ w. w.now) names.now)
-        (H.ailing shelf.new) (H.current shelf.new)) }
-    ensures cause { HasCause (H.faults shelf.old) (H.faults shelf.new) (IsErrAnd result (λ s. s ≡ Stop.Read)) }
-    ensures well { IsTrue (H.ailing shelf.new) → IsErrAnd result IsFailure }
+    ensures { Performs (request_for Command.ReducePure (map (λ w. w.now) names.now) options.now)
+        (shelved (H.told shelf.old) (H.faults shelf.old) (H.faults shelf.new) (H.ailing shelf.new) (H.current shelf.new))
+        result }
 {
     let formula = read_formula(alloc, shelf, names[0])?;
-    let problem = Problem::new(alloc, formula, options.protect)?;
+    Ok(answer_pure(alloc, formula, options)?)
+}
+
+/// The document of the pure kernel of a formula.
+fn answer_pure(
+    alloc: Global,
+    formula: Formula,
+    options: &Options<'_>,
+) -> Result<Ending, OutOfMemory>
+    ensures { IfOk result (IsAnswer Command.ReducePure (values_of options.now) (formula, tt)) }
+{
+    let problem = problem_of(alloc, formula, options.protect)?;
     let found = find_pure(alloc, problem.left())?;
     let document = problem.document(alloc, found)?;
-    Ok(written(alloc, document)?)
+    written(alloc, document)
 }
 
 /// Writes the document of the matching kernel of the formula under a name.
@@ -55,23 +60,31 @@ pub(crate) fn perform_matching<R: Threads + Sync, H: Shelf, G: Gate>(
     gate: &G,
     shelf: &mut H,
     names: &[&str],
-    options: Options<'_>,
+    options: &Options<'_>,
 ) -> Result<Ending, Stop>
     requires names { length names.now ≡ length (inputs_of Command.ReduceMatching) }
-    requires workers { 0 < options.workers }
-    ensures ok { IfOk result (λ e. HasResult
-        (request_for Command.ReduceMatching (map (λ w. w.now) names.now) options.entry) (H.told shelf.old)
-        e.status e.written.items e.said.items) }
-    ensures stop { IfErr result (StopsOn (H.told shelf.old) 0 (inputs_of Command.ReduceMatching) (map (λ w. w.now) names.now)
-        (H.ailing shelf.new) (H.current shelf.new)) }
-    ensures cause { HasCause (H.faults shelf.old) (H.faults shelf.new) (IsErrAnd result (λ s. s ≡ Stop.Read)) }
-    ensures well { IsTrue (H.ailing shelf.new) → IsErrAnd result IsFailure }
+    ensures { Performs (request_for Command.ReduceMatching (map (λ w. w.now) names.now) options.now)
+        (shelved (H.told shelf.old) (H.faults shelf.old) (H.faults shelf.new) (H.ailing shelf.new) (H.current shelf.new))
+        result }
 {
     let formula = read_formula(alloc, shelf, names[0])?;
-    let problem = Problem::new(alloc, formula, options.protect)?;
-    let found = find_matching(rt, alloc, gate, problem.left(), options.workers)?;
+    Ok(answer_matching(rt, alloc, gate, formula, options)?)
+}
+
+/// The document of the matching kernel of a formula.
+fn answer_matching<R: Threads + Sync, G: Gate>(
+    rt: &R,
+    alloc: Global,
+    gate: &G,
+    formula: Formula,
+    options: &Options<'_>,
+) -> Result<Ending, OutOfMemory>
+    ensures { IfOk result (IsAnswer Command.ReduceMatching (values_of options.now) (formula, tt)) }
+{
+    let problem = problem_of(alloc, formula, options.protect)?;
+    let found = find_matching(rt, alloc, gate, problem.left(), options.workers.get())?;
     let document = problem.document(alloc, found)?;
-    Ok(written(alloc, document)?)
+    written(alloc, document)
 }
 
 /// Writes the document of the linear kernel of the formula under a name, or says why there is none: the rows
@@ -80,25 +93,32 @@ pub(crate) fn perform_linear<H: Shelf>(
     alloc: Global,
     shelf: &mut H,
     names: &[&str],
-    options: Options<'_>,
+    options: &Options<'_>,
 ) -> Result<Ending, Stop>
     requires names { length names.now ≡ length (inputs_of Command.ReduceLinear) }
-    ensures ok { IfOk result (λ e. HasResult
-        (request_for Command.ReduceLinear (map (λ w. w.now) names.now) options.entry) (H.told shelf.old)
-        e.status e.written.items e.said.items) }
-    ensures stop { IfErr result (StopsOn (H.told shelf.old) 0 (inputs_of Command.ReduceLinear) (map (λ w. w.now) names.now)
-        (H.ailing shelf.new) (H.current shelf.new)) }
-    ensures cause { HasCause (H.faults shelf.old) (H.faults shelf.new) (IsErrAnd result (λ s. s ≡ Stop.Read)) }
-    ensures well { IsTrue (H.ailing shelf.new) → IsErrAnd result IsFailure }
+    ensures { Performs (request_for Command.ReduceLinear (map (λ w. w.now) names.now) options.now)
+        (shelved (H.told shelf.old) (H.faults shelf.old) (H.faults shelf.new) (H.ailing shelf.new) (H.current shelf.new))
+        result }
 {
     let formula = read_formula(alloc, shelf, names[0])?;
-    let problem = Problem::new(alloc, formula, options.protect)?;
+    Ok(answer_linear(alloc, formula, options)?)
+}
+
+/// The document of the linear kernel of a formula, or why there is none.
+fn answer_linear(
+    alloc: Global,
+    formula: Formula,
+    options: &Options<'_>,
+) -> Result<Ending, OutOfMemory>
+    ensures { IfOk result (IsAnswer Command.ReduceLinear (values_of options.now) (formula, tt)) }
+{
+    let problem = problem_of(alloc, formula, options.protect)?;
     match find_linear(alloc, problem.left(), options.pivots) {
         Ok(found) => {
             let document = problem.document(alloc, found)?;
-            Ok(written(alloc, document)?)
+            written(alloc, document)
         }
-        Err(stop) => Ok(stopped(alloc, stop)?),
+        Err(stop) => stopped(alloc, stop),
     }
 }
 

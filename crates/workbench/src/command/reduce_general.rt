@@ -2,26 +2,24 @@
 ghost use Rattle.std.specs.Prelude.{◌≡◌, ◌<◌, ◌^◌, length, map, IfOk, IfErr, IsErrAnd, IsTrue};
 ghost use Rattle.lk_model.specs.Documents.Text.{text_of};
 ghost use Rattle.lk_model.specs.declared.document.Document.TheVariants.{Unfinished};
-ghost use Rattle.lk_outside.specs.Causes.{HasCause};
-ghost use Rattle.workbench.specs.Commands.{inputs_of};
+ghost use Rattle.command_words.specs.Shapes.{inputs_of};
 ghost use Rattle.workbench.specs.Commands.GeneralReducing.{conflicts_line};
-ghost use Rattle.workbench.specs.Endings.{HasResult};
-ghost use Rattle.workbench.specs.Inputs.{IsFailure, StopsOn};
-ghost use Rattle.workbench.specs.Requests.{request_for};
+ghost use Rattle.command_words.specs.OptionRows.{values_of};
+ghost use Rattle.workbench.specs.Endings.{shelved};
+ghost use Rattle.workbench.specs.Performing.{IsAnswer, Performs};
+ghost use Rattle.command_words.specs.Requests.{request_for};
 
-use crate::command::Command;
 use crate::command::reduce::written;
 use crate::ending::Ending;
-use crate::find::{GeneralFound, find_general};
-use crate::input::read_formula;
 use crate::lines::conflicts_line;
-use crate::options::Options;
-use crate::problem::Problem;
+use crate::protect::problem_of;
 use crate::status::Status;
-use crate::stop::Stop;
 use cert_text::print;
-use lk_model::{Document, OpenDocument, OutOfMemory};
+use command_inputs::{Stop, read_formula};
+use command_words::{Command, Options};
+use lk_model::{Document, Formula, OpenDocument, OutOfMemory};
 use lk_outside::{Gate, Shelf};
+use reductions::{GeneralStop, find_general};
 use std::alloc::Global;
 use std::thread::Threads;
 
@@ -33,32 +31,46 @@ pub(crate) fn perform<R: Threads + Sync, H: Shelf, G: Gate>(
     gate: &G,
     shelf: &mut H,
     names: &[&str],
-    options: Options<'_>,
+    options: &Options<'_>,
 ) -> Result<Ending, Stop>
     requires names { length names.now ≡ length (inputs_of Command.ReduceGeneral) }
-    requires conflicts { 0 < options.conflicts }
-    requires most { options.conflicts < 2 ^ 63 }
-    requires workers { 0 < options.workers }
-    ensures ok { IfOk result (λ e. HasResult
-        (request_for Command.ReduceGeneral (map (λ w. w.now) names.now) options.entry) (H.told shelf.old)
-        e.status e.written.items e.said.items) }
-    ensures stop { IfErr result (StopsOn (H.told shelf.old) 0 (inputs_of Command.ReduceGeneral) (map (λ w. w.now) names.now)
-        (H.ailing shelf.new) (H.current shelf.new)) }
-    ensures cause { HasCause (H.faults shelf.old) (H.faults shelf.new) (IsErrAnd result (λ s. s ≡ Stop.Read)) }
-    ensures well { IsTrue (H.ailing shelf.new) → IsErrAnd result IsFailure }
+    ensures { Performs (request_for Command.ReduceGeneral (map (λ w. w.now) names.now) options.now)
+        (shelved (H.told shelf.old) (H.faults shelf.old) (H.faults shelf.new) (H.ailing shelf.new) (H.current shelf.new))
+        result }
 {
     let formula = read_formula(alloc, shelf, names[0])?;
-    let problem = Problem::new(alloc, formula, options.protect)?;
+    Ok(answer(rt, alloc, gate, formula, options)?)
+}
+
+/// The document of the general kernel of a formula, or an unfinished one.
+fn answer<R: Threads + Sync, G: Gate>(
+    rt: &R,
+    alloc: Global,
+    gate: &G,
+    formula: Formula,
+    options: &Options<'_>,
+) -> Result<Ending, OutOfMemory>
+    ensures { IfOk result (IsAnswer Command.ReduceGeneral (values_of options.now) (formula, tt)) }
+{
+    let problem = problem_of(alloc, formula, options.protect)?;
     let conflicts = options.conflicts;
-    match find_general(rt, alloc, gate, problem.left(), conflicts, options.workers)? {
-        GeneralFound::Done(found) => {
+    match find_general(
+        rt,
+        alloc,
+        gate,
+        problem.left(),
+        conflicts,
+        options.workers.get(),
+    ) {
+        Ok(found) => {
             let document = problem.document(alloc, found)?;
-            Ok(written(alloc, document)?)
+            written(alloc, document)
         }
-        GeneralFound::Unfinished(rounds) => {
-            let document = problem.open_document(conflicts, rounds);
-            Ok(unfinished(alloc, document)?)
+        Err(GeneralStop::Unfinished(rounds)) => {
+            let document = problem.open_document(conflicts.get(), rounds);
+            unfinished(alloc, document)
         }
+        Err(GeneralStop::OutOfMemory) => Err(OutOfMemory),
     }
 }
 

@@ -2,21 +2,19 @@
 ghost use Rattle.std.specs.Prelude.{◌≡◌, ◌∷◌, [], length, map, IfOk, IfErr, IsErrAnd, IsTrue};
 ghost use Rattle.lk_model.specs.Formulas.Formula.{occurring_count};
 ghost use Rattle.lk_model.specs.declared.class.Class.TheVariants.{Pure, Matching};
-ghost use Rattle.lk_outside.specs.Causes.{HasCause};
-ghost use Rattle.workbench.specs.Commands.{inputs_of};
+ghost use Rattle.command_words.specs.Shapes.{inputs_of};
 ghost use Rattle.workbench.specs.Commands.Reporting.{IsKernelSize, WritesReport};
-ghost use Rattle.workbench.specs.Endings.{HasResult};
-ghost use Rattle.workbench.specs.Inputs.{IsFailure, StopsOn};
-ghost use Rattle.workbench.specs.Requests.{request_for};
+ghost use Rattle.command_words.specs.OptionRows.{values_of};
+ghost use Rattle.workbench.specs.Endings.{shelved};
+ghost use Rattle.workbench.specs.Performing.{IsAnswer, Performs};
+ghost use Rattle.command_words.specs.Requests.{request_for};
 
-use crate::command::Command;
 use crate::counts::counts_of;
 use crate::ending::Ending;
-use crate::input::read_formula;
-use crate::options::Options;
 use crate::rows::{Row, text_of};
 use crate::status::Status;
-use crate::stop::Stop;
+use command_inputs::{Stop, read_formula};
+use command_words::{Command, Options};
 use lk_model::{Formula, OutOfMemory};
 use lk_outside::Shelf;
 use matching_kernel::matching_kernel;
@@ -28,21 +26,24 @@ pub(crate) fn perform<H: Shelf>(
     alloc: Global,
     shelf: &mut H,
     names: &[&str],
-    options: Options<'_>,
+    options: &Options<'_>,
 ) -> Result<Ending, Stop>
     requires names { length names.now ≡ length (inputs_of Command.Report) }
-    ensures ok { IfOk result (λ e. HasResult
-        (request_for Command.Report (map (λ w. w.now) names.now) options.entry) (H.told shelf.old)
-        e.status e.written.items e.said.items) }
-    ensures stop { IfErr result (StopsOn (H.told shelf.old) 0 (inputs_of Command.Report) (map (λ w. w.now) names.now)
-        (H.ailing shelf.new) (H.current shelf.new)) }
-    ensures cause { HasCause (H.faults shelf.old) (H.faults shelf.new) (IsErrAnd result (λ s. s ≡ Stop.Read)) }
-    ensures well { IsTrue (H.ailing shelf.new) → IsErrAnd result IsFailure }
+    ensures { Performs (request_for Command.Report (map (λ w. w.now) names.now) options.now)
+        (shelved (H.told shelf.old) (H.faults shelf.old) (H.faults shelf.new) (H.ailing shelf.new) (H.current shelf.new))
+        result }
 {
     let formula = read_formula(alloc, shelf, names[0])?;
+    Ok(answer(alloc, &formula, options)?)
+}
+
+/// The numbers of a formula.
+fn answer(alloc: Global, f: &Formula, options: &Options<'_>) -> Result<Ending, OutOfMemory>
+    ensures { IfOk result (IsAnswer Command.Report (values_of options.now) (f.now, tt)) }
+{
     Ok(Ending {
         status: Status::Done,
-        written: report_of(alloc, &formula)?,
+        written: report_of(alloc, f)?,
         said: Vec::new(alloc),
     })
 }

@@ -1,7 +1,7 @@
 use Rattle.std.proofs.Common.{◌∙◌, ap, sym}
 use Rattle.std.specs.Option.{option_copied}
 use Rattle.lk_model.specs.declared.document.Unit.{Unit}
-use Rattle.cert_text.proofs.LastOnes.{last_read}
+use Rattle.line_text.proofs.LastOnes.{last_read}
 use Rattle.cert_text.proofs.read_linear.last_var.Goals as goal
 
 pub returns-in-Some : goal.returns-in-Some

@@ -1,10 +1,10 @@
 use Rattle.std.proofs.Common.{◌≡◌, ◌∷◌, ◌++◌, [], ◌∙◌, map, ℕ, List, ap, sym}
 use Rattle.lk_model.specs.declared.document.Unit.{Unit}
 use Rattle.cert_text.specs.declared.read_linear.LinearPart.{LinearPart}
-use Rattle.cert_text.specs.Fields.{fields}
+use Rattle.line_text.specs.Fields.{fields}
 use Rattle.cert_text.specs.LinearLines.{unit_within}
-use Rattle.cert_text.specs.LastVars.{last_or}
-use Rattle.cert_text.proofs.Takings.{taken_by, not_by}
+use Rattle.line_text.specs.LastVars.{last_or}
+use Rattle.line_text.proofs.Takings.{taken_by, not_by}
 use Rattle.cert_text.proofs.read_linear.take_unit.Goals as goal
 
 last_is : (units slice : List Unit) (last : ℕ) → last ≡ last_or 0 (map (λ (u : Unit). u.var) slice) → slice ≡ units → last ≡ last_or 0 (map (λ (u : Unit). u.var) units)

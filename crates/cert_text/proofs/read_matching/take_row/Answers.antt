@@ -1,9 +1,10 @@
 use Rattle.std.proofs.Common.{◌≡◌, ◌∷◌, ◌++◌, [], ◌∙◌, map, ℕ, List, ap, sym}
 use Rattle.lk_model.specs.declared.document.MatchRow.{MatchRow}
 use Rattle.cert_text.specs.declared.read_matching.MatchingPart.{MatchingPart}
-use Rattle.cert_text.specs.Fields.{fields, row_within}
-use Rattle.cert_text.specs.LastVars.{last_or}
-use Rattle.cert_text.proofs.Takings.{taken_by, not_by}
+use Rattle.line_text.specs.Fields.{fields}
+use Rattle.cert_text.specs.Entries.{row_within}
+use Rattle.line_text.specs.LastVars.{last_or}
+use Rattle.line_text.proofs.Takings.{taken_by, not_by}
 use Rattle.cert_text.proofs.read_matching.take_row.Goals as goal
 
 last_is : (rows slice : List MatchRow) (last : ℕ) → last ≡ last_or 0 (map (λ (r : MatchRow). r.var) slice) → slice ≡ rows → last ≡ last_or 0 (map (λ (r : MatchRow). r.var) rows)

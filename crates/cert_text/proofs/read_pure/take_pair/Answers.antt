@@ -1,9 +1,10 @@
 use Rattle.std.proofs.Common.{◌≡◌, ◌∷◌, ◌++◌, [], ◌∙◌, map, ℕ, List, ap, sym}
 use Rattle.lk_model.specs.declared.document.Pair.{Pair}
 use Rattle.cert_text.specs.declared.read_pure.PurePart.{PurePart}
-use Rattle.cert_text.specs.Fields.{fields, pair_within}
-use Rattle.cert_text.specs.LastVars.{last_or}
-use Rattle.cert_text.proofs.Takings.{taken_by, not_by, behind_is}
+use Rattle.line_text.specs.Fields.{fields}
+use Rattle.cert_text.specs.Entries.{pair_within}
+use Rattle.line_text.specs.LastVars.{last_or}
+use Rattle.line_text.proofs.Takings.{taken_by, not_by, behind_is}
 use Rattle.cert_text.proofs.read_pure.take_pair.Goals as goal
 
 last_is : (pairs slice : List Pair) (last : ℕ) → last ≡ last_or 0 (map (λ (q : Pair). q.var) slice) → slice ≡ pairs → last ≡ last_or 0 (map (λ (q : Pair). q.var) pairs)

@@ -1,7 +1,7 @@
 use Rattle.std.proofs.Common.{◌∷◌, ◌∙◌, List, ℕ, ap, sym}
 use Rattle.std.specs.Borrow.{Bor}
 use Rattle.lk_model.specs.Texts.Lines.{Word}
-use Rattle.cert_text.specs.Fields.{fields, rest_fields}
+use Rattle.line_text.specs.Fields.{fields, rest_fields}
 use Rattle.cert_text.proofs.LinearSteps.{unit_short}
 use Rattle.cert_text.proofs.signed_lists.unit_in.Goals as goal
 

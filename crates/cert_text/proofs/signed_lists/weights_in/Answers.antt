@@ -1,13 +1,13 @@
 use Rattle.std.proofs.Common.{◌∷◌, ◌∙◌, map, List, ap, sym}
 use Rattle.lk_model.specs.declared.document.Weight.{Weight}
 use Rattle.lk_model.specs.Texts.Lines.{Word}
-use Rattle.cert_text.specs.Fields.{fields, rest_fields}
-use Rattle.cert_text.specs.FieldLists.{twos}
-use Rattle.cert_text.specs.LastVars.{last_or}
+use Rattle.line_text.specs.Fields.{fields, rest_fields}
+use Rattle.line_text.specs.FieldLists.{twos}
+use Rattle.line_text.specs.LastVars.{last_or}
 use Rattle.cert_text.specs.LinearLines.{weight_within}
-use Rattle.cert_text.proofs.LastOnes.{last_more}
+use Rattle.line_text.proofs.LastOnes.{last_more}
 use Rattle.cert_text.proofs.LinearSteps.{weight_read}
-use Rattle.cert_text.proofs.TwosSteps.{twos_step, twos_short}
+use Rattle.line_text.proofs.TwosSteps.{twos_step, twos_short}
 use Rattle.cert_text.proofs.signed_lists.weights_in.Goals as goal
 
 pub returns-in_default-behind : goal.returns-in_default-behind

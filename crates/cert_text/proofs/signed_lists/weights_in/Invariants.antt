@@ -1,8 +1,8 @@
 use Rattle.std.proofs.Common.{◌≡◌, [], map, length}
 use Rattle.lk_model.specs.declared.document.Weight.{Weight}
-use Rattle.cert_text.specs.Fields.{fields}
-use Rattle.cert_text.specs.FieldLists.{twos}
-use Rattle.cert_text.specs.LastVars.{last_or}
+use Rattle.line_text.specs.Fields.{fields}
+use Rattle.line_text.specs.FieldLists.{twos}
+use Rattle.line_text.specs.LastVars.{last_or}
 use Rattle.cert_text.specs.LinearLines.{weight_within}
 use Rattle.cert_text.proofs.signed_lists.weights_in.Given as goal
 

@@ -1,9 +1,9 @@
 use Rattle.std.proofs.Common.{◌∷◌, [], ◌∙◌, List, ℕ, ap, sym, refl}
 use Rattle.std.specs.Borrow.{Bor}
 use Rattle.lk_model.specs.Texts.Lines.{Word}
-use Rattle.cert_text.specs.Fields.{fields, rest_fields}
+use Rattle.line_text.specs.Fields.{fields, rest_fields}
 use Rattle.cert_text.specs.Drafts.{format_words}
-use Rattle.cert_text.proofs.Words.{many}
+use Rattle.line_text.proofs.Words.{many}
 use Rattle.cert_text.proofs.steps.format_in.Goals as goal
 
 pub returns-then-is_some : goal.returns-then-is_some

@@ -5,8 +5,9 @@ use Rattle.std.proofs.lemmas.Iterator.Adapters.{option_map_id}
 use Rattle.std.proofs.lemmas.Iterator.Search.{find_from_yields_List}
 use Rattle.lk_model.specs.Formulas.Formula.{clause_at}
 use Rattle.lk_model.specs.Held.PartialValues.{assignment_by}
-use Rattle.lean_checker.specs.Flags.{is_flagged, is_misplaced}
-use Rattle.lean_checker.proofs.KeptFlags.{misplaced_found}
+use Rattle.check_tables.specs.Flags.{is_flagged}
+use Rattle.lean_checker.specs.Common.{is_misplaced}
+use Rattle.lean_checker.proofs.Removals.{misplaced_found}
 use Rattle.lean_checker.proofs.common.not_exactly_removed.Goals as goal
 
 -- what is found is the first position that is misplaced by the flags

@@ -2,9 +2,10 @@ use Rattle.std.proofs.Common.{rules, length}
 use borrow.Author.Tests.{tests}
 use Rattle.lk_model.specs.Formulas.Formula.{clause_at}
 use Rattle.lk_model.specs.Held.PartialValues.{assignment_by}
-use Rattle.lean_checker.specs.Flags.{is_flagged, is_misplaced}
-use Rattle.lean_checker.proofs.KeptFlags.{misplaced_found}
-use Rattle.lean_checker.proofs.Spans.{place_told}
+use Rattle.check_tables.specs.Flags.{is_flagged}
+use Rattle.lean_checker.specs.Common.{is_misplaced}
+use Rattle.lean_checker.proofs.Removals.{misplaced_found}
+use Rattle.check_tables.proofs.Spans.{place_told}
 use Rattle.lean_checker.proofs.shared.not_exactly_removed.Goals as goal
 
 -- what is found is the first position that is misplaced by the flags

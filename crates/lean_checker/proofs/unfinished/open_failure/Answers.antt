@@ -7,7 +7,7 @@ use Rattle.lk_model.specs.Formulas.Crossed.{formula_without, no_variable, protec
 use Rattle.lk_model.specs.Documents.Form.{is_protect_line}
 use Rattle.lk_model.specs.Checks.Check.{first_of}
 use Rattle.lk_model.specs.declared.document.Round.{Round}
-use Rattle.lean_checker.specs.Learned.{are_open_but_last}
+use Rattle.check_rounds.specs.Learned.{are_open_but_last}
 use Rattle.lean_checker.specs.Unfinished.{step_checks}
 use Rattle.lean_checker.proofs.OpenFailures.{text_found, steps_found, open_form, rounds_open, steps_in_form}
 use Rattle.lean_checker.proofs.unfinished.open_failure.Goals as goal

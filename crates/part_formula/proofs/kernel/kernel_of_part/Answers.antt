@@ -8,9 +8,9 @@ use Rattle.lk_model.specs.Documents.Documents.{steps_of}
 use Rattle.lk_model.specs.Documents.Form.{are_steps}
 use Rattle.lk_model.specs.declared.document.Round.{Round}
 use Rattle.lk_model.specs.declared.result.GeneralResult.{GeneralResult}
-use Rattle.general_kernel.specs.Found.{IsDone, IsUnfinished, IsFound}
-use Rattle.general_kernel.specs.declared.general.General.{General}
-use Rattle.general_kernel.specs.declared.general.General.TheVariants.{Done, Unfinished}
+use Rattle.kernel_laws.specs.General.Found.{IsDone, IsUnfinished, IsFound}
+use Rattle.lk_model.specs.declared.result.General.{General}
+use Rattle.lk_model.specs.declared.result.General.TheVariants.{Done, Unfinished}
 use Rattle.renaming_laws.specs.Renaming.{IsDense, renamed_result, renamed_round}
 use Rattle.part_formula.specs.Named.{is_round_within}
 use Rattle.renaming_laws.proofs.RenamingLaws.{renaming_law}

@@ -2,8 +2,8 @@ use Rattle.std.proofs.Common.{rules, ◌≡◌, ◌∙◌, ℕ, ◌<◌, List, [
 use Rattle.std.proofs.lemmas.Result.{IfOk-weaker, IfOk-at_ok}
 use Rattle.std.proofs.lemmas.List.{get_or-map, length-map}
 use Rattle.lk_model.specs.declared.list.OutOfMemory.{OutOfMemory}
-use Rattle.general_kernel.specs.Found.{IsFound}
-use Rattle.general_kernel.specs.declared.general.General.{General}
+use Rattle.kernel_laws.specs.General.Found.{IsFound}
+use Rattle.lk_model.specs.declared.result.General.{General}
 use Rattle.part_kernels.specs.ByParts.{AreFound}
 use Rattle.part_kernels.proofs.Founds.{nothing, found_from}
 use Rattle.part_kernels.proofs.general.answers.Goals as goal

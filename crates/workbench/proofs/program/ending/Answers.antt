@@ -1,6 +1,6 @@
 use Rattle.std.proofs.Common.{map}
 use Rattle.workbench.specs.Endings.{shelved}
-use Rattle.workbench.specs.Lawful.{request_of}
+use Rattle.command_words.specs.Lawful.{request_of}
 use Rattle.workbench.proofs.EndingLaws.{result_allowed, result_decided, result_well, told_allowed, told_decided, told_well}
 use Rattle.workbench.proofs.program.ending.Goals as goal
 

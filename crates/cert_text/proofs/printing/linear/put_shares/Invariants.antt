@@ -1,5 +1,6 @@
 use Rattle.std.proofs.Common.{◌≡◌, ◌++◌, drop}
-use Rattle.cert_text.specs.Printed.{spaced, share_words}
+use Rattle.line_text.specs.Spaced.{spaced}
+use Rattle.cert_text.specs.Printed.{share_words}
 use Rattle.cert_text.proofs.printing.linear.put_shares.Given as goal
 
 -- what is written, and what is left to write

@@ -1,6 +1,6 @@
 use Rattle.std.specs.Prelude.{codes}
 use Rattle.cert_text.specs.Printed.{weight_words}
-use Rattle.cert_text.proofs.PrintedTexts.{ended_behind}
+use Rattle.line_text.proofs.PrintedLines.{ended_behind}
 use Rattle.cert_text.proofs.printing.linear.put_stage.Goals as goal
 
 pub returns : goal.returns

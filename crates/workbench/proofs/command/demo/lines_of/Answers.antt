@@ -15,7 +15,7 @@ matching_size-requires-clause-formula g c κs within = c.vars-vars.ensures.formu
 pub put_checked-requires-clause-accepted : goal.put_checked-requires-clause-accepted
 put_checked-requires-clause-accepted g c κs within =
     subst (λ (d : DoneDocument). Accepts c.args.f.now d) (sym c.in_ok-document.ensures.document)
-    (reduces_formula c.args.f.now c.args.found c.in_ok-document.ensures.formula c.in_ok-document.ensures.limits c.requires.found).accepted
+    (reduces_formula c.args.f.now c.args.found c.in_ok-document.ensures.formula c.in_ok-document.ensures.limits c.requires.found.kernel).accepted
 
 pub returns : goal.returns
 returns g c =

@@ -1,45 +1,56 @@
-use Rattle.std.proofs.Common.{ℕ, [], ◌∷◌, subst}
+use Rattle.std.proofs.Common.{[], ◌∷◌, subst}
 use Rattle.std.proofs.lemmas.Result.{err_from_is_err_and}
 use Rattle.lk_model.specs.Formulas.Assignment.{Assignment}
 use Rattle.lk_model.specs.Held.PartialValues.{assignment_by}
+use Rattle.command_words.specs.declared.shape.Grammar.TheVariants.{Formula, Document, Model}
+use Rattle.command_words.proofs.Texts.{text_at}
+use Rattle.command_inputs.specs.Inputs.{nothing_known, known_of}
+use Rattle.command_inputs.proofs.ModelReads.{stops_before, stops_behind, model_behind}
+use Rattle.command_inputs.proofs.Streams.{Cause-then}
 use Rattle.workbench.specs.Commands.Extending.{outcome_of, Tells}
-use Rattle.workbench.specs.Inputs.{Formula, Document, Model, IsModelRead, StopsReading}
 use Rattle.workbench.proofs.Extensions.{outcome_result}
-use Rattle.workbench.proofs.ModelReads.{stops_before, stops_behind, model_behind}
-use Rattle.workbench.proofs.Texts.{three_names, text_at}
+use Rattle.workbench.proofs.Names.{three_names}
+use Rattle.workbench.proofs.Performing.{stopped, no_memory, performed}
 use Rattle.workbench.proofs.command.extend.perform.Goals as goal
 
-pub returns-in_err-read-clause-stop : goal.returns-in_err-read-clause-stop
-returns-in_err-read-clause-stop g c =
+pub returns-in_err-read : goal.returns-in_err-read
+returns-in_err-read g c =
     let shelf = g.H.Shelf in
     let names = c.args.names.now in
     let p = err_from_is_err_and c.from_residual.result c.from_residual.ensures.1 in
-    rw (p.1, p.2, three_names names c.requires.names)
-    (stops_before (shelf.told c.args.shelf.now) 0 (Formula ∷ Document ∷ []) (Model ∷ []) (text_at names 0 ∷ text_at names 1 ∷ []) (text_at names 2 ∷ []) (shelf.ailing c.read_checked.new.shelf) (shelf.current c.read_checked.new.shelf) c.in_err-read.field-0.0
-    c.in_err-read.ensures.stop)
+    let stop = c.in_err-read.ensures in
+    rw (p.1, p.2) (stopped _ _ c.in_err-read.field-0.0
+    (rw (three_names names c.requires.names) (stops_before (shelf.told c.args.shelf.now) nothing_known (Formula ∷ Document ∷ []) (Model ∷ []) (text_at names 0 ∷ text_at names 1 ∷ []) (text_at names 2 ∷ []) (shelf.ailing c.read_checked.new.shelf) (shelf.current c.read_checked.new.shelf) c.in_err-read.field-0.0 stop.stop))
+    stop.cause stop.well)
 
-pub returns-in_err-model-clause-stop : goal.returns-in_err-model-clause-stop
-returns-in_err-model-clause-stop g c =
+pub returns-in_err-model : goal.returns-in_err-model
+returns-in_err-model g c =
     let shelf = g.H.Shelf in
     let names = c.args.names.now in
     let p = err_from_is_err_and c.from_residual-in_err-model.result c.from_residual-in_err-model.ensures.1 in
-    let stops = subst (λ (n : ℕ). StopsReading Model n (shelf.told c.read_checked.new.shelf (text_at names 2)) (shelf.ailing c.read_values.new.shelf) c.in_err-model.field-0.0) c.vars.ensures.value c.in_err-model.ensures.stop in
-    rw (p.1, p.2, three_names names c.requires.names)
-    (stops_behind (shelf.told c.args.shelf.now) (shelf.told c.read_checked.new.shelf) (text_at names 0) (text_at names 1) (text_at names 2) c.in_ok-read.read.formula c.in_ok-read.read.document (shelf.ailing c.read_values.new.shelf) (shelf.current c.read_values.new.shelf)
-    c.in_err-model.field-0.0 c.in_ok-read.ensures.told c.in_ok-read.ensures.read stops c.in_err-model.ensures.current)
+    let read = c.in_ok-read.ensures in
+    let stop = c.in_err-model.ensures in
+    rw (p.1, p.2) (stopped _ _ c.in_err-model.field-0.0
+    (rw (three_names names c.requires.names) (stops_behind (shelf.told c.args.shelf.now) (shelf.told c.read_checked.new.shelf) (text_at names 0) (text_at names 1) (text_at names 2) c.in_ok-read.read.formula c.in_ok-read.read.document (shelf.ailing c.read_values.new.shelf) (shelf.current c.read_values.new.shelf)
+    c.in_err-model.field-0.0 read.told read.read stop.stop stop.current))
+    (Cause-then _ _ _ read.cause stop.cause) stop.well)
 
-pub returns-clause-ok : goal.returns-clause-ok
-returns-clause-ok g c =
+pub returns-in_err-told : goal.returns-in_err-told
+returns-in_err-told g c =
+    let p = err_from_is_err_and c.from_residual-in_err-told.result c.from_residual-in_err-told.ensures.1 in
+    rw (p.1, p.2) (no_memory _ _ (Cause-then _ _ _ c.in_ok-read.ensures.cause c.in_ok-model.ensures.cause))
+
+pub returns : goal.returns
+returns g c =
     let shelf = g.H.Shelf in
     let names = c.args.names.now in
     let F = c.in_ok-read.read.formula in
     let d = c.in_ok-read.read.document in
     let e = c.in_ok-told.field-0 in
-    let read = subst (λ (n : ℕ). IsModelRead (shelf.told c.read_checked.new.shelf (text_at names 2)) n c.in_ok-model.model) c.vars.ensures.value c.in_ok-model.ensures.model in
-    let m = model_behind (shelf.told c.args.shelf.now) (shelf.told c.read_checked.new.shelf) (text_at names 2) F.vars c.in_ok-model.model c.in_ok-read.ensures.told read in
-    record {
-      values = (F, (d, (m.literals, tt)));
-      read = rw (three_names names c.requires.names) (c.in_ok-read.ensures.read.0, (c.in_ok-read.ensures.read.1.0, (m.text, tt)));
+    let read = c.in_ok-read.ensures in
+    let model = c.in_ok-model.ensures in
+    let m = model_behind (shelf.told c.args.shelf.now) (shelf.told c.read_checked.new.shelf) (text_at names 2) (known_of F) c.in_ok-model.model read.told model.model in
+    performed _ _ (F, (d, (m.literals, tt))) e (rw (three_names names c.requires.names) (read.read.0, (read.read.1.0, (m.text, tt)))) (record {
       result = outcome_result (outcome_of F d (assignment_by c.in_ok-model.model)) e.status c.in_ok-told.ensures.status_is;
       answers = subst (λ (φ : Assignment). Tells F d φ e.status e.written.items e.said.items) m.values_are c.in_ok-told.ensures;
-    }
+    }) (Cause-then _ _ _ read.cause model.cause) model.well

@@ -1,41 +1,23 @@
-use Rattle.std.proofs.Common.{◌∙◌, refl, sym, subst}
-use Rattle.std.specs.Prelude.{IsTrue}
-use Rattle.lk_model.specs.Formulas.Formula.{Cnf}
-use Rattle.lk_model.specs.declared.class.Class.TheVariants.{Linear}
-use Rattle.workbench.specs.Founds.{TellsReduction}
-use Rattle.workbench.specs.OptionKeys.{values_of}
-use Rattle.workbench.specs.Statuses.{is_result}
-use Rattle.workbench.specs.declared.status.Status.{Status}
-use Rattle.workbench.proofs.LinearEndings.{done_answers, stop_answers, stop_result}
-use Rattle.workbench.proofs.Protecting.{left_without, problem_writes}
-use Rattle.workbench.proofs.Texts.{one_name}
+use Rattle.std.proofs.Common.{refl}
+use Rattle.std.proofs.lemmas.Result.{err_from_is_err_and}
+use Rattle.command_words.proofs.Texts.{text_at}
+use Rattle.workbench.proofs.Names.{one_name}
+use Rattle.workbench.proofs.Performing.{formula_stopped, no_memory, performed}
 use Rattle.workbench.proofs.command.reduce.perform_linear.Goals as goal
 
-pub returns-in_ok-written-in-Ok-clause-ok : goal.returns-in_ok-written-in-Ok-clause-ok
-returns-in_ok-written-in-Ok-clause-ok g c =
-    let options = values_of c.args.options in
-    let F = c.in_ok-formula.formula in
-    let e = c.in_ok-written-in-Ok.field-0 in
-    let writes = problem_writes F Linear options.protect c.in_ok-problem.problem c.in-Ok.found options.pivots c.in_ok-document-in-Ok.document e.written.items
-    c.in_ok-problem.ensures c.in_ok-document-in-Ok.ensures.formula c.in_ok-document-in-Ok.ensures.limits
-    (subst (λ (G : Cnf). TellsReduction Linear options.pivots G c.in-Ok.found) c.left.ensures c.in-Ok.ensures.reduces) c.in_ok-document-in-Ok.ensures.document c.in_ok-written-in-Ok.ensures.written in
-    record {
-      values = (F, tt);
-      read = rw (one_name c.args.names.now c.requires.names) (c.in_ok-formula.ensures.formula, tt);
-      result = subst (λ (s : Status). IsTrue (is_result s)) (sym c.in_ok-written-in-Ok.ensures.status) refl;
-      answers = done_answers options F c.left.result.now e.status e.written.items e.said.items (c.left.ensures ∙ left_without F options.protect c.in_ok-problem.problem c.in_ok-problem.ensures)
-          c.in-Ok.ensures.done c.in_ok-written-in-Ok.ensures.status writes c.in_ok-written-in-Ok.ensures.said;
-    }
+pub returns-in_err-formula : goal.returns-in_err-formula
+returns-in_err-formula g c =
+    let names = c.args.names.now in
+    let p = err_from_is_err_and c.from_residual.result c.from_residual.ensures.1 in
+    let stop = c.in_err-formula.ensures in
+    rw (p.1, p.2) (formula_stopped _ _ (text_at names 0) c.in_err-formula.field-0.0 refl (one_name names c.requires.names) stop.stop stop.current stop.cause stop.well)
 
-pub returns-in_ok-stopped-in-Err-clause-ok : goal.returns-in_ok-stopped-in-Err-clause-ok
-returns-in_ok-stopped-in-Err-clause-ok g c =
-    let options = values_of c.args.options in
-    let F = c.in_ok-formula.formula in
-    let e = c.in_ok-stopped-in-Err.field-0 in
-    record {
-      values = (F, tt);
-      read = rw (one_name c.args.names.now c.requires.names) (c.in_ok-formula.ensures.formula, tt);
-      result = stop_result c.in-Err.stop e.status e.written.items e.said.items c.in_ok-stopped-in-Err.ensures;
-      answers = stop_answers options F c.left.result.now c.in-Err.stop e.status e.written.items e.said.items (c.left.ensures ∙ left_without F options.protect c.in_ok-problem.problem c.in_ok-problem.ensures)
-          c.in-Err.ensures.stop c.in_ok-stopped-in-Err.ensures;
-    }
+pub returns-in_err-answer_linear : goal.returns-in_err-answer_linear
+returns-in_err-answer_linear g c =
+    let p = err_from_is_err_and c.from_residual-in_err-answer_linear.result c.from_residual-in_err-answer_linear.ensures.1 in
+    rw (p.1, p.2) (no_memory _ _ c.in_ok-formula.ensures.cause)
+
+pub returns : goal.returns
+returns g c =
+    let read = c.in_ok-formula.ensures in
+    performed _ _ (c.in_ok-formula.formula, tt) c.in_ok-answer_linear.field-0 (rw (one_name c.args.names.now c.requires.names) (read.formula, tt)) c.in_ok-answer_linear.ensures read.cause read.well

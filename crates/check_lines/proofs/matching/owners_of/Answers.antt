@@ -1,0 +1,32 @@
+use Rattle.std.proofs.Common.{◌≡◌, ◌+◌, ◌-◌, ◌<◌, length, arith}
+use Rattle.lk_model.specs.declared.document.Own.{Own}
+use Rattle.kernel_laws.proofs.FirstTables.{first_more}
+use Rattle.check_lines.proofs.MatchingChecks.{own_within}
+use Rattle.check_lines.proofs.matching.owners_of.Goals as goal
+
+-- what stands where there is no line
+abbrev no_line : Own
+no_line = record { pos = 0; var = 0 }
+
+pub overflow_sub-line : goal.overflow_sub-line
+overflow_sub-line c =
+    let inside : c.loop-i.i - 1 < length c.args.own.now = omega arith in
+    (own_within c.args.n c.args.m c.args.own.now (c.loop-i.i - 1) no_line c.requires inside).pos_first
+
+pub index_mut-requires : goal.index_mut-requires
+index_mut-requires c =
+    let inside : c.loop-i.i - 1 < length c.args.own.now = omega arith in
+    let line = own_within c.args.n c.args.m c.args.own.now (c.loop-i.i - 1) no_line c.requires inside in
+    omega (arith, line.pos_first, line.pos_last, c.loop-i.invariant.of_position.size_is, c.loop-i.of_position.ok.0)
+
+pub loop-i-preserved : goal.loop-i-preserved
+loop-i-preserved c =
+    let own = c.args.own.now in
+    let i = c.loop-i.i - 1 in
+    let inside : i < length own = omega arith in
+    let next : c.loop-i.i ≡ i + 1 = omega arith in
+    let line = own_within c.args.n c.args.m own i no_line c.requires inside in
+    record {
+      of_position = first_more c.args.m (λ (o : Own). o.pos) (λ (o : Own). o.var) 0 0 own i c.loop-i.i no_line c.loop-i.of_position.items next inside line.pos_first line.pos_last c.loop-i.invariant.of_position;
+      first = first_more c.args.n (λ (o : Own). o.var) (λ (o : Own). o.pos) 0 c.args.m own i c.loop-i.i no_line c.loop-i.first.items next inside line.var_first line.var_last c.loop-i.invariant.first;
+    }

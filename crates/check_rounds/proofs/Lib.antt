@@ -1,0 +1,7 @@
+pub mod BlockTables
+pub mod Reaching
+pub mod ChainChecks
+pub mod StepPlaces
+pub mod WorkSets
+pub mod IndexLemmas
+pub mod LearnedChecks

@@ -1,0 +1,44 @@
+use Rattle.std.proofs.Common.{◌≡◌, ◌∙◌, ◌<◌, [], ap, sym, subst, arith, Some, take, length, not, false, true}
+use Rattle.lk_model.specs.Formulas.Formula.{Cnf}
+use Rattle.lk_model.specs.Chains.Chain.{states_its_clause}
+use Rattle.check_rounds.specs.Chains.{IsWork, premises_at, step_behind, misstates}
+use Rattle.check_rounds.specs.Steps.{step_at}
+use Rattle.check_rounds.proofs.StepPlaces.{place_at, place_of, place_first, place_later, round_is, step_in, step_reads, step_is}
+use Rattle.check_rounds.proofs.chains.bad_step_in.Goals as goal
+
+pub states_its_clause-requires-clause-round : goal.states_its_clause-requires-clause-round
+states_its_clause-requires-clause-round c =
+    let places = c.args.places.now in
+    let w = place_of c.args.over.now.rounds.now places c.loop-j.j c.requires.places (omega arith) in
+    round_is c.args.over.now (place_at places c.loop-j.j).round c.round_at.result c.requires.rounds c.round_at.ensures w.round
+
+pub returns-then-not-branch : goal.returns-then-not-branch
+returns-then-not-branch c =
+    let over = c.args.over.now in
+    let places = c.args.places.now in
+    let j = c.loop-j.j in
+    let at = place_at places j in
+    let r = c.round_at.result in
+    let w = place_of over.rounds.now places j c.requires.places (omega arith) in
+    let inside : at.index < length r.steps.now = omega (arith, w.index, ap length c.round_at.ensures.steps) in
+    let is = step_reads r at inside in
+    let bad : states_its_clause (premises_at r at.index) (step_in r at) ≡ false = sym (c.in_ok-states_its_clause.ensures.stated (step_in r at) is) ∙ c.if-not-branch.true in
+    let same : step_behind r (take at.index r.steps.now) (step_in r at) ≡ step_at over at = step_is over at r (step_in r at) c.round_at.ensures inside is in
+    ap Some c.number_of.ensures ∙ sym (place_first misstates over places j at (omega arith) w.is (ap misstates (sym same) ∙ ap not bad)) ∙ c.loop-j.invariant.rest
+
+pub loop-j-preserved : goal.loop-j-preserved
+loop-j-preserved c =
+    let over = c.args.over.now in
+    let places = c.args.places.now in
+    let j = c.loop-j.j in
+    let at = place_at places j in
+    let r = c.round_at.result in
+    let w = place_of over.rounds.now places j c.requires.places (omega arith) in
+    let inside : at.index < length r.steps.now = omega (arith, w.index, ap length c.round_at.ensures.steps) in
+    let is = step_reads r at inside in
+    let good : states_its_clause (premises_at r at.index) (step_in r at) ≡ true = sym (c.in_ok-states_its_clause.ensures.stated (step_in r at) is) ∙ c.if-not-branch.false in
+    let same : step_behind r (take at.index r.steps.now) (step_in r at) ≡ step_at over at = step_is over at r (step_in r at) c.round_at.ensures inside is in
+    record {
+      work = subst (λ (G : Cnf). IsWork G.vars [] c.states_its_clause.new.work) c.round_at.ensures.formula c.in_ok-states_its_clause.ensures.work;
+      rest = sym (place_later misstates over places j at (omega arith) w.is (ap misstates (sym same) ∙ ap not good)) ∙ c.loop-j.invariant.rest;
+    }

@@ -1,0 +1,39 @@
+-- Lists by literals, by which clauses are found that stand within another one.
+use Rattle.std.specs.Prelude.{◌≡◌, ◌≤◌, ◌-◌, ℕ, true, false, List, [], ℤ, slice_index, slice_index_or}
+use Rattle.std.specs.List.{All}
+use Rattle.lk_model.specs.Lists.{among, is_empty}
+use Rattle.lk_model.specs.Formulas.Literal.{variable, contains, rank_of}
+use Rattle.lk_model.specs.Formulas.Formula.{Cnf, clause_at}
+use Rattle.lk_model.specs.Formulas.Crossed.{crossed_out}
+use Rattle.lk_model.specs.declared.document.Step.{Step}
+use Rattle.lk_model.specs.declared.document.Round.{Round}
+use Rattle.check_rounds.specs.Blocking.{is_before}
+
+-- the list of a literal
+abbrev pub list_of : List (List ℕ) → ℤ → List ℕ
+list_of lists l = slice_index_or lists (rank_of l) []
+
+-- the number of the round that blocks the variable of a literal first
+abbrev pub block_of : List ℕ → ℤ → ℕ
+block_of blocks l = slice_index blocks (variable l - 1)
+
+-- Whatever is blocked before a round: if a literal of the clause is left, the clause's number stands in the list of such a
+-- literal.
+abbrev pub IsFound : List ℕ → List (List ℕ) → List ℤ → ℕ → Type 0
+IsFound blocks lists clause number = (k : ℕ) → is_empty (crossed_out (is_before k blocks) clause) ≡ false
+    → (l : ℤ) × (contains (crossed_out (is_before k blocks) clause) l ≡ true) × (among (list_of lists l) number ≡ true)
+
+-- so of the clauses of a formula, by their positions
+abbrev pub AreClausesFound : List ℕ → List (List ℕ) → Cnf → ℕ → Type 0
+AreClausesFound blocks lists F last = (p : ℕ) → 1 ≤ p → p ≤ last → IsFound blocks lists (clause_at F p) p
+
+-- and of those of steps, by their numbers
+abbrev pub AreStepsFound : List ℕ → List (List ℕ) → List Step → Type 0
+AreStepsFound blocks lists steps = All (λ (s : Step). IsFound blocks lists s.clause s.number) steps
+
+abbrev pub AreRoundsFound : List ℕ → List (List ℕ) → List Round → Type 0
+AreRoundsFound blocks lists rounds = All (λ (r : Round). AreStepsFound blocks lists r.steps) rounds
+
+-- what was found is found still
+abbrev pub KeepsFound : List ℕ → List (List ℕ) → List (List ℕ) → Type 0
+KeepsFound blocks before after = (clause : List ℤ) (number : ℕ) → IsFound blocks before clause number → IsFound blocks after clause number

@@ -1,0 +1,5 @@
+pub mod Blocking
+pub mod Chains
+pub mod Index
+pub mod Learned
+pub mod Steps

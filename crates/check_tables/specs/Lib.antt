@@ -1,0 +1,4 @@
+pub mod Flags
+pub mod LiteralSets
+pub mod Occurring
+pub mod Places

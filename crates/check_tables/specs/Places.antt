@@ -1,0 +1,71 @@
+-- Places that are searched in ranges.
+use Rattle.std.specs.Prelude.{◌≡◌, ℕ, ◌+◌, ◌<◌, ◌≤◌, Bool, List, [], ◌∷◌, ◌++◌, find, option_map, Option, Some, None, Ok, Err, IfOk}
+use Rattle.std.specs.List.{range_with_len}
+use Rattle.std.specs.declared.result.Result.{Result}
+use Rattle.std.specs.Fn.{FnReturns}
+use denote.Param.Members.{Shared}
+use denote.Ref.{Bor}
+use Rattle.lk_model.specs.declared.list.OutOfMemory.{OutOfMemory}
+use Rattle.check_tables.specs.declared.places.Span.{Span}
+
+-- what a search answers: a place, or none
+abbrev pub Answer : Type 0
+Answer = Result (Option ℕ) OutOfMemory
+
+-- the places of a range
+abbrev pub places_in : Span → List ℕ
+places_in span = range_with_len span.first span.count
+
+-- the ranges, one behind the other, have the places from a first one to n
+abbrev pub AreCut : ℕ → ℕ → List Span → Type 0
+AreCut first n [] = first ≡ n + 1
+AreCut first n (span ∷ spans) = (span.first ≡ first) × AreCut (first + span.count) n spans
+
+-- the first answer that is not none
+abbrev pub first_answer : {X : Type 0} → List (Result (Option X) OutOfMemory) → Result (Option X) OutOfMemory
+first_answer [] = Ok None
+first_answer (Ok None ∷ rest) = first_answer rest
+first_answer (Ok (Some place) ∷ rest) = Ok (Some place)
+first_answer (Err e ∷ rest) = Err e
+
+-- A TEST OF PLACES
+
+module _ {F : Type 0} (g : Shared F (ℕ × Unit {0}) Bool) (f : F) (first end : ℕ) where
+  -- f may be called on each place from the first one to before the end
+  abbrev pub AcceptsPlaces : Type 0
+  AcceptsPlaces = (p : ℕ) → first ≤ p → p < end → g.pre f (p, tt)
+
+  -- and answers there what the test says
+  abbrev pub Decides : (ℕ → Bool) → Type 0
+  Decides by = (p : ℕ) (b : Bool) → first ≤ p → p < end → FnReturns g f (p, tt) b → b ≡ by p
+
+-- A SEARCH IN RANGES
+
+module _ {F : Type 0} (g : Shared F (Span × Unit {0}) Answer) (f : F) (n : ℕ) where
+  -- f may be called on each range within 1 to n
+  abbrev pub AcceptsSpans : Type 0
+  AcceptsSpans = (span : Span) → 0 < span.first → span.first + span.count ≤ n + 1 → g.pre f (span, tt)
+
+  -- and answers the first place there at which the test says yes
+  abbrev pub Finds : (ℕ → Bool) → Type 0
+  Finds by = (span : Span) (r : Answer) → 0 < span.first → span.first + span.count ≤ n + 1 → FnReturns g f (span, tt) r → IfOk r (λ place. place ≡ find by (places_in span))
+
+-- A SEARCH IN PARTS OF A LIST
+
+-- what the parts have, one after another
+abbrev pub joined : {T : Type 0} → List (Bor (List T)) → List T
+joined [] = []
+joined (part ∷ parts) = part.now ++ joined parts
+
+-- the items stand in the list one after another
+abbrev pub IsPart : {T : Type 0} → List T → List T → Type 0
+IsPart {T} part items = (before : List T) × (after : List T) × (items ≡ before ++ (part ++ after))
+
+module _ {F T : Type 0} (g : Shared F (Bor (List T) × Unit {0}) Answer) (f : F) (items : List T) where
+  -- f may be called on each part of the list
+  abbrev pub AcceptsParts : Type 0
+  AcceptsParts = (part : Bor (List T)) → IsPart part.now items → g.pre f (part, tt)
+
+  -- and answers what is told of the first item there at which the test says yes
+  abbrev pub FindsItems : (T → Bool) → (T → ℕ) → Type 0
+  FindsItems by tell = (part : Bor (List T)) (r : Answer) → IsPart part.now items → FnReturns g f (part, tt) r → IfOk r (λ place. place ≡ option_map tell (find by part.now))

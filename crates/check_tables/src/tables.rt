@@ -1,0 +1,58 @@
+//! Tables of positions and of variables.
+ghost use Rattle.std.specs.Prelude.{◌≡◌, ◌-◌, length, slice_index, IfOk, IsTrue};
+ghost use Rattle.std.specs.List.{list_all};
+ghost use Rattle.lk_model.specs.Lists.{rises_within};
+ghost use Rattle.lk_model.specs.Formulas.Literal.{is_literal};
+ghost use Rattle.lk_model.specs.Formulas.Lean.{are_positions};
+ghost use Rattle.check_tables.specs.Flags.{AreKeptFlags};
+ghost use Rattle.check_tables.specs.Occurring.{AreOccurring, NotesVariables};
+
+use lk_model::{Formula, Lit, OutOfMemory, VarSet};
+use std::alloc::Global;
+
+/// Which of the positions from 1 to m are kept: at the place p - 1, counted from 0, whether p is in the
+/// list, which ascends. The error says that memory ran out.
+pub fn kept_flags(alloc: Global, m: u32, kept: &[u32]) -> Result<Vec<bool>, OutOfMemory>
+    requires { IsTrue (rises_within 0 m kept.now) }
+    ensures { IfOk result (λ flags. AreKeptFlags m kept.now flags.items) }
+{
+    let mut flags = vec![in alloc; false; m as usize]?;
+    for p in kept {
+        flags[*p as usize - 1] = true;
+    }
+    Ok(flags)
+}
+
+/// The variables of the formula's clauses at some positions, which count from 1 and ascend. The error
+/// says that memory ran out.
+pub fn occurring_at(alloc: Global, f: &Formula, kept: &[u32]) -> Result<VarSet, OutOfMemory>
+    requires { IsTrue (are_positions f.now kept.now) }
+    ensures { IfOk result (λ set. AreOccurring f.now kept.now set) }
+{
+    let mut set = VarSet::new(alloc, f.vars())?;
+    for p in kept {
+        add_variables(f.vars(), f.clause(*p), &mut set);
+    }
+    Ok(set)
+}
+
+/// Puts the variables of a clause into a set.
+fn add_variables(n: u32, clause: &[Lit], set: &mut VarSet)
+    requires clause { IsTrue (list_all (is_literal n) clause.now) }
+    requires size { length set.old ≡ n }
+    ensures { NotesVariables n clause.now set.old set.new }
+{
+    for l in clause {
+        set.add(l.var());
+    }
+}
+
+/// The number of a position or variable, which counts from 1, in a table; 0 outside of it.
+pub fn number_at(table: &[u32], k: u32) -> u32
+    ensures { result ≡ slice_index table.now (k - 1) }
+{
+    match table.get((k as usize).saturating_sub(1)) {
+        Some(number) => *number,
+        None => 0,
+    }
+}

@@ -1,0 +1,59 @@
+-- The stops of inputs: of a formula's refusal, and of what comes while bytes are read.
+use Rattle.std.proofs.Common.{ℕ, Bool, List, Option, Some, None, sym, subst}
+use Rattle.std.specs.Io.KnownBytes.{Consumes, IsAtEnd}
+use Rattle.dimacs_reader.specs.Faults.{IsRefusalOf, IsSettledAs}
+use Rattle.dimacs_reader.specs.declared.refusal.Refused.{Refused}
+use Rattle.dimacs_reader.specs.declared.refusal.Refused.TheVariants as refused
+use Rattle.command_inputs.specs.Inputs.{nothing_known, StopsReading, StopsText}
+use Rattle.command_words.specs.declared.shape.Grammar.TheVariants.{Formula as FormulaText}
+use Rattle.command_inputs.specs.Stops.{stop_of}
+use Rattle.command_inputs.specs.declared.stop.Stop.{Stop}
+use Rattle.command_inputs.specs.declared.stop.Stop.TheVariants.{Words, Formula, Document, Model, Read, Memory}
+use Rattle.command_inputs.proofs.Streams.{all_taken}
+
+-- what stops the bytes of a text stops a formula
+pub stops_reading : (told : Option (List ℕ)) (ailing : Bool) (s : Stop) → StopsText ailing s → StopsReading FormulaText nothing_known told ailing s
+stops_reading told ailing (Words i) h = h
+stops_reading told ailing (Formula r) h = absurd h
+stops_reading told ailing (Document line) h = h
+stops_reading told ailing (Model line) h = h
+stops_reading told ailing Read h = h
+stops_reading told ailing Memory h = h
+
+-- the stop of a text's refusal
+stop_by : (bytes : List ℕ) (ailing : Bool) (r : Refused) → IsRefusalOf bytes r → StopsReading FormulaText nothing_known (Some bytes) ailing (stop_of r)
+stop_by bytes ailing refused.OutOfMemory h = tt
+stop_by bytes ailing (refused.NoHeader line) h = h
+stop_by bytes ailing (refused.BadHeader line) h = h
+stop_by bytes ailing (refused.SecondHeader line) h = h
+stop_by bytes ailing (refused.BadToken line) h = h
+stop_by bytes ailing (refused.BeyondStated line) h = h
+stop_by bytes ailing (refused.TooManyClauses line) h = h
+stop_by bytes ailing (refused.TooFewClauses line) h = h
+stop_by bytes ailing (refused.Limit line) h = h
+stop_by bytes ailing (refused.TooLong line) h = h
+
+-- where nothing is told
+stop_untold : (ailing : Bool) (r : Refused) → StopsReading FormulaText nothing_known None ailing (stop_of r)
+stop_untold ailing refused.OutOfMemory = tt
+stop_untold ailing (refused.NoHeader line) = tt
+stop_untold ailing (refused.BadHeader line) = tt
+stop_untold ailing (refused.SecondHeader line) = tt
+stop_untold ailing (refused.BadToken line) = tt
+stop_untold ailing (refused.BeyondStated line) = tt
+stop_untold ailing (refused.TooManyClauses line) = tt
+stop_untold ailing (refused.TooFewClauses line) = tt
+stop_untold ailing (refused.Limit line) = tt
+stop_untold ailing (refused.TooLong line) = tt
+
+-- a refusal of what was fed up to the end is that of the whole text
+pub stops_at_end : (before now : Option (List ℕ)) (fed : List ℕ) (ailing : Bool) (r : Refused) → Consumes before now fed → IsAtEnd now → IsRefusalOf fed r → StopsReading FormulaText nothing_known before ailing (stop_of r)
+stops_at_end None now fed ailing r p e h = stop_untold ailing r
+stops_at_end (Some a) None fed ailing r p e h = absurd p
+stops_at_end (Some a) (Some b) fed ailing r p e h = stop_by a ailing r (subst (λ (bytes : List ℕ). IsRefusalOf bytes r) (sym (all_taken a b fed p e)) h)
+
+-- a refusal of what was fed that stays, is that of the whole text
+pub stops_in_midst : (before now : Option (List ℕ)) (fed : List ℕ) (ailing : Bool) (r : Refused) → Consumes before now fed → IsSettledAs fed r → StopsReading FormulaText nothing_known before ailing (stop_of r)
+stops_in_midst None now fed ailing r p h = stop_untold ailing r
+stops_in_midst (Some a) None fed ailing r p h = absurd p
+stops_in_midst (Some a) (Some b) fed ailing r p h = stop_by a ailing r (subst (λ (bytes : List ℕ). IsRefusalOf bytes r) (sym p) (h b))

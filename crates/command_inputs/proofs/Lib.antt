@@ -1,0 +1,5 @@
+pub mod Streams
+pub mod Feeding
+pub mod InputStops
+pub mod ModelReads
+pub mod InputLaws

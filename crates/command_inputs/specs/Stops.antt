@@ -1,0 +1,29 @@
+-- The stops that the readers make.
+use Rattle.lk_outside.specs.declared.shelf.StartStop.{StartStop}
+use Rattle.lk_outside.specs.declared.shelf.StartStop.TheVariants as start
+use Rattle.lk_model.specs.declared.verdict.ReadStop.{ReadStop}
+use Rattle.lk_model.specs.declared.verdict.ReadStop.TheVariants as read
+use Rattle.dimacs_reader.specs.declared.refusal.Refused.{Refused}
+use Rattle.dimacs_reader.specs.declared.refusal.Refused.TheVariants as refused
+use Rattle.command_inputs.specs.declared.stop.Stop.{Stop}
+use Rattle.command_inputs.specs.declared.stop.Stop.TheVariants.{Formula, Document, Model, Read, Memory}
+
+-- the stop that a refusal of the reader makes
+abbrev pub stop_of : Refused → Stop
+stop_of refused.OutOfMemory = Memory
+stop_of refusal = Formula refusal
+
+-- the stop that a refused start makes
+abbrev pub start_stop_of : StartStop → Stop
+start_stop_of start.Failed = Read
+start_stop_of start.OutOfMemory = Memory
+
+-- the stop that a text makes that is no document's
+abbrev pub read_stop_of : ReadStop → Stop
+read_stop_of (read.Line line) = Document line
+read_stop_of read.OutOfMemory = Memory
+
+-- the stop that a text makes that is no model's
+abbrev pub model_stop_of : ReadStop → Stop
+model_stop_of (read.Line line) = Model line
+model_stop_of read.OutOfMemory = Memory

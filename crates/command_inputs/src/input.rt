@@ -1,0 +1,186 @@
+//! Reading whole inputs.
+ghost use Rattle.std.specs.Prelude.{◌≡◌, ◌≢◌, OnOk, Some, ℕ, ◌<◌, ◌≤◌, ◌∷◌, [], length, IfOk, IfErr, IfSome, IsTrue, IsErrAnd};
+ghost use Rattle.lk_model.specs.Documents.Form.{is_in_form};
+ghost use Rattle.lk_model.specs.Documents.Reading.{IsTextOf};
+ghost use Rattle.lk_model.specs.Texts.Dimacs.{Spells};
+ghost use Rattle.lk_outside.specs.Reads.{ReadTakes};
+ghost use Rattle.lk_outside.specs.Causes.{HasCause, TellsTheSame};
+ghost use Rattle.command_inputs.specs.Inputs.{nothing_known, known_of, AreRead, IsModelRead, StopsReading, StopsText, StopsOn, IsFailure};
+ghost use Rattle.command_words.specs.declared.shape.Grammar.TheVariants.{Formula as FormulaText, Document as DocumentText, Model as ModelText};
+
+use crate::stop::Stop;
+use cert_text::{read, read_model};
+use dimacs_reader::Reader;
+use lk_model::{Document, Formula};
+use lk_outside::Shelf;
+use partial_assign::Partial;
+use std::alloc::Global;
+
+/// How many bytes are asked for at a time.
+const PIECE: usize = 65_536;
+
+/// Reads the formula under a name.
+pub fn read_formula<H: Shelf>(alloc: Global, shelf: &mut H, name: &str) -> Result<Formula, Stop>
+    ensures told { TellsTheSame (H.told shelf.old) (H.told shelf.new) }
+    ensures formula { IfOk result (λ f. IfSome (H.told shelf.old name.now) (λ bytes. Spells bytes f)) }
+    ensures stop { IfErr result (StopsReading FormulaText nothing_known (H.told shelf.old name.now) (H.ailing shelf.new)) }
+    ensures current { IsErrAnd result (λ s. s ≡ Stop.Read) → H.current shelf.new ≡ Some name.now }
+    ensures cause { HasCause (H.faults shelf.old) (H.faults shelf.new) (IsErrAnd result (λ s. s ≡ Stop.Read)) }
+    ensures well { IsTrue (H.ailing shelf.new) → IsErrAnd result IsFailure }
+{
+    let mut piece = vec![in alloc; 0u8; PIECE]?;
+    start_text(shelf, name)?;
+    read_started(alloc, shelf, piece.as_mut_slice())
+}
+
+/// Starts a text.
+fn start_text<H: Shelf>(shelf: &mut H, name: &str) -> Result<(), Stop>
+    ensures told { TellsTheSame (H.told shelf.old) (H.told shelf.new) }
+    ensures started { OnOk result (IsTrue (H.started shelf.new)) }
+    ensures left { OnOk result (H.left shelf.new ≡ H.told shelf.old name.now) }
+    ensures stop { IfErr result (StopsText (H.ailing shelf.new)) }
+    ensures current { result ≢ Err Stop.Memory → H.current shelf.new ≡ Some name.now }
+    ensures cause { HasCause (H.faults shelf.old) (H.faults shelf.new) (IsErrAnd result (λ s. s ≡ Stop.Read)) }
+    ensures well { IsTrue (H.ailing shelf.new) → IsErrAnd result IsFailure }
+{
+    shelf.start(name).map_err(|e| Stop::from(e))
+}
+
+/// Reads the next bytes of the started text, and answers how many they are: 0 at its end.
+fn read_piece<H: Shelf>(shelf: &mut H, piece: &mut [u8]) -> Result<usize, Stop>
+    requires started { IsTrue (H.started shelf.old) }
+    requires room { 0 < length piece.old }
+    ensures told { TellsTheSame (H.told shelf.old) (H.told shelf.new) }
+    ensures bound { IfOk result (λ count. count ≤ length piece.new) }
+    ensures bytes { IfOk result (λ count. ReadTakes (H.left shelf.old) (H.left shelf.new) count piece.new) }
+    ensures started { OnOk result (IsTrue (H.started shelf.new)) }
+    ensures stop { IfErr result (λ s. (s ≡ Stop.Read) × IsTrue (H.ailing shelf.new)) }
+    ensures current { H.current shelf.new ≡ H.current shelf.old }
+    ensures cause { HasCause (H.faults shelf.old) (H.faults shelf.new) (IsErrAnd result (λ s. s ≡ Stop.Read)) }
+    ensures well { IsTrue (H.ailing shelf.new) → IsErrAnd result IsFailure }
+{
+    Ok(shelf.read(piece)?)
+}
+
+/// Reads what is left of the started text.
+fn read_started<H: Shelf>(alloc: Global, shelf: &mut H, piece: &mut [u8]) -> Result<Formula, Stop>
+    requires started { IsTrue (H.started shelf.old) }
+    requires room { 0 < length piece.old }
+    ensures told { TellsTheSame (H.told shelf.old) (H.told shelf.new) }
+    ensures formula { IfOk result (λ f. IfSome (H.left shelf.old) (λ bytes. Spells bytes f)) }
+    ensures stop { IfErr result (StopsReading FormulaText nothing_known (H.left shelf.old) (H.ailing shelf.new)) }
+    ensures current { H.current shelf.new ≡ H.current shelf.old }
+    ensures cause { HasCause (H.faults shelf.old) (H.faults shelf.new) (IsErrAnd result (λ s. s ≡ Stop.Read)) }
+    ensures well { IsTrue (H.ailing shelf.new) → IsErrAnd result IsFailure }
+{
+    let mut reader = Reader::new(alloc);
+    'pieces: loop {
+        let count = read_piece(shelf, piece)?;
+        if count == 0 {
+            break 'pieces;
+        }
+        reader.feed(&piece[..count])?;
+    }
+    Ok(reader.finish()?)
+}
+
+/// A formula and a document.
+#[derive(Drop)]
+pub struct Checked {
+    /// The formula.
+    pub formula: Formula,
+    /// The document, which is in form.
+    pub document: Document,
+}
+
+/// Reads the formula under the first name, and then the document under the second.
+pub fn read_checked<H: Shelf>(
+    alloc: Global,
+    shelf: &mut H,
+    formula: &str,
+    document: &str,
+) -> Result<Checked, Stop>
+    ensures told { TellsTheSame (H.told shelf.old) (H.told shelf.new) }
+    ensures read { IfOk result (λ r. AreRead (H.told shelf.old) nothing_known (FormulaText ∷ DocumentText ∷ [])
+        (formula.now ∷ document.now ∷ []) (r.formula, (r.document, tt))) }
+    ensures form { IfOk result (λ r. IsTrue (is_in_form r.document)) }
+    ensures stop { IfErr result (StopsOn (H.told shelf.old) nothing_known (FormulaText ∷ DocumentText ∷ [])
+        (formula.now ∷ document.now ∷ []) (H.ailing shelf.new) (H.current shelf.new)) }
+    ensures cause { HasCause (H.faults shelf.old) (H.faults shelf.new) (IsErrAnd result (λ s. s ≡ Stop.Read)) }
+    ensures well { IsTrue (H.ailing shelf.new) → IsErrAnd result IsFailure }
+{
+    let formula = read_formula(alloc, shelf, formula)?;
+    let document = read_document(alloc, shelf, document)?;
+    Ok(Checked { formula, document })
+}
+
+/// Reads the document under a name. It is in form.
+fn read_document<H: Shelf>(alloc: Global, shelf: &mut H, name: &str) -> Result<Document, Stop>
+    ensures told { TellsTheSame (H.told shelf.old) (H.told shelf.new) }
+    ensures document { IfOk result (λ d. IfSome (H.told shelf.old name.now) (λ bytes. IsTextOf bytes d)) }
+    ensures form { IfOk result (λ d. IsTrue (is_in_form d)) }
+    ensures stop { IfErr result (StopsReading DocumentText nothing_known (H.told shelf.old name.now) (H.ailing shelf.new)) }
+    ensures current { IsErrAnd result (λ s. s ≡ Stop.Read) → H.current shelf.new ≡ Some name.now }
+    ensures cause { HasCause (H.faults shelf.old) (H.faults shelf.new) (IsErrAnd result (λ s. s ≡ Stop.Read)) }
+    ensures well { IsTrue (H.ailing shelf.new) → IsErrAnd result IsFailure }
+{
+    let text = read_text(alloc, shelf, name)?;
+    Ok(read(alloc, text.as_slice())?)
+}
+
+/// Reads the model under a name, for the variables of a formula.
+pub fn read_values<H: Shelf>(
+    alloc: Global,
+    shelf: &mut H,
+    name: &str,
+    formula: &Formula,
+) -> Result<Partial, Stop>
+    ensures told { TellsTheSame (H.told shelf.old) (H.told shelf.new) }
+    ensures model { IfOk result (IsModelRead (H.told shelf.old name.now) (known_of formula.now)) }
+    ensures stop { IfErr result (StopsReading ModelText (known_of formula.now) (H.told shelf.old name.now) (H.ailing shelf.new)) }
+    ensures current { IsErrAnd result (λ s. s ≡ Stop.Read) → H.current shelf.new ≡ Some name.now }
+    ensures cause { HasCause (H.faults shelf.old) (H.faults shelf.new) (IsErrAnd result (λ s. s ≡ Stop.Read)) }
+    ensures well { IsTrue (H.ailing shelf.new) → IsErrAnd result IsFailure }
+{
+    let text = read_text(alloc, shelf, name)?;
+    match read_model(alloc, text.as_slice(), formula.vars()) {
+        Ok(model) => Ok(model),
+        Err(stop) => Err(Stop::of_model(stop)),
+    }
+}
+
+/// Reads the bytes under a name, up to their end.
+fn read_text<H: Shelf>(alloc: Global, shelf: &mut H, name: &str) -> Result<Vec<u8>, Stop>
+    ensures told { TellsTheSame (H.told shelf.old) (H.told shelf.new) }
+    ensures text { IfOk result (λ text. IfSome (H.told shelf.old name.now) (λ bytes. text.items ≡ bytes)) }
+    ensures stop { IfErr result (StopsText (H.ailing shelf.new)) }
+    ensures current { IsErrAnd result (λ s. s ≡ Stop.Read) → H.current shelf.new ≡ Some name.now }
+    ensures cause { HasCause (H.faults shelf.old) (H.faults shelf.new) (IsErrAnd result (λ s. s ≡ Stop.Read)) }
+    ensures well { IsTrue (H.ailing shelf.new) → IsErrAnd result IsFailure }
+{
+    let mut piece = vec![in alloc; 0u8; PIECE]?;
+    start_text(shelf, name)?;
+    keep_started(alloc, shelf, piece.as_mut_slice())
+}
+
+/// Keeps what is left of the started text.
+fn keep_started<H: Shelf>(alloc: Global, shelf: &mut H, piece: &mut [u8]) -> Result<Vec<u8>, Stop>
+    requires started { IsTrue (H.started shelf.old) }
+    requires room { 0 < length piece.old }
+    ensures told { TellsTheSame (H.told shelf.old) (H.told shelf.new) }
+    ensures text { IfOk result (λ text. IfSome (H.left shelf.old) (λ bytes. text.items ≡ bytes)) }
+    ensures stop { IfErr result (StopsText (H.ailing shelf.new)) }
+    ensures current { H.current shelf.new ≡ H.current shelf.old }
+    ensures cause { HasCause (H.faults shelf.old) (H.faults shelf.new) (IsErrAnd result (λ s. s ≡ Stop.Read)) }
+    ensures well { IsTrue (H.ailing shelf.new) → IsErrAnd result IsFailure }
+{
+    let mut text = Vec::new(alloc);
+    'pieces: loop {
+        let count = read_piece(shelf, piece)?;
+        if count == 0 {
+            break 'pieces;
+        }
+        text.extend_from_slice(&piece[..count])?;
+    }
+    Ok(text)
+}

@@ -1,0 +1,8 @@
+//! The inputs of a command: whole texts, read in the order of the words, and why that stops.
+#![tactic(auto)]
+
+mod input;
+mod stop;
+
+pub use input::{Checked, read_checked, read_formula, read_values};
+pub use stop::Stop;

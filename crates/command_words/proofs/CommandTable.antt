@@ -1,0 +1,58 @@
+-- What is computed of the words of each command.
+use Rattle.std.proofs.Common.{◌≡◌, List, [], ◌∷◌, ◌++◌, true, refl}
+use Rattle.std.specs.Fmt.{digits}
+use Rattle.std.specs.Prelude.{codes}
+use Rattle.std.specs.List.{list_all}
+use Rattle.lk_model.specs.Texts.Lines.{Word}
+use Rattle.command_words.specs.Settings.{every_option}
+use Rattle.command_words.specs.Shapes.{words_of, keys_of}
+use Rattle.command_words.specs.Lawful.{request_of, with_names, with_number}
+use Rattle.command_words.specs.declared.command.Command.{Command}
+use Rattle.command_words.specs.declared.command.Command.TheVariants.{ReducePure, ReduceMatching, ReduceLinear, ReduceGeneral, Check, Extend, Report, Demo}
+use Rattle.command_words.proofs.LawfulOptions.{have_samples}
+use Rattle.command_words.proofs.OptionWords.{agrees}
+
+-- words that begin with those of a command are of no other
+pub is_of : (command : Command) (rest : List Word) → request_of (words_of command ++ rest) ≡ with_number command rest
+is_of ReducePure rest = refl
+is_of ReduceMatching rest = refl
+is_of ReduceLinear rest = refl
+is_of ReduceGeneral rest = refl
+is_of Check rest = refl
+is_of Extend rest = refl
+is_of Report rest = refl
+is_of Demo rest = refl
+
+-- a number that it takes, as words
+pub one_number : (command : Command) → (number : List Word) × ((rest : List Word) → with_number command (number ++ rest) ≡ with_names command 0 rest)
+one_number ReducePure = ([], λ rest. refl)
+one_number ReduceMatching = ([], λ rest. refl)
+one_number ReduceLinear = ([], λ rest. refl)
+one_number ReduceGeneral = ([], λ rest. refl)
+one_number Check = ([], λ rest. refl)
+one_number Extend = ([], λ rest. refl)
+one_number Report = ([], λ rest. refl)
+one_number Demo = (codes "0" ∷ [], λ rest. refl)
+
+-- each of its options takes some word
+pub samples : (command : Command) → have_samples (keys_of command) ≡ true
+unfolding digits
+samples ReducePure = refl
+samples ReduceMatching = refl
+samples ReduceLinear = refl
+samples ReduceGeneral = refl
+samples Check = refl
+samples Extend = refl
+samples Report = refl
+samples Demo = refl
+
+-- none of them has the word of another option
+pub apart : (command : Command) → list_all (agrees (keys_of command)) every_option ≡ true
+apart ReducePure = refl
+apart ReduceMatching = refl
+apart ReduceLinear = refl
+apart ReduceGeneral = refl
+apart Check = refl
+apart Extend = refl
+apart Report = refl
+apart Demo = refl

@@ -1,0 +1,9 @@
+pub mod Texts
+pub mod CommonWords
+pub mod LawfulOptions
+pub mod OptionWords
+pub mod OptionSteps
+pub mod CommandTable
+pub mod CommandSearch
+pub mod LawfulLists
+pub mod RequestWords

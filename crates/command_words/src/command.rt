@@ -1,0 +1,34 @@
+//! The commands.
+
+/// A command.
+#[derive(Clone, Copy)]
+pub enum Command {
+    /// Writes the document of the pure kernel of a formula.
+    ReducePure,
+    /// Writes the document of the matching kernel of a formula.
+    ReduceMatching,
+    /// Writes the document of the linear kernel of a formula, or says why there is none.
+    ReduceLinear,
+    /// Writes the document of the general kernel of a formula, or an unfinished one.
+    ReduceGeneral,
+    /// Writes what the checks say of a formula and a document.
+    Check,
+    /// Writes a model of a formula that a document extends.
+    Extend,
+    /// Writes the numbers of a formula.
+    Report,
+    /// Writes the sizes of the kernels of the formula of a number.
+    Demo,
+}
+
+/// The commands, in the order in which their words are looked for.
+pub(crate) const COMMANDS: [Command; 8] = [
+    Command::ReducePure,
+    Command::ReduceMatching,
+    Command::ReduceLinear,
+    Command::ReduceGeneral,
+    Command::Check,
+    Command::Extend,
+    Command::Report,
+    Command::Demo,
+];

@@ -1,9 +1,0 @@
-use Rattle.std.proofs.Common.{drop, length}
-use Rattle.lean_checker.specs.Blocking.{AreMarked, first_number}
-use Rattle.lk_model.specs.Laws.{last_number}
-use Rattle.lean_checker.proofs.Reaching.{reached_from}
-use Rattle.lean_checker.proofs.blocking.block_reached.Given as goal
-
--- what is reached so far is marked
-abbrev pub invariant-loop-i : goal.invariant-loop-i
-invariant-loop-i l = AreMarked l.f l.k (first_number l.steps) (length l.steps) (reached_from (last_number l.steps) (drop l.i l.steps)) l.fn.table l.marks.items l.table

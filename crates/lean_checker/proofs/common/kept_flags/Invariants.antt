@@ -1,7 +1,0 @@
-use Rattle.std.proofs.Common.{take}
-use Rattle.lean_checker.specs.Flags.{AreKeptFlags}
-use Rattle.lean_checker.proofs.common.kept_flags.Given as goal
-
--- the flags of the positions so far
-abbrev pub invariant-loop-p : goal.invariant-loop-p
-invariant-loop-p l = AreKeptFlags l.m (take l.p-index l.kept) l.flags.items

@@ -1,0 +1,15 @@
+pub mod PrintedLines
+pub mod NumberTexts
+pub mod FieldTexts
+pub mod ListSteps
+pub mod ListForms
+pub mod NumberForms
+pub mod LastOnes
+pub mod TwosSteps
+pub mod Takings
+pub mod Options
+pub mod Words
+pub mod Spelled
+pub mod LineCuts
+pub mod CleanWords
+pub mod LineReads

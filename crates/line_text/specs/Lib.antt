@@ -1,0 +1,6 @@
+pub mod Fields
+pub mod FieldLists
+pub mod LastVars
+pub mod Taking
+pub mod Spaced
+pub mod LineReading

@@ -1,0 +1,18 @@
+//! The line of a model.
+ghost use Rattle.std.specs.Prelude.{◌≡◌, ◌∷◌, IfOk, codes};
+ghost use Rattle.lk_model.specs.Texts.PlainText.{line, literal_words};
+
+use line_text::{put, put_clause_line};
+use lk_model::{Lit, OutOfMemory};
+use std::alloc::Global;
+
+/// The line that tells a model as solvers do: `v`, its literals, and 0. The error is want of memory for
+/// the text.
+pub fn print_model(alloc: Global, literals: &[Lit]) -> Result<Vec<u8>, OutOfMemory>
+    ensures { IfOk result (λ text. text.items ≡ line (codes "v" ∷ literal_words literals.now)) }
+{
+    let mut out = Vec::new(alloc);
+    put(&mut out, b"v ")?;
+    put_clause_line(&mut out, literals)?;
+    Ok(out)
+}

@@ -1,0 +1,39 @@
+-- Whether the clauses of a part have a model.
+use Rattle.std.specs.Prelude.{ℕ, Bool, not, ◌≤◌, List, [], ◌∷◌, length, ℤ}
+use Rattle.std.specs.List.{list_all}
+use Rattle.lk_model.specs.Lists.{is_empty}
+use Rattle.lk_model.specs.Formulas.Formula.{Cnf, clause_at}
+use Rattle.lk_model.specs.Formulas.Crossed.{no_variable}
+use Rattle.lk_model.specs.Chains.Rounds.{AreNeeded}
+use Rattle.lk_model.specs.Checks.RoundChecks.{learned_steps}
+use Rattle.lk_model.specs.declared.document.Round.{Round}
+use Rattle.lk_model.specs.declared.result.GeneralResult.{GeneralResult}
+use Rattle.kernel_laws.specs.General.Found.{IsUnfinished}
+use Rattle.kernel_laws.specs.General.GeneralResults.{IsGeneralResult}
+use Rattle.kernel_laws.specs.General.RefutationLaw.{IsRefutation}
+use Rattle.part_formula.specs.declared.deciding.Decision.{Decision}
+use Rattle.part_formula.specs.declared.deciding.Decision.TheVariants.{Model, Refuted, Stopped}
+
+-- no clause at these positions is empty
+abbrev pub are_filled : Cnf → List ℕ → Bool
+are_filled F part = list_all (λ p. not (is_empty (clause_at F p))) part
+
+-- what the general reducer finds where it keeps nothing
+abbrev pub sets_only : List ℤ → GeneralResult
+sets_only lits = record { kept = []; set = lits; rounds = [] }
+
+-- Literals on variables of the part, ascending by variable, that satisfy each of its clauses.
+abbrev pub IsPartModel : Cnf → List ℕ → List ℤ → Type 0
+IsPartModel F part lits = IsGeneralResult F part (sets_only lits)
+
+-- A refutation of the part's clauses, with at most so many learned clauses. No step is needless.
+pub record IsPartRefuted (F : Cnf) (part : List ℕ) (conflicts : ℕ) (r : Round) : Type 0 where
+  pub refutation : IsRefutation F part r
+  pub needed : AreNeeded F no_variable (r ∷ [])
+  pub most : length (learned_steps (r ∷ [])) ≤ conflicts
+
+-- a model of the part's clauses, a refutation of them, or an open round of as many learned clauses as were allowed
+abbrev pub IsDecision : Cnf → List ℕ → ℕ → Decision → Type 0
+IsDecision F part conflicts (Model lits) = IsPartModel F part lits
+IsDecision F part conflicts (Refuted r) = IsPartRefuted F part conflicts r
+IsDecision F part conflicts (Stopped r) = IsUnfinished F part conflicts (r ∷ [])

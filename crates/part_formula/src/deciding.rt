@@ -1,0 +1,80 @@
+//! Whether the clauses of a part of a formula have a model.
+//!
+//! As for a kernel, the part is first copied into a formula of its own, so that the tables of the search are as
+//! long as the part.
+ghost use Rattle.std.specs.Prelude.{◌≡◌, ◌+◌, ◌<◌, ◌^◌, length, IfOk, IsTrue};
+ghost use Rattle.lk_model.specs.Limits.{max_vars};
+ghost use Rattle.lk_model.specs.Lists.{rises_within};
+ghost use Rattle.lk_model.specs.Formulas.Formula.{positions_of};
+ghost use Rattle.lk_model.specs.Formulas.Lean.{are_positions};
+ghost use Rattle.renaming_laws.specs.Renaming.{renamed_round};
+ghost use Rattle.part_formula.specs.Named.{is_round_within};
+ghost use Rattle.part_formula.specs.Decisions.{are_filled, IsDecision};
+
+use crate::dense::dense_formula;
+use crate::names::names_of;
+use crate::renaming::Renaming;
+use cdcl_core::{Decided, decide};
+use general_kernel::set_of;
+use lk_model::{Budget, Crossed, Formula, List, Lit, OutOfMemory, Round, VarSet};
+use std::alloc::Global;
+
+/// What is decided of the clauses of a part of a formula.
+#[derive(Drop)]
+pub enum Decision {
+    /// Literals on variables of the part, ascending by variable, that satisfy each clause.
+    Model(List<Lit>),
+    /// A refutation, of which no step is needless.
+    Refuted(Round),
+    /// An open round of as many learned clauses as were allowed, which is not at its end.
+    Stopped(Round),
+}
+
+/// Looks for a model of the clauses of a formula at some positions, which ascend and count from 1, by at most
+/// so many learned clauses. None of the clauses is empty. Variables, positions and steps have the formula's
+/// numbers; steps are numbered from its number of clauses plus 1. Time and memory are those of the part's
+/// clauses. The error is that there is no memory; more steps than have numbers of 64 bits count as that.
+pub fn decide_part(
+    alloc: Global,
+    f: &Formula,
+    part: &[u32],
+    conflicts: Budget,
+) -> Result<Decision, OutOfMemory>
+    requires part { IsTrue (are_positions f.now part.now) }
+    requires filled { IsTrue (are_filled f.now part.now) }
+    ensures { IfOk result (IsDecision f.now part.now conflicts) }
+{
+    let clauses = u64::from(f.len());
+    let names = names_of(alloc, f, part)?;
+    let dense = dense_formula(alloc, f, part, &names)?;
+    let renaming = Renaming {
+        clauses,
+        part,
+        names: &names,
+    };
+    match decide_clauses(alloc, &dense, conflicts)? {
+        Decision::Model(set) => Ok(Decision::Model(renaming.literals(set))),
+        Decision::Refuted(round) => Ok(Decision::Refuted(renaming.only(alloc, round)?)),
+        Decision::Stopped(round) => Ok(Decision::Stopped(renaming.only(alloc, round)?)),
+    }
+}
+
+// The same of all clauses of a formula.
+fn decide_clauses(alloc: Global, f: &Formula, conflicts: Budget) -> Result<Decision, OutOfMemory>
+    requires { IsTrue (are_filled f.now (positions_of f.now)) }
+    ensures { IfOk result (IsDecision f.now (positions_of f.now) conflicts) }
+{
+    let all = f.positions(alloc)?;
+    let blocked = VarSet::new(alloc, f.vars())?;
+    let next = u64::from(f.len()) + 1;
+    let over = Crossed {
+        formula: f,
+        part: all.as_slice(),
+        blocked: &blocked,
+    };
+    match decide(alloc, &over, next, conflicts.get())? {
+        Decided::Sat(values) => Ok(Decision::Model(set_of(alloc, f, all.as_slice(), &values)?)),
+        Decided::Refuted(log) => Ok(Decision::Refuted(log.trim(next)?)),
+        Decided::Stopped(log) => Ok(Decision::Stopped(log.into_round())),
+    }
+}

@@ -1,0 +1,6 @@
+pub mod PrintedSteps
+pub mod RoundSteps
+pub mod RoundForms
+pub mod RoundParts
+pub mod RoundEnds
+pub mod RoundRuns

@@ -1,0 +1,2 @@
+pub mod RoundLines
+pub mod StepWords

@@ -1,0 +1,71 @@
+-- How a command's request ends.
+use Rattle.std.proofs.Common.{◌≡◌, ℕ, Bool, List, [], ◌∷◌, Option, Some, Result, Ok, Err, IfOk, refl, sym, subst, inl, inr}
+use Rattle.std.specs.Prelude.{IsTrue}
+use Rattle.lk_model.specs.Texts.Lines.{Word}
+use Rattle.lk_model.specs.declared.list.OutOfMemory.{OutOfMemory}
+use Rattle.lk_outside.specs.Causes.{HasCause}
+use Rattle.command_words.specs.Lawful.{Request}
+use Rattle.command_words.specs.Shapes.{inputs_of}
+use Rattle.command_words.specs.declared.shape.Grammar.{Grammar}
+use Rattle.command_words.specs.declared.shape.Grammar.TheVariants.{Formula}
+use Rattle.command_inputs.specs.Inputs.{Told, Values, nothing_known, AreRead, StopsReading, StopsOn, IsFailure}
+use Rattle.command_inputs.specs.declared.stop.Stop.{Stop}
+use Rattle.command_inputs.specs.declared.stop.Stop.TheVariants as stop
+use Rattle.workbench.specs.Endings.{Shelved}
+use Rattle.workbench.specs.Performing.{IsAnswer, Performs}
+use Rattle.workbench.specs.declared.ending.Ending.{Ending}
+
+-- what is known of an ending, where there is one
+pub by_one : (P S : Ending → Type 0) (r : Result Ending OutOfMemory) → IfOk r P → ((e : Ending) → P e → S e) → IfOk r S
+by_one P S (Err e) p f = tt
+by_one P S (Ok e) p f = f e p
+
+pub by_three : (P Q R S : Ending → Type 0) (r : Result Ending OutOfMemory) → IfOk r P → IfOk r Q → IfOk r R → ((e : Ending) → P e → Q e → R e → S e) → IfOk r S
+by_three P Q R S (Err e) p q t f = tt
+by_three P Q R S (Ok e) p q t f = f e p q t
+
+-- the stop of the only input, a formula
+pub formula_stops : (told : Told) (name : Word) (ailing : Bool) (current : Option (List ℕ)) (s : Stop) → StopsReading Formula nothing_known (told name) ailing s → (s ≡ stop.Read → current ≡ Some name) → StopsOn told nothing_known (Formula ∷ []) (name ∷ []) ailing current s
+formula_stops told name ailing current stop.Read h at = inl (h, at refl)
+formula_stops told name ailing current stop.Memory h at = tt
+formula_stops told name ailing current (stop.Formula r) h at = inl h
+formula_stops told name ailing current (stop.Words i) h at = absurd h
+formula_stops told name ailing current (stop.Document line) h at = absurd h
+formula_stops told name ailing current (stop.Model line) h at = absurd h
+
+-- an input is bad, or a call failed
+pub stopped : (request : Request) (shelf : Shelved) (s : Stop) → StopsOn shelf.told nothing_known (inputs_of request.command) request.names shelf.ailing shelf.current s
+    → HasCause shelf.before shelf.after (s ≡ stop.Read) → (IsTrue shelf.ailing → IsFailure s) → Performs request shelf (Err s)
+stopped request shelf s h cause well = record {
+  ok = tt;
+  stop = h;
+  cause = cause;
+  well = λ a. inr (well a);
+}
+
+-- so of a formula alone
+pub formula_stopped : (request : Request) (shelf : Shelved) (name : Word) (s : Stop) → inputs_of request.command ≡ Formula ∷ [] → request.names ≡ name ∷ [] → StopsReading Formula nothing_known (shelf.told name) shelf.ailing s
+    → (s ≡ stop.Read → shelf.current ≡ Some name) → HasCause shelf.before shelf.after (s ≡ stop.Read) → (IsTrue shelf.ailing → IsFailure s) → Performs request shelf (Err s)
+formula_stopped request shelf name s one named h at =
+    stopped request shelf s
+    (subst (λ (grammars : List Grammar). StopsOn shelf.told nothing_known grammars request.names shelf.ailing shelf.current s) (sym one)
+    (subst (λ (names : List Word). StopsOn shelf.told nothing_known (Formula ∷ []) names shelf.ailing shelf.current s) (sym named) (formula_stops shelf.told name shelf.ailing shelf.current s h at)))
+
+-- there was no memory behind the inputs
+pub no_memory : (request : Request) (shelf : Shelved) → HasCause shelf.before shelf.after ⊥ → Performs request shelf (Err stop.Memory)
+no_memory request shelf cause = record {
+  ok = tt;
+  stop = tt;
+  cause = record { later = cause.later; failed = λ e. absurd (let f : ⊥ = cc e in f) };
+  well = λ a. inr tt;
+}
+
+-- the inputs were read, and are answered
+pub performed : (request : Request) (shelf : Shelved) (values : Values (inputs_of request.command)) (e : Ending) → AreRead shelf.told nothing_known (inputs_of request.command) request.names values
+    → IsAnswer request.command request.options values e → HasCause shelf.before shelf.after ⊥ → (IsTrue shelf.ailing → ⊥) → Performs request shelf (Ok e)
+performed request shelf values e read answer cause well = record {
+  ok = record { values = values; read = read; result = answer.result; answers = answer.answers };
+  stop = tt;
+  cause = cause;
+  well = λ a. absurd (well a);
+}

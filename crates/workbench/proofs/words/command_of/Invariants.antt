@@ -1,6 +1,0 @@
-use Rattle.std.proofs.Common.{map}
-use Rattle.workbench.proofs.CommandSearch.{IsSearched}
-use Rattle.workbench.proofs.words.command_of.Given as goal
-
-abbrev pub invariant-loop-command : goal.invariant-loop-command
-invariant-loop-command l = IsSearched (map (λ w. w.now) l.words) l.command-items l.command-index l.known
