@@ -3,10 +3,11 @@ use Rattle.std.proofs.Common.{◌≡◌, ◌≢◌, ℕ, ◌+◌, ◌<◌, ◌�
 use Rattle.std.proofs.lemmas.Bool.{cases_Bool, leb-true, leb-false}
 use Rattle.lk_model.specs.Texts.Lines.{Word}
 use Rattle.command_words.specs.Shapes.{commands, words_of}
-use Rattle.command_words.specs.Requests.{common}
+use Rattle.command_words.specs.Requests.{common, IsUnknownAt}
 use Rattle.command_words.specs.declared.command.Command.{Command}
 use Rattle.command_words.specs.declared.command.Command.TheVariants.{ReducePure}
 use Rattle.command_words.proofs.CommonWords.{common_within}
+use Rattle.command_words.proofs.CommandTable.{stands}
 
 -- not all of the command's words stand at the front, and no more than so many
 pub record IsShort (words : List Word) (known : ℕ) (command : Command) : Type 0 where
@@ -50,3 +51,21 @@ one_searched words items index known next command s is part low high best = reco
     chosen (inr e) b = (command, e)
     chosen (inl e) (inr b) = (b.0, e ∙ b.1)
     chosen (inl e) (inl zero) = (command, let none = zero.1 in omega (arith, e, none, high))
+
+-- at the end no command's words stand there whole
+pub all_searched : (words : List Word) (items : List Command) (index known : ℕ) → IsSearched words items index known → length commands ≤ index → IsUnknownAt words (known + 1)
+all_searched words items index known s end = record {
+  none = λ command. (short command).part;
+  fewer = λ command. let few = (short command).few in omega (arith, few);
+  known = elim s.best [
+    | inl zero ↦ let none = zero.0 in absurd (omega (arith, none, end))
+    | inr b ↦ (b.0, ap (λ (n : ℕ). n + 1) b.1)
+  ];
+}
+  where
+    short : (command : Command) → IsShort words known command
+    short command =
+        let at = stands command in
+        let low = at.1 in
+        let here = subst (λ (cs : List Command). get_or cs at.0 ReducePure ≡ command) (sym s.all) at.2 in
+        subst (IsShort words known) here (s.short at.0 (omega (arith, low, end)))

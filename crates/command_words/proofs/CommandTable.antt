@@ -1,11 +1,11 @@
 -- What is computed of the words of each command.
-use Rattle.std.proofs.Common.{◌≡◌, List, [], ◌∷◌, ◌++◌, true, refl}
+use Rattle.std.proofs.Common.{◌≡◌, ℕ, ◌<◌, List, [], ◌∷◌, ◌++◌, length, get_or, true, refl, arith}
 use Rattle.std.specs.Fmt.{digits}
 use Rattle.std.specs.Prelude.{codes}
 use Rattle.std.specs.List.{list_all}
 use Rattle.lk_model.specs.Texts.Lines.{Word}
 use Rattle.command_words.specs.Settings.{every_option}
-use Rattle.command_words.specs.Shapes.{words_of, keys_of}
+use Rattle.command_words.specs.Shapes.{commands, words_of, keys_of}
 use Rattle.command_words.specs.Lawful.{request_of, with_names, with_number}
 use Rattle.command_words.specs.declared.command.Command.{Command}
 use Rattle.command_words.specs.declared.command.Command.TheVariants.{ReducePure, ReduceMatching, ReduceLinear, ReduceGeneral, Check, Extend, Report, Demo}
@@ -56,3 +56,14 @@ apart Check = refl
 apart Extend = refl
 apart Report = refl
 apart Demo = refl
+
+-- the place of each in the list of commands
+pub stands : (command : Command) → (place : ℕ) × (place < length commands) × (get_or commands place ReducePure ≡ command)
+stands ReducePure = (0, omega arith, refl)
+stands ReduceMatching = (1, omega arith, refl)
+stands ReduceLinear = (2, omega arith, refl)
+stands ReduceGeneral = (3, omega arith, refl)
+stands Check = (4, omega arith, refl)
+stands Extend = (5, omega arith, refl)
+stands Report = (6, omega arith, refl)
+stands Demo = (7, omega arith, refl)

@@ -3,7 +3,7 @@ use Rattle.std.proofs.lemmas.List.{length-map}
 use Rattle.command_words.specs.Shapes.{commands, words_of}
 use Rattle.command_words.specs.Requests.{common}
 use Rattle.command_words.specs.declared.command.Command.TheVariants.{ReducePure}
-use Rattle.command_words.proofs.CommandSearch.{one_searched}
+use Rattle.command_words.proofs.CommandSearch.{one_searched, all_searched}
 use Rattle.command_words.proofs.words.command_of.Goals as goal
 use Rattle.command_words.proofs.words.command_of.Goals.{then-known-count, else-known-count}
 
@@ -25,3 +25,8 @@ loop-command-preserved c =
           let less = w.if-known-count.false in
           one_searched words commands c.loop-command.command-index c.loop-command.known c.if-known-count.known command c.loop-command.invariant refl part (omega (arith, is)) (omega (arith, is, less, count)) (inl (omega (arith, is)))
     ]
+
+pub returns : goal.returns
+returns c =
+    let s = c.loop-command.invariant in
+    all_searched (map (λ w. w.now) c.args.words.now) commands c.loop-command.command-index c.loop-command.known s (let end = c.loop-command-test.false in omega (arith, end))
