@@ -1,114 +1,23 @@
 -- The lines of a document have clean words.
-use Rattle.std.proofs.Common.{◌≡◌, ℕ, zero, suc, ◌+◌, ◌/◌, ◌%◌, ◌≤◌, ◌∙◌, Bool, true, false, not, cond, ◌==◌, nat_lt, List, [], ◌∷◌, ◌++◌, map, length, refl, ap, arith, ℤ, pos, negsuc, Option, Some, None}
+use Rattle.std.proofs.Common.{◌≡◌, ℕ, true, List, [], ◌∷◌, ◌++◌, map, length, refl, Option, Some, None}
 use Rattle.std.specs.Prelude.{codes}
-use Rattle.std.specs.List.{list_all, flat_map}
-use Rattle.std.specs.Fmt.{decimal, signed_decimal, digits, digits_onto, digit_glyph}
-use Rattle.std.proofs.lemmas.Bool.{ne_eqb, and_from}
-use Rattle.std.proofs.lemmas.List.Folds.{list_all-append}
+use Rattle.std.specs.List.{flat_map}
+use Rattle.std.specs.Fmt.{decimal, signed_decimal}
 use Rattle.lk_model.specs.Texts.Lines.{Word}
 use Rattle.lk_model.specs.Texts.PlainText.{ended, literal_words, number_words, formula_lines}
 use Rattle.lk_model.specs.Formulas.Formula.{Cnf}
-use Rattle.lk_model.specs.Documents.Text.{comment, pair_line, own_line, row_line, stage_line, dual_line, unit_line, step_line, round_lines, class_lines, class_word, first_lines, protect_lines, version, document_lines}
+use Rattle.lk_model.specs.Documents.Text.{comment, pair_line, own_line, row_line, stage_line, dual_line, unit_line, round_lines, class_lines, class_word, first_lines, protect_lines, version, document_lines}
 use Rattle.lk_model.specs.Documents.Documents.{class_of}
 use Rattle.lk_model.specs.declared.document.Weight.{Weight}
 use Rattle.lk_model.specs.declared.document.Share.{Share}
-use Rattle.lk_model.specs.declared.document.Turn.{Turn}
-use Rattle.lk_model.specs.declared.document.Step.{Step}
-use Rattle.lk_model.specs.declared.document.Round.{Round}
 use Rattle.lk_model.specs.declared.document.Body.{Body}
 use Rattle.lk_model.specs.declared.document.Body.TheVariants.{Pure, Matching, Linear, General}
 use Rattle.lk_model.specs.declared.document.Document.{Document}
 use Rattle.lk_model.specs.declared.document.Document.TheVariants.{Done, Unfinished}
-use Rattle.lk_text.specs.Cutting.{is_one_line}
-use Rattle.line_text.specs.Fields.{has_no_space}
 use Rattle.cert_text.proofs.LinearSteps.{share_words}
-use Rattle.line_text.proofs.CleanWords.{is_clean, is_clean_line, are_clean}
-
--- NUMBERS
-
-apart : (b c : ℕ) → 48 ≤ b → c ≤ 45 → not (b == c) ≡ true
-apart b c h low = ap not (ne_eqb b c (λ e. omega (arith, e, h, low)))
-
-glyph_high : (d : ℕ) → 48 ≤ digit_glyph false d
-glyph_high d = by_test (nat_lt d 10)
-  where
-    by_test : (t : Bool) → 48 ≤ cond t (48 + d) (87 + d)
-    by_test true = omega arith
-    by_test false = omega arith
-
-glyphs_apart : (c : ℕ) → c ≤ 45 → (k n : ℕ) (acc : List ℕ) → list_all (λ b. not (b == c)) acc ≡ true → list_all (λ b. not (b == c)) (digits_onto k 10 false n acc) ≡ true
-glyphs_apart c low zero n acc h = h
-glyphs_apart c low (suc k) n acc h =
-    let more : list_all (λ b. not (b == c)) (digit_glyph false (n % 10) ∷ acc) ≡ true = and_from _ _ (apart (digit_glyph false (n % 10)) c (glyph_high (n % 10)) low) h in
-    by_test (n / 10 == 0) _ _ more (glyphs_apart c low k (n / 10) (digit_glyph false (n % 10) ∷ acc) more)
-  where
-    by_test : (t : Bool) (xs ys : List ℕ) → list_all (λ b. not (b == c)) xs ≡ true → list_all (λ b. not (b == c)) ys ≡ true → list_all (λ b. not (b == c)) (cond t xs ys) ≡ true
-    by_test true xs ys p q = p
-    by_test false xs ys p q = q
-
-clean_number : (n : ℕ) → is_clean (decimal n) ≡ true
-unfolding digits
-clean_number n = and_from (has_no_space (decimal n)) (is_one_line (decimal n)) (glyphs_apart 32 (omega arith) 64 n [] refl) (glyphs_apart 10 (omega arith) 64 n [] refl)
-
-clean_signed : (x : ℤ) → is_clean (signed_decimal x) ≡ true
-clean_signed (pos n) = clean_number n
-clean_signed (negsuc k) = clean_number (suc k)
-
--- WORDS
-
--- one clean word more
-clean_cons : (word : Word) (words : List Word) → is_clean word ≡ true → list_all is_clean words ≡ true → list_all is_clean (word ∷ words) ≡ true
-clean_cons word words h g = and_from (is_clean word) (list_all is_clean words) h g
-
-clean_append : (us vs : List Word) → list_all is_clean us ≡ true → list_all is_clean vs ≡ true → list_all is_clean (us ++ vs) ≡ true
-clean_append us vs h g = list_all-append is_clean us vs ∙ and_from (list_all is_clean us) (list_all is_clean vs) h g
-
-clean_ended : (words : List Word) → list_all is_clean words ≡ true → list_all is_clean (ended words) ≡ true
-clean_ended words h = clean_append words (codes "0" ∷ []) h refl
-
--- words that are closed by 0 are a line
-clean_closed : (words : List Word) → list_all is_clean words ≡ true → is_clean_line (ended words) ≡ true
-clean_closed [] h = refl
-clean_closed (word ∷ words) h = clean_ended (word ∷ words) h
-
-clean_numbers : (ns : List ℕ) → list_all is_clean (number_words ns) ≡ true
-clean_numbers [] = refl
-clean_numbers (n ∷ ns) = clean_cons (decimal n) (number_words ns) (clean_number n) (clean_numbers ns)
-
-clean_literals : (ls : List ℤ) → list_all is_clean (map signed_decimal ls) ≡ true
-clean_literals [] = refl
-clean_literals (l ∷ ls) = clean_cons (signed_decimal l) (map signed_decimal ls) (clean_signed l) (clean_literals ls)
-
-clean_each : {X : Type 0} (spell : X → List Word) → ((x : X) → list_all is_clean (spell x) ≡ true) → (xs : List X) → list_all is_clean (flat_map spell xs) ≡ true
-clean_each spell h [] = refl
-clean_each spell h (x ∷ xs) = clean_append (spell x) (flat_map spell xs) (h x) (clean_each spell h xs)
-
-two_words : (a b : Word) → is_clean a ≡ true → is_clean b ≡ true → list_all is_clean (a ∷ b ∷ []) ≡ true
-two_words a b h g = clean_cons a (b ∷ []) h (clean_cons b [] g refl)
-
--- LINES
-
-pub lines_append : (ls ms : List (List Word)) → are_clean ls ≡ true → are_clean ms ≡ true → are_clean (ls ++ ms) ≡ true
-lines_append ls ms h g = list_all-append is_clean_line ls ms ∙ and_from (are_clean ls) (are_clean ms) h g
-
--- one clean line more
-lines_cons : (words : List Word) (lines : List (List Word)) → is_clean_line words ≡ true → are_clean lines ≡ true → are_clean (words ∷ lines) ≡ true
-lines_cons words lines h g = and_from (is_clean_line words) (are_clean lines) h g
-
-lines_map : {X : Type 0} (spell : X → List Word) → ((x : X) → is_clean_line (spell x) ≡ true) → (xs : List X) → are_clean (map spell xs) ≡ true
-lines_map spell h [] = refl
-lines_map spell h (x ∷ xs) = lines_cons (spell x) (map spell xs) (h x) (lines_map spell h xs)
-
-clean_step : (s : Step) → is_clean_line (step_line s) ≡ true
-clean_step s =
-    let spelled = flat_map (λ (t : Turn). signed_decimal t.lit ∷ decimal t.with ∷ []) s.turns in
-    let turns = clean_ended spelled (clean_each (λ (t : Turn). signed_decimal t.lit ∷ decimal t.with ∷ []) (λ t. two_words (signed_decimal t.lit) (decimal t.with) (clean_signed t.lit) (clean_number t.with)) s.turns) in
-    clean_cons (decimal s.number) (literal_words s.clause ++ decimal s.first ∷ ended spelled) (clean_number s.number)
-    (clean_append (literal_words s.clause) (decimal s.first ∷ ended spelled) (clean_ended (map signed_decimal s.clause) (clean_literals s.clause)) (clean_cons (decimal s.first) (ended spelled) (clean_number s.first) turns))
-
-clean_rounds : (rs : List Round) → are_clean (flat_map round_lines rs) ≡ true
-clean_rounds [] = refl
-clean_rounds (r ∷ rs) = lines_append (map step_line r.steps) (flat_map round_lines rs) (lines_map step_line clean_step r.steps) (clean_rounds rs)
+use Rattle.line_text.proofs.CleanWords.{is_clean, are_clean}
+use Rattle.line_text.proofs.CleanNumbers.{clean_number, clean_signed, clean_cons, clean_ended, clean_closed, clean_numbers, clean_literals, clean_each, two_words, lines_append, lines_cons, lines_map}
+use Rattle.round_text.proofs.CleanRounds.{clean_rounds}
 
 clean_body : (b : Body) → are_clean (class_lines b) ≡ true
 clean_body (Pure order pairs) =

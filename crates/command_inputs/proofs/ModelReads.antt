@@ -45,6 +45,7 @@ stops_before told known grammars others names more ailing current (stop.Words i)
 stops_before told known grammars others names more ailing current (stop.Formula r) h = bad_before told known grammars others names more (stop.Formula r) h
 stops_before told known grammars others names more ailing current (stop.Document line) h = bad_before told known grammars others names more (stop.Document line) h
 stops_before told known grammars others names more ailing current (stop.Model line) h = bad_before told known grammars others names more (stop.Model line) h
+stops_before told known grammars others names more ailing current (stop.Answer line) h = bad_before told known grammars others names more (stop.Answer line) h
 
 -- the bytes that are told later were told before
 told_before : (told now : Told) (name : Word) (P : List ℕ → Type 0) → TellsTheSame told now → IfSome (now name) P → IfSome (told name) P
@@ -63,5 +64,6 @@ stops_behind told now a b c F d ailing current stop.Memory same r h at = tt
 stops_behind told now a b c F d ailing current (stop.Words i) same r h at = absurd h
 stops_behind told now a b c F d ailing current (stop.Formula x) same r h at = absurd h
 stops_behind told now a b c F d ailing current (stop.Document line) same r h at = absurd h
+stops_behind told now a b c F d ailing current (stop.Answer line) same r h at = absurd h
 stops_behind told now a b c F d ailing current (stop.Model line) same r h at =
     inr (F, r.0, inr (d, r.1.0, inl (told_before told now c (λ b. model_of b F.vars ≡ Err line) same h)))

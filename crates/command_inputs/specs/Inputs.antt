@@ -10,8 +10,10 @@ use Rattle.lk_model.specs.Texts.ModelText.{model_of}
 use Rattle.lk_model.specs.declared.document.Document.{Document as AnyDocument}
 use Rattle.dimacs_reader.specs.Faults.{refusal_of}
 use Rattle.lk_model.specs.Documents.Reading as documents
+use Rattle.answer_check.specs.Answers as answers
+use Rattle.answer_check.specs.declared.answer.Answer.{Answer as AnyAnswer}
 use Rattle.command_words.specs.declared.shape.Grammar.{Grammar}
-use Rattle.command_words.specs.declared.shape.Grammar.TheVariants.{Formula, Document, Model}
+use Rattle.command_words.specs.declared.shape.Grammar.TheVariants.{Formula, Document, Model, Answer}
 use Rattle.command_inputs.specs.declared.stop.Stop.{Stop}
 use Rattle.command_inputs.specs.declared.stop.Stop.TheVariants as stop
 
@@ -24,6 +26,7 @@ abbrev pub ValueOf : Grammar → Type 0
 ValueOf Formula = Cnf
 ValueOf Document = AnyDocument
 ValueOf Model = List ℤ
+ValueOf Answer = AnyAnswer
 
 -- the values of inputs, in their order
 abbrev pub Values : List Grammar → Type 0
@@ -49,14 +52,16 @@ abbrev pub known_behind : (grammar : Grammar) → Known → ValueOf grammar → 
 known_behind Formula known F = known_of F
 known_behind Document known d = known
 known_behind Model known literals = known
+known_behind Answer known a = known
 
 -- WHAT IS READ
 
--- the bytes are a text of the value, which of a model has the formula's variables
+-- the bytes are a text of the value: a model has the formula's variables, and an answer is in form for it
 abbrev pub IsTextOf : (grammar : Grammar) → Known → ValueOf grammar → List ℕ → Type 0
 IsTextOf Formula known F bytes = Spells bytes F
 IsTextOf Document known d bytes = documents.IsTextOf bytes d
 IsTextOf Model known literals bytes = model_of bytes known.vars ≡ Ok literals
+IsTextOf Answer known a bytes = answers.IsAnswerText known.vars known.clauses bytes a
 
 -- the texts under these names, where they are told, are those of the values
 abbrev pub AreRead : Told → Known → (grammars : List Grammar) → List Word → Values grammars → Type 0
@@ -83,6 +88,7 @@ abbrev pub IsRefusal : Grammar → Known → Option (List ℕ) → Stop → Type
 IsRefusal Formula known bytes (stop.Formula r) = IfSome bytes (λ b. refusal_of b ≡ Some r)
 IsRefusal Document known bytes (stop.Document line) = IfSome bytes (λ b. documents.StopsAt b line)
 IsRefusal Model known bytes (stop.Model line) = IfSome bytes (λ b. model_of b known.vars ≡ Err line)
+IsRefusal Answer known bytes (stop.Answer line) = IfSome bytes (λ b. documents.StopsAs (answers.IsTextOfAnswer known.vars known.clauses) b line)
 IsRefusal _ known bytes _ = ⊥
 
 -- the first input outside its grammar makes this stop; those before it are read

@@ -6,7 +6,7 @@ use Rattle.lk_model.specs.declared.verdict.ReadStop.TheVariants as read
 use Rattle.dimacs_reader.specs.declared.refusal.Refused.{Refused}
 use Rattle.dimacs_reader.specs.declared.refusal.Refused.TheVariants as refused
 use Rattle.command_inputs.specs.declared.stop.Stop.{Stop}
-use Rattle.command_inputs.specs.declared.stop.Stop.TheVariants.{Formula, Document, Model, Read, Memory}
+use Rattle.command_inputs.specs.declared.stop.Stop.TheVariants.{Formula, Document, Model, Answer, Read, Memory}
 
 -- the stop that a refusal of the reader makes
 abbrev pub stop_of : Refused → Stop
@@ -27,3 +27,8 @@ read_stop_of read.OutOfMemory = Memory
 abbrev pub model_stop_of : ReadStop → Stop
 model_stop_of (read.Line line) = Model line
 model_stop_of read.OutOfMemory = Memory
+
+-- the stop that a text makes that is no answer's
+abbrev pub answer_stop_of : ReadStop → Stop
+answer_stop_of (read.Line line) = Answer line
+answer_stop_of read.OutOfMemory = Memory

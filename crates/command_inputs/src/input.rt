@@ -3,12 +3,14 @@ ghost use Rattle.std.specs.Prelude.{◌≡◌, ◌≢◌, OnOk, Some, ℕ, ◌<�
 ghost use Rattle.lk_model.specs.Documents.Form.{is_in_form};
 ghost use Rattle.lk_model.specs.Documents.Reading.{IsTextOf};
 ghost use Rattle.lk_model.specs.Texts.Dimacs.{Spells};
+ghost use Rattle.answer_check.specs.Answers.{is_answer, IsAnswerText};
 ghost use Rattle.lk_outside.specs.Reads.{ReadTakes};
 ghost use Rattle.lk_outside.specs.Causes.{HasCause, TellsTheSame};
 ghost use Rattle.command_inputs.specs.Inputs.{nothing_known, known_of, AreRead, IsModelRead, StopsReading, StopsText, StopsOn, IsFailure};
-ghost use Rattle.command_words.specs.declared.shape.Grammar.TheVariants.{Formula as FormulaText, Document as DocumentText, Model as ModelText};
+ghost use Rattle.command_words.specs.declared.shape.Grammar.TheVariants.{Formula as FormulaText, Document as DocumentText, Model as ModelText, Answer as AnswerText};
 
 use crate::stop::Stop;
+use answer_check::{Answer, read_answer};
 use cert_text::{read, read_model};
 use dimacs_reader::Reader;
 use lk_model::{Document, Formula};
@@ -146,6 +148,58 @@ pub fn read_values<H: Shelf>(
     match read_model(alloc, text.as_slice(), formula.vars()) {
         Ok(model) => Ok(model),
         Err(stop) => Err(Stop::of_model(stop)),
+    }
+}
+
+/// A formula and an answer.
+#[derive(Drop)]
+pub struct Answered {
+    /// The formula.
+    pub formula: Formula,
+    /// The answer, which is in form for the formula's variables and clauses.
+    pub answer: Answer,
+}
+
+/// Reads the formula under the first name, and then the answer under the second.
+pub fn read_answered<H: Shelf>(
+    alloc: Global,
+    shelf: &mut H,
+    formula_name: &str,
+    answer_name: &str,
+) -> Result<Answered, Stop>
+    ensures told { TellsTheSame (H.told shelf.old) (H.told shelf.new) }
+    ensures read { IfOk result (λ r. AreRead (H.told shelf.old) nothing_known (FormulaText ∷ AnswerText ∷ [])
+        (formula_name.now ∷ answer_name.now ∷ []) (r.formula, (r.answer, tt))) }
+    ensures form { IfOk result (λ r. IsTrue (is_answer r.formula.vars (length r.formula.clauses) r.answer)) }
+    ensures stop { IfErr result (StopsOn (H.told shelf.old) nothing_known (FormulaText ∷ AnswerText ∷ [])
+        (formula_name.now ∷ answer_name.now ∷ []) (H.ailing shelf.new) (H.current shelf.new)) }
+    ensures cause { HasCause (H.faults shelf.old) (H.faults shelf.new) (IsErrAnd result (λ s. s ≡ Stop.Read)) }
+    ensures well { IsTrue (H.ailing shelf.new) → IsErrAnd result IsFailure }
+{
+    let formula = read_formula(alloc, shelf, formula_name)?;
+    let answer = read_answer_of(alloc, shelf, answer_name, &formula)?;
+    Ok(Answered { formula, answer })
+}
+
+/// Reads the answer under a name, for the variables and the clauses of a formula. It is in form for them.
+fn read_answer_of<H: Shelf>(
+    alloc: Global,
+    shelf: &mut H,
+    name: &str,
+    formula: &Formula,
+) -> Result<Answer, Stop>
+    ensures told { TellsTheSame (H.told shelf.old) (H.told shelf.new) }
+    ensures answer { IfOk result (λ a. IfSome (H.told shelf.old name.now) (λ bytes. IsAnswerText formula.now.vars (length formula.now.clauses) bytes a)) }
+    ensures form { IfOk result (λ a. IsTrue (is_answer formula.now.vars (length formula.now.clauses) a)) }
+    ensures stop { IfErr result (StopsReading AnswerText (known_of formula.now) (H.told shelf.old name.now) (H.ailing shelf.new)) }
+    ensures current { IsErrAnd result (λ s. s ≡ Stop.Read) → H.current shelf.new ≡ Some name.now }
+    ensures cause { HasCause (H.faults shelf.old) (H.faults shelf.new) (IsErrAnd result (λ s. s ≡ Stop.Read)) }
+    ensures well { IsTrue (H.ailing shelf.new) → IsErrAnd result IsFailure }
+{
+    let text = read_text(alloc, shelf, name)?;
+    match read_answer(alloc, text.as_slice(), formula.vars(), formula.len()) {
+        Ok(answer) => Ok(answer),
+        Err(stop) => Err(Stop::of_answer(stop)),
     }
 }
 

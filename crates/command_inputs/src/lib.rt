@@ -4,5 +4,5 @@
 mod input;
 mod stop;
 
-pub use input::{Checked, read_checked, read_formula, read_values};
+pub use input::{Answered, Checked, read_answered, read_checked, read_formula, read_values};
 pub use stop::Stop;

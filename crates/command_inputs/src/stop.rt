@@ -1,10 +1,12 @@
 //! Why a command ends without its result.
 ghost use Rattle.std.specs.Prelude.{◌≡◌};
 ghost use Rattle.command_inputs.specs.declared.stop.Stop.TheVariants.{Memory as MemoryStop, Read as ReadStop};
-ghost use Rattle.command_inputs.specs.Stops.{stop_of, start_stop_of, read_stop_of, model_stop_of};
+ghost use Rattle.command_inputs.specs.Stops.{stop_of, start_stop_of, read_stop_of, model_stop_of, answer_stop_of};
 
 use dimacs_reader::Refused;
-use lk_model::{OutOfMemory, ReadStop as DocumentStop, ReadStop as ModelStop};
+use lk_model::{
+    OutOfMemory, ReadStop as AnswerStop, ReadStop as DocumentStop, ReadStop as ModelStop,
+};
 use lk_outside::{Failed, StartStop};
 use std::alloc::AllocError;
 
@@ -19,6 +21,8 @@ pub enum Stop {
     Document(u64),
     /// The text is no model for the formula; its first faulty line, counted from 1.
     Model(u64),
+    /// The text is no answer for the formula; the first line with which none of them goes on, counted from 1.
+    Answer(u64),
     /// A call on the shelf failed.
     Read,
     /// There was no memory.
@@ -90,6 +94,16 @@ impl Stop {
         match stop {
             ModelStop::Line(line) => Stop::Model(line),
             ModelStop::OutOfMemory => Stop::Memory,
+        }
+    }
+
+    /// The stop that a text makes that is no answer's.
+    pub(crate) fn of_answer(stop: AnswerStop) -> Stop
+        ensures { result ≡ answer_stop_of stop }
+    {
+        match stop {
+            AnswerStop::Line(line) => Stop::Answer(line),
+            AnswerStop::OutOfMemory => Stop::Memory,
         }
     }
 }

@@ -8,7 +8,7 @@ use Rattle.command_words.specs.Settings.{every_option}
 use Rattle.command_words.specs.Shapes.{commands, words_of, keys_of}
 use Rattle.command_words.specs.Lawful.{request_of, with_names, with_number}
 use Rattle.command_words.specs.declared.command.Command.{Command}
-use Rattle.command_words.specs.declared.command.Command.TheVariants.{ReducePure, ReduceMatching, ReduceLinear, ReduceGeneral, Check, Extend, Report, Demo}
+use Rattle.command_words.specs.declared.command.Command.TheVariants.{ReducePure, ReduceMatching, ReduceLinear, ReduceGeneral, Check, Extend, Report, Demo, Solve, Verify}
 use Rattle.command_words.proofs.LawfulOptions.{have_samples}
 use Rattle.command_words.proofs.OptionWords.{agrees}
 
@@ -22,6 +22,8 @@ is_of Check rest = refl
 is_of Extend rest = refl
 is_of Report rest = refl
 is_of Demo rest = refl
+is_of Solve rest = refl
+is_of Verify rest = refl
 
 -- a number that it takes, as words
 pub one_number : (command : Command) → (number : List Word) × ((rest : List Word) → with_number command (number ++ rest) ≡ with_names command 0 rest)
@@ -33,6 +35,8 @@ one_number Check = ([], λ rest. refl)
 one_number Extend = ([], λ rest. refl)
 one_number Report = ([], λ rest. refl)
 one_number Demo = (codes "0" ∷ [], λ rest. refl)
+one_number Solve = ([], λ rest. refl)
+one_number Verify = ([], λ rest. refl)
 
 -- each of its options takes some word
 pub samples : (command : Command) → have_samples (keys_of command) ≡ true
@@ -45,6 +49,8 @@ samples Check = refl
 samples Extend = refl
 samples Report = refl
 samples Demo = refl
+samples Solve = refl
+samples Verify = refl
 
 -- none of them has the word of another option
 pub apart : (command : Command) → list_all (agrees (keys_of command)) every_option ≡ true
@@ -56,6 +62,8 @@ apart Check = refl
 apart Extend = refl
 apart Report = refl
 apart Demo = refl
+apart Solve = refl
+apart Verify = refl
 
 -- the place of each in the list of commands
 pub stands : (command : Command) → (place : ℕ) × (place < length commands) × (get_or commands place ReducePure ≡ command)
@@ -67,3 +75,5 @@ stands Check = (4, omega arith, refl)
 stands Extend = (5, omega arith, refl)
 stands Report = (6, omega arith, refl)
 stands Demo = (7, omega arith, refl)
+stands Solve = (8, omega arith, refl)
+stands Verify = (9, omega arith, refl)

@@ -19,10 +19,14 @@ pub enum Command {
     Report,
     /// Writes the sizes of the kernels of the formula of a number.
     Demo,
+    /// Writes a model of a formula, or a refutation, or an unfinished document.
+    Solve,
+    /// Writes what the checks say of a formula and an answer.
+    Verify,
 }
 
 /// The commands, in the order in which their words are looked for.
-pub(crate) const COMMANDS: [Command; 8] = [
+pub(crate) const COMMANDS: [Command; 10] = [
     Command::ReducePure,
     Command::ReduceMatching,
     Command::ReduceLinear,
@@ -31,4 +35,6 @@ pub(crate) const COMMANDS: [Command; 8] = [
     Command::Extend,
     Command::Report,
     Command::Demo,
+    Command::Solve,
+    Command::Verify,
 ];

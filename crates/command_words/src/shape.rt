@@ -16,6 +16,8 @@ pub enum Grammar {
     Document,
     /// A model for the variables of the formula before it.
     Model,
+    /// An answer for the variables and the clauses of the formula before it: a model of it, or a refutation.
+    Answer,
 }
 
 /// What the words of a command are made of: the words at its front, the numbers of which one stands behind them for
@@ -66,6 +68,18 @@ impl Command {
                     greatest: u64::MAX,
                 }),
                 inputs: &[],
+                keys: &[],
+            },
+            Command::Solve => Shape {
+                words: &["solve"],
+                numbers: None,
+                inputs: &[Grammar::Formula],
+                keys: &[CONFLICTS, WORKERS],
+            },
+            Command::Verify => Shape {
+                words: &["verify"],
+                numbers: None,
+                inputs: &[Grammar::Formula, Grammar::Answer],
                 keys: &[],
             },
         }

@@ -13,3 +13,5 @@ pub mod Spelled
 pub mod LineCuts
 pub mod CleanWords
 pub mod LineReads
+pub mod DraftReads
+pub mod CleanNumbers

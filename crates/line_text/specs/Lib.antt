@@ -4,3 +4,4 @@ pub mod LastVars
 pub mod Taking
 pub mod Spaced
 pub mod LineReading
+pub mod DraftReading

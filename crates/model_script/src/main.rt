@@ -6,12 +6,10 @@
 //! variables, or the line at which the text stops. A line that begins with `#` is a remark.
 #![tactic(auto)]
 
-mod spelled;
-
-use crate::spelled::bytes_of;
 use lk_model::{Lit, ReadStop};
 use model_text::read_model;
 use partial_assign::Partial;
+use script_texts::bytes_of;
 use std::alloc::{AllocError, Global};
 use std::test::Fail;
 

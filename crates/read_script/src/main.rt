@@ -13,12 +13,11 @@
 #![tactic(auto)]
 
 mod many;
-mod spelled;
 mod told;
 
 use crate::many::{tell_cuts, tell_swaps};
-use crate::spelled::{bytes_of, changed};
 use crate::told::told_of;
+use script_texts::{bytes_of, changed};
 use std::alloc::{AllocError, Global};
 use std::test::Fail;
 

@@ -1,6 +1,6 @@
 //! What is said of many texts that come from one.
-use crate::spelled::{bytes_of, parts_of, swapped};
 use crate::told::{Told, told_of};
+use script_texts::{bytes_of, parts_of, swapped};
 use std::alloc::{AllocError, Global};
 
 /// Writes, in short, what is said of a text.

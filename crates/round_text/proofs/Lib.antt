@@ -4,3 +4,4 @@ pub mod RoundForms
 pub mod RoundParts
 pub mod RoundEnds
 pub mod RoundRuns
+pub mod CleanRounds

@@ -67,7 +67,7 @@ abbrev pub shut_at : List Round → ℕ → RoundsPart
 shut_at rounds k = record { rounds = rounds; is_open = false; steps = []; count = k }
 
 -- the steps of a whole round
-whole_run : (may : Bool) (n m : ℕ) (rounds : List Round) (before steps : List Step) (k : ℕ) (lines : List (List Word)) → n ≤ 1000000 → ends_at_empty steps ≡ true → AreNumbered n m k steps
+pub whole_run : (may : Bool) (n m : ℕ) (rounds : List Round) (before steps : List Step) (k : ℕ) (lines : List (List Word)) → n ≤ 1000000 → ends_at_empty steps ≡ true → AreNumbered n m k steps
     → rounds_run may n m (open_at rounds before k) (map step_line steps ++ lines) ≡ rounds_run may n m (shut_at (rounds ++ round_of (before ++ steps) ∷ []) (k + length steps)) lines
 whole_run may n m rounds before [] k lines small ends h = absurd (let f : ⊥ = cc in f)
 whole_run may n m rounds before (s ∷ steps) k lines small ends h =

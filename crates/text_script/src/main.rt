@@ -16,18 +16,17 @@
 mod documents;
 mod formulas;
 mod shown;
-mod spelled;
 
 use crate::documents::{tell_cuts, tell_document};
 use crate::formulas::{tell_formula, tell_moment, tell_pieces};
-use crate::spelled::{bytes_of, changed};
+use script_texts::{bytes_of, changed};
 use std::alloc::{AllocError, Global};
 use std::test::Fail;
 
 /// The bytes that a command reads.
 fn bytes_for(alloc: Global, base: &str, word: &str, text: &str) -> Result<Vec<u8>, AllocError> {
     match word {
-        "change" => changed(alloc, base, text),
+        "change" => bytes_of(alloc, changed(alloc, base, text)?.as_str()),
         "cut" => bytes_of(alloc, base),
         _ => bytes_of(alloc, text),
     }

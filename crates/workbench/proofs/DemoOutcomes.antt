@@ -9,10 +9,10 @@ use Rattle.workbench.specs.DemoOutcomes.{DemoOutcomes}
 use Rattle.workbench.specs.Endings.{Shelved, Takes, Allows, DeservesStop, HasReadFault}
 use Rattle.command_words.specs.Lawful.{Request, request_of}
 use Rattle.command_words.specs.Settings.{number_within, numbers_from, options_by}
-use Rattle.workbench.specs.Statuses.{code}
+use Rattle.command_endings.specs.Statuses.{code}
 use Rattle.command_words.specs.declared.command.Command.TheVariants.{Demo}
-use Rattle.workbench.specs.declared.status.Status.{Status}
-use Rattle.workbench.specs.declared.status.Status.TheVariants.{Done, Words, Input, ReadFault, WriteFault, Budget, TooWide, TooLarge, Refused, Memory}
+use Rattle.command_endings.specs.declared.status.Status.{Status}
+use Rattle.command_endings.specs.declared.status.Status.TheVariants.{Done, Words, Input, ReadFault, WriteFault, Budget, TooWide, TooLarge, Refused, Memory, Satisfiable, Unsatisfiable}
 use Rattle.command_words.proofs.CommandTable.{is_of}
 use Rattle.workbench.proofs.Outcomes.{result_of, result_at}
 
@@ -37,6 +37,8 @@ may_come words shelf number Memory written said asked h = refl
 may_come words shelf number TooWide written said asked h = absurd (result_at words shelf (demo_request number) TooWide written said asked refl h).answers
 may_come words shelf number TooLarge written said asked h = absurd (result_at words shelf (demo_request number) TooLarge written said asked refl h).answers
 may_come words shelf number Refused written said asked h = absurd (result_at words shelf (demo_request number) Refused written said asked refl h).answers
+may_come words shelf number Satisfiable written said asked h = absurd (result_at words shelf (demo_request number) Satisfiable written said asked refl h).answers
+may_come words shelf number Unsatisfiable written said asked h = absurd (result_at words shelf (demo_request number) Unsatisfiable written said asked refl h).answers
 may_come words shelf number Words written said asked h = let unlawful = h.1.unlawful in absurd (let f : ⊥ = cc (asked, unlawful) in f)
 may_come words shelf number Input written said asked h = absurd (subst (λ (o : Option Request). DeservesStop o shelf.told h.0) asked h.1)
 may_come words shelf number ReadFault written said asked h = absurd (subst (λ (o : Option Request). HasReadFault o shelf) asked h.0).1

@@ -7,19 +7,19 @@ use Rattle.lk_model.specs.declared.list.OutOfMemory.{OutOfMemory}
 use Rattle.lk_outside.specs.Causes.{Rose}
 use Rattle.cert_text.specs.ReadTexts.{IsOfOneDocument, StopsNowhere}
 use Rattle.command_words.specs.Shapes.{inputs_of}
-use Rattle.workbench.specs.Commands.{Answers}
-use Rattle.workbench.specs.Endings.{Shelved, Sunk, Takes, TakesBoth, IsCutIn, Ends, IsCutOff, EndsQuietly, IsResult, DeservesStop, HasReadFault, Tells, Allows, HasValues, IsDecidedFor, IsDecided, IsUnlessFailed, StopsAsRead, StopsAt, ReadsNothing, IsWell}
+use Rattle.command_endings.specs.Commands.{Answers}
+use Rattle.workbench.specs.Endings.{Shelved, Sunk, Takes, TakesBoth, IsCutIn, Ends, IsCutOff, EndsQuietly, IsResult, DeservesStop, HasReadFault, Allows, HasValues, IsDecidedFor, IsDecided, IsUnlessFailed, StopsAsRead, StopsAt, ReadsNothing, IsWell}
 use Rattle.command_inputs.specs.Inputs.{nothing_known, Told, Values, IsFirstBad, IsFailure}
 use Rattle.command_words.specs.Lawful.{Request, request_of}
-use Rattle.workbench.specs.Statuses.{code, is_result}
-use Rattle.workbench.specs.StopLines.{status_of, line_of}
-use Rattle.workbench.specs.declared.ending.Ending.{Ending}
-use Rattle.workbench.specs.declared.status.Status.{Status}
-use Rattle.workbench.specs.declared.status.Status.TheVariants as status
+use Rattle.command_endings.specs.Statuses.{code, is_result}
+use Rattle.command_endings.specs.StopLines.{status_of, line_of, Tells}
+use Rattle.command_endings.specs.declared.ending.Ending.{Ending}
+use Rattle.command_endings.specs.declared.status.Status.{Status}
+use Rattle.command_endings.specs.declared.status.Status.TheVariants as status
 use Rattle.command_inputs.specs.declared.stop.Stop.{Stop}
 use Rattle.command_inputs.specs.declared.stop.Stop.TheVariants as stop
-use Rattle.workbench.proofs.CommandTable.{one_status}
-use Rattle.command_inputs.proofs.InputLaws.{one_reading, none_bad, none_stops}
+use Rattle.command_endings.proofs.CommandTable.{one_status}
+use Rattle.command_inputs.proofs.InputLaws.{nothing_small, one_reading, none_bad, none_stops}
 
 -- WHAT IS ALLOWED
 
@@ -37,6 +37,8 @@ result_allowed words shelf s written said h = by s h (result_is (request_of word
     by status.TooWide h is = h
     by status.TooLarge h is = h
     by status.Refused h is = h
+    by status.Satisfiable h is = h
+    by status.Unsatisfiable h is = h
     by status.Words h is = absurd (let f : ⊥ = cc is in f)
     by status.Input h is = absurd (let f : ⊥ = cc is in f)
     by status.ReadFault h is = absurd (let f : ⊥ = cc is in f)
@@ -65,6 +67,11 @@ stop_allowed words shelf (stop.Model line) written said h rose tells = (stop.Mod
     by : (o : Option Request) → StopsAsRead o shelf.told shelf.ailing shelf.current (stop.Model line) → DeservesStop o shelf.told (stop.Model line)
     by None h = h
     by (Some request) h = h
+stop_allowed words shelf (stop.Answer line) written said h rose tells = (stop.Answer line, by (request_of words) h, tells)
+  where
+    by : (o : Option Request) → StopsAsRead o shelf.told shelf.ailing shelf.current (stop.Answer line) → DeservesStop o shelf.told (stop.Answer line)
+    by None h = h
+    by (Some request) h = h
 stop_allowed words shelf stop.Read written said h rose tells = (read_fault (request_of words) shelf (rose refl) h, tells)
 stop_allowed words shelf stop.Memory written said h rose tells = tells
 
@@ -82,6 +89,8 @@ decided_by request told status.TooWide h = inr h
 decided_by request told status.TooLarge h = inr h
 decided_by request told status.Refused h = inr h
 decided_by request told status.Memory h = inr h
+decided_by request told status.Satisfiable h = inr h
+decided_by request told status.Unsatisfiable h = inr h
 
 -- a result has the decided status
 pub result_decided : {ShelfFailed SinkFailed : Type 0} → IsOfOneDocument → (o : Option Request) (told : Told) (s decided : Status) (written said : List ℕ) → IsResult o told s written said → IsDecided o told decided → IsUnlessFailed (code s) decided ShelfFailed SinkFailed
@@ -89,9 +98,9 @@ result_decided once None told s decided written said h d = absurd h
 result_decided once (Some request) told s decided written said h d = inl (ap code (by (decided_by request told decided d) d))
   where
     by : (decided ≡ status.Input) ⊎ HasValues request told decided → IsDecidedFor request told decided → s ≡ decided
-    by (inl e) d = absurd (none_bad once told nothing_known (inputs_of request.command) request.names h.values h.read (subst (IsDecidedFor request told) e d))
+    by (inl e) d = absurd (none_bad once told nothing_known (inputs_of request.command) request.names h.values nothing_small h.read (subst (IsDecidedFor request told) e d))
     by (inr v) d =
-        let same = one_reading once told nothing_known (inputs_of request.command) request.names h.values v.values v.told_all h.read v.read in
+        let same = one_reading once told nothing_known (inputs_of request.command) request.names h.values v.values nothing_small v.told_all h.read v.read in
         one_status request.command request.options v.values decided s written said v.decides (subst (λ (values : Values (inputs_of request.command)). Answers request.command request.options values s written said) same h.answers)
 
 -- a bad input has status 2
@@ -100,7 +109,7 @@ bad_decided once never request told s decided h d = by (decided_by request told 
   where
     by : (decided ≡ status.Input) ⊎ HasValues request told decided → decided ≡ status.Input
     by (inl e) = e
-    by (inr v) = absurd (none_stops once never told nothing_known (inputs_of request.command) request.names v.values s v.told_all v.read h)
+    by (inr v) = absurd (none_stops once never told nothing_known (inputs_of request.command) request.names v.values s nothing_small v.told_all v.read h)
 
 -- so is that of a stop, unless a call or memory failed
 pub stop_decided : {ShelfFailed SinkFailed : Type 0} → IsOfOneDocument → StopsNowhere → (words : List Word) (told : Told) (ailing : Bool) (current : Option (List ℕ)) (s : Stop) (decided : Status) → StopsAt words told ailing current s → (s ≡ stop.Read → ShelfFailed) → IsDecided (request_of words) told decided → IsUnlessFailed (code (status_of s)) decided ShelfFailed SinkFailed
@@ -122,6 +131,11 @@ stop_decided once never words told ailing current (stop.Model line) decided h ro
     by : (o : Option Request) → StopsAsRead o told ailing current (stop.Model line) → IsDecided o told decided → decided ≡ status.Input
     by None h d = absurd h
     by (Some request) h d = bad_decided once never request told (stop.Model line) decided h d
+stop_decided once never words told ailing current (stop.Answer line) decided h rose d = inl (ap code (sym (by (request_of words) h d)))
+  where
+    by : (o : Option Request) → StopsAsRead o told ailing current (stop.Answer line) → IsDecided o told decided → decided ≡ status.Input
+    by None h d = absurd h
+    by (Some request) h d = bad_decided once never request told (stop.Answer line) decided h d
 stop_decided once never words told ailing current stop.Read decided h rose d = inr (inl (refl, rose refl))
 stop_decided once never words told ailing current stop.Memory decided h rose d = inr (inr (inr refl))
 
@@ -150,6 +164,8 @@ well_by status.TooWide o ailing h = h
 well_by status.TooLarge o ailing h = h
 well_by status.Refused o ailing h = h
 well_by status.Memory o ailing h = tt
+well_by status.Satisfiable o ailing h = h
+well_by status.Unsatisfiable o ailing h = h
 
 -- a result does not tell of a failure
 pub result_well : (s : Status) (o : Option Request) (ailing : Bool) → (IsTrue ailing → ReadsNothing o ⊎ ⊥) → IsWell s o ailing
@@ -167,6 +183,7 @@ stop_well (stop.Words i) o ailing h = result_well status.Words o ailing h
 stop_well (stop.Formula r) o ailing h = result_well status.Input o ailing h
 stop_well (stop.Document line) o ailing h = result_well status.Input o ailing h
 stop_well (stop.Model line) o ailing h = result_well status.Input o ailing h
+stop_well (stop.Answer line) o ailing h = result_well status.Input o ailing h
 
 pub told_well : (s : Stop) (o : Option Request) (ailing : Bool) (r : Result Ending OutOfMemory) → IfOk r (λ e. e.status ≡ status_of s) → (IsTrue ailing → ReadsNothing o ⊎ IsFailure s) → IfOk r (λ e. IsWell e.status o ailing)
 told_well s o ailing (Ok e) is h = subst (λ (t : Status). IsWell t o ailing) (sym is) (stop_well s o ailing h)

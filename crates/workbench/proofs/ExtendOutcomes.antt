@@ -12,16 +12,16 @@ use Rattle.lk_model.specs.declared.document.Document.{Document}
 use Rattle.lk_model.specs.declared.document.Document.TheVariants.{Done as Finished, Unfinished}
 use Rattle.lk_model.specs.declared.document.DoneDocument.{DoneDocument}
 use Rattle.lk_model.specs.declared.verdict.Why.{Why}
-use Rattle.workbench.specs.Commands.Extending as extend
-use Rattle.workbench.specs.Commands.Extending.{Outcome, Open, Fails, Extends, extension, outcome_by, outcome_of, outcome_status, written_of, said_of}
+use Rattle.command_endings.specs.Commands.Extending as extend
+use Rattle.command_endings.specs.Commands.Extending.{Outcome, Open, Fails, Extends, extension, outcome_by, outcome_of, outcome_status, written_of, said_of}
 use Rattle.workbench.specs.Endings.{Takes, IsDecided}
 use Rattle.command_words.specs.Lawful.{Request}
 use Rattle.workbench.specs.Outcomes.{IsFormulaText, IsNoFormulaText, IsNoDocumentText, IsExtendedTo, IsNotExtended, IsUnfinished, IsNoModelText, ExtendOutcomes}
-use Rattle.workbench.specs.Statuses.{code}
+use Rattle.command_endings.specs.Statuses.{code}
 use Rattle.command_words.specs.declared.command.Command.TheVariants.{Extend}
-use Rattle.workbench.specs.declared.status.Status.{Status}
-use Rattle.workbench.specs.declared.status.Status.TheVariants.{Done, Input, Budget, Refused}
-use Rattle.workbench.proofs.Extensions.{accepted_extends}
+use Rattle.command_endings.specs.declared.status.Status.{Status}
+use Rattle.command_endings.specs.declared.status.Status.TheVariants.{Done, Input, Budget, Refused}
+use Rattle.command_endings.proofs.Extensions.{accepted_extends}
 use Rattle.workbench.proofs.Outcomes.{result_of, only, not_spelled, refuses_some}
 
 -- the outcome that a status tells

@@ -6,20 +6,21 @@ use Rattle.std.proofs.lemmas.Bool.{cases_lt}
 use Rattle.lk_model.specs.Formulas.Formula.{Cnf}
 use Rattle.lk_model.specs.Texts.Dimacs.{Spells}
 use Rattle.lk_model.specs.Texts.Fault.{fault_of}
+use Rattle.lk_model.specs.Texts.Lines.{Word}
 use Rattle.lk_model.specs.Reduction.{ReducesTo, StopsUnfinished}
 use Rattle.lk_model.specs.declared.class.Class.TheVariants.{General}
 use Rattle.dimacs_reader.specs.Faults.{refusal_by, refusal_of}
-use Rattle.workbench.specs.Commands.GeneralReducing.{WritesFinished, WritesUnfinished, Writes}
+use Rattle.command_endings.specs.Commands.GeneralReducing.{WritesFinished, WritesUnfinished, Writes}
 use Rattle.workbench.specs.Endings.{Takes, IsDecided}
 use Rattle.workbench.specs.GeneralOutcomes.{ReducesWithin, StopsShort, GeneralOutcomes}
 use Rattle.command_words.specs.declared.shape.Grammar.TheVariants.{Formula}
-use Rattle.command_inputs.specs.Inputs.{nothing_known, IsRefusal, IsFirstBad}
+use Rattle.command_inputs.specs.Inputs.{Told, nothing_known, IsRefusal, IsFirstBad}
 use Rattle.command_words.specs.Lawful.{Request}
 use Rattle.command_words.specs.Settings.{Options}
-use Rattle.workbench.specs.Statuses.{code}
-use Rattle.workbench.specs.declared.status.Status.{Status}
-use Rattle.workbench.specs.declared.status.Status.TheVariants as status
-use Rattle.workbench.specs.declared.status.Status.TheVariants.{Done, Budget, Input}
+use Rattle.command_endings.specs.Statuses.{code}
+use Rattle.command_endings.specs.declared.status.Status.{Status}
+use Rattle.command_endings.specs.declared.status.Status.TheVariants as status
+use Rattle.command_endings.specs.declared.status.Status.TheVariants.{Done, Budget, Input}
 use Rattle.command_inputs.specs.declared.stop.Stop.{Stop}
 use Rattle.command_inputs.specs.declared.stop.Stop.TheVariants as stop
 use Rattle.workbench.proofs.Outcomes.{result_of, input_of, only, not_spelled}
@@ -38,6 +39,8 @@ one_of options F status.TooWide written said w = absurd w
 one_of options F status.TooLarge written said w = absurd w
 one_of options F status.Refused written said w = absurd w
 one_of options F status.Memory written said w = refl
+one_of options F status.Satisfiable written said w = absurd w
+one_of options F status.Unsatisfiable written said w = absurd w
 
 -- a budget that is not enough
 few_of : (n conflicts : ℕ) → (n ≤ conflicts → Budget ≡ Done) → conflicts < n
@@ -68,10 +71,16 @@ faulty (Some bytes) (stop.Formula r) h = λ none. let no : refusal_of bytes ≡ 
 faulty (Some bytes) (stop.Words i) h = absurd h
 faulty (Some bytes) (stop.Document line) h = absurd h
 faulty (Some bytes) (stop.Model line) h = absurd h
+faulty (Some bytes) (stop.Answer line) h = absurd h
 faulty (Some bytes) stop.Read h = absurd h
 faulty (Some bytes) stop.Memory h = absurd h
 
-told_text : (told : Option (List ℕ)) (F : Cnf) → IsSomeAnd told (λ bytes. Spells bytes F) → IsSome told × IfSome told (λ bytes. Spells bytes F)
+-- of a command whose one input is a formula
+pub first_faulty : (told : Told) (name : Word) (s : Stop) → IsFirstBad told nothing_known (Formula ∷ []) (name ∷ []) s → IfSome (told name) (λ bytes. fault_of bytes ≢ None)
+first_faulty told name s (inl h) = faulty (told name) s h
+first_faulty told name s (inr later) = absurd later.2
+
+pub told_text : (told : Option (List ℕ)) (F : Cnf) → IsSomeAnd told (λ bytes. Spells bytes F) → IsSome told × IfSome told (λ bytes. Spells bytes F)
 told_text None F h = absurd h
 told_text (Some bytes) F h = (refl, h)
 
@@ -94,7 +103,7 @@ general_outcomes words shelf out say name options asked = record {
       );
   refused = λ e.
       let b = input_of words shelf out say _ e asked in
-      first_faulty b.0 b.1;
+      first_faulty shelf.told name b.0 b.1;
   statuses = λ answer e.
       subst (λ (n : ℕ). IsTrue (list_any (nat_eq n) (0 ∷ 2 ∷ 3 ∷ 5 ∷ 9 ∷ []))) (sym e.answer_is)
       (only words shelf _ e.status e.written e.said (0 ∷ 2 ∷ 3 ∷ 5 ∷ 9 ∷ []) asked e.allowed
@@ -104,7 +113,3 @@ general_outcomes words shelf out say name options asked = record {
       subst (λ (o : Option Request). IsDecided o shelf.told Done) (sym asked) (record { told_all = (t.0, tt); values = (F, tt); read = (t.1, tt); decides = record { status_is = refl; enough = enough } });
   refuses = λ h. subst (λ (o : Option Request). IsDecided o shelf.told Input) (sym asked) (inl (not_spelled (shelf.told name) h));
 }
-  where
-    first_faulty : (s : Stop) → IsFirstBad shelf.told nothing_known (Formula ∷ []) (name ∷ []) s → IfSome (shelf.told name) (λ bytes. fault_of bytes ≢ None)
-    first_faulty s (inl h) = faulty (shelf.told name) s h
-    first_faulty s (inr later) = absurd later.2

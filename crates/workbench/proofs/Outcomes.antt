@@ -1,5 +1,5 @@
 -- What the clauses of a run come to for each command.
-use Rattle.std.proofs.Common.{◌≡◌, ◌∙◌, ℕ, zero, suc, List, [], ◌∷◌, Option, Some, None, refl, ap, sym, subst, ◌⊎◌, inl, inr}
+use Rattle.std.proofs.Common.{◌≡◌, ◌∙◌, ℕ, ◌==◌, if◌then◌else◌, List, [], ◌∷◌, Option, Some, None, refl, ap, sym, subst, ◌⊎◌, inl, inr}
 use Rattle.std.specs.Prelude.{IfSome, IsSome, IsSomeAnd, IsTrue, nat_eq}
 use Rattle.std.specs.List.{list_any}
 use Rattle.lk_model.specs.Formulas.Formula.{Cnf}
@@ -18,36 +18,38 @@ use Rattle.lk_model.specs.Documents.Reading.{IsTextOf}
 use Rattle.lean_checker.specs.Verdicts.{verdict_by, verdict_of, verdict_words}
 use Rattle.lean_checker.specs.declared.verdict.Verdict.{Verdict}
 use Rattle.lean_checker.specs.declared.verdict.Verdict.TheVariants as verdict
-use Rattle.workbench.specs.Commands.Reducing as reduce
-use Rattle.workbench.specs.Commands.Checking as check
-use Rattle.workbench.specs.Commands.Checking.{verdict_status}
-use Rattle.workbench.specs.Commands.Reporting.{WritesReport}
+use Rattle.command_endings.specs.Commands.Reducing as reduce
+use Rattle.command_endings.specs.Commands.Checking as check
+use Rattle.command_endings.specs.Commands.Checking.{verdict_status}
+use Rattle.command_endings.specs.Commands.Reporting.{WritesReport}
 use Rattle.workbench.specs.Endings.{Shelved, Sunk, Takes, Ends, Allows, HasResult, IsResult, DeservesStop, IsDecided}
 use Rattle.command_words.specs.Shapes.{inputs_of}
 use Rattle.command_inputs.specs.Inputs.{nothing_known, Told, IsFirstBad}
 use Rattle.command_words.specs.Lawful.{Request, request_of}
 use Rattle.workbench.specs.Outcomes.{IsFormulaText, IsNoFormulaText, IsNoDocumentText, IsProved, IsOpenFor, ReduceMeans, ReduceOutcomes, CheckOutcomes, ReportOutcomes, Reports}
 use Rattle.command_words.specs.Settings.{Options}
-use Rattle.workbench.specs.Statuses.{code, is_result}
+use Rattle.command_endings.specs.Statuses.{code, is_result}
 use Rattle.command_words.specs.declared.command.Command.TheVariants.{ReducePure, ReduceMatching, Check}
 use Rattle.command_inputs.specs.declared.stop.Stop.{Stop}
-use Rattle.workbench.specs.declared.status.Status.{Status}
-use Rattle.workbench.specs.declared.status.Status.TheVariants.{Done, Words, Input, ReadFault, WriteFault, Budget, TooWide, TooLarge, Refused, Memory}
+use Rattle.command_endings.specs.declared.status.Status.{Status}
+use Rattle.command_endings.specs.declared.status.Status.TheVariants.{Done, Words, Input, ReadFault, WriteFault, Budget, TooWide, TooLarge, Refused, Memory, Satisfiable, Unsatisfiable}
 
 -- STATUSES
 
 -- no two statuses have one number
 abbrev pub numbered : ℕ → Status
-numbered zero = Done
-numbered (suc zero) = Words
-numbered (suc (suc zero)) = Input
-numbered (suc (suc (suc zero))) = ReadFault
-numbered (suc (suc (suc (suc zero)))) = WriteFault
-numbered (suc (suc (suc (suc (suc zero))))) = Budget
-numbered (suc (suc (suc (suc (suc (suc zero)))))) = TooWide
-numbered (suc (suc (suc (suc (suc (suc (suc zero))))))) = TooLarge
-numbered (suc (suc (suc (suc (suc (suc (suc (suc zero)))))))) = Refused
-numbered _ = Memory
+numbered n = if n == 0 then Done
+    else if n == 1 then Words
+    else if n == 2 then Input
+    else if n == 3 then ReadFault
+    else if n == 4 then WriteFault
+    else if n == 5 then Budget
+    else if n == 6 then TooWide
+    else if n == 7 then TooLarge
+    else if n == 8 then Refused
+    else if n == 10 then Satisfiable
+    else if n == 20 then Unsatisfiable
+    else Memory
 
 number_of : (s : Status) → numbered (code s) ≡ s
 number_of Done = refl
@@ -60,6 +62,8 @@ number_of TooWide = refl
 number_of TooLarge = refl
 number_of Refused = refl
 number_of Memory = refl
+number_of Satisfiable = refl
+number_of Unsatisfiable = refl
 
 pub one_status : (s : Status) (n : ℕ) → n ≡ code s → s ≡ numbered n
 one_status s n e = sym (number_of s) ∙ ap numbered (sym e)
@@ -74,6 +78,8 @@ result_at words shelf r s written said asked is h = subst (λ (o : Option Reques
     by TooWide is h = h
     by TooLarge is h = h
     by Refused is h = h
+    by Satisfiable is h = h
+    by Unsatisfiable is h = h
     by Words is h = absurd (let f : ⊥ = cc is in f)
     by Input is h = absurd (let f : ⊥ = cc is in f)
     by ReadFault is h = absurd (let f : ⊥ = cc is in f)
@@ -103,6 +109,8 @@ only words shelf r s written said may asked h result two three nine = by s h res
     by TooWide h result = result refl (result_at words shelf r TooWide written said asked refl h)
     by TooLarge h result = result refl (result_at words shelf r TooLarge written said asked refl h)
     by Refused h result = result refl (result_at words shelf r Refused written said asked refl h)
+    by Satisfiable h result = result refl (result_at words shelf r Satisfiable written said asked refl h)
+    by Unsatisfiable h result = result refl (result_at words shelf r Unsatisfiable written said asked refl h)
     by Words h result = let unlawful = h.1.unlawful in absurd (let f : ⊥ = cc (asked, unlawful) in f)
     by Input h result = two
     by ReadFault h result = three
@@ -116,7 +124,7 @@ reduces_to None class F options text s w = tt
 reduces_to (Some bytes) class F options text s w = record { formula = F; spells = s; writes = w }
 
 -- a text without a fault spells a formula, and another spells none
-spelled : (told : Option (List ℕ)) → IsFormulaText told → (F : Cnf) × IsSome told × IfSome told (λ bytes. Spells bytes F)
+pub spelled : (told : Option (List ℕ)) → IsFormulaText told → (F : Cnf) × IsSome told × IfSome told (λ bytes. Spells bytes F)
 spelled None h = absurd h
 spelled (Some bytes) h = let s = (fault_law.none bytes).0 h in (s.0, refl, s.1)
 

@@ -1,8 +1,7 @@
 -- How a command's request ends.
-use Rattle.std.proofs.Common.{◌≡◌, ℕ, Bool, List, [], ◌∷◌, Option, Some, Result, Ok, Err, IfOk, refl, sym, subst, inl, inr}
+use Rattle.std.proofs.Common.{◌≡◌, ℕ, Bool, List, [], ◌∷◌, Option, Some, Ok, Err, refl, sym, subst, inl, inr}
 use Rattle.std.specs.Prelude.{IsTrue}
 use Rattle.lk_model.specs.Texts.Lines.{Word}
-use Rattle.lk_model.specs.declared.list.OutOfMemory.{OutOfMemory}
 use Rattle.lk_outside.specs.Causes.{HasCause}
 use Rattle.command_words.specs.Lawful.{Request}
 use Rattle.command_words.specs.Shapes.{inputs_of}
@@ -12,17 +11,9 @@ use Rattle.command_inputs.specs.Inputs.{Told, Values, nothing_known, AreRead, St
 use Rattle.command_inputs.specs.declared.stop.Stop.{Stop}
 use Rattle.command_inputs.specs.declared.stop.Stop.TheVariants as stop
 use Rattle.workbench.specs.Endings.{Shelved}
-use Rattle.workbench.specs.Performing.{IsAnswer, Performs}
-use Rattle.workbench.specs.declared.ending.Ending.{Ending}
-
--- what is known of an ending, where there is one
-pub by_one : (P S : Ending → Type 0) (r : Result Ending OutOfMemory) → IfOk r P → ((e : Ending) → P e → S e) → IfOk r S
-by_one P S (Err e) p f = tt
-by_one P S (Ok e) p f = f e p
-
-pub by_three : (P Q R S : Ending → Type 0) (r : Result Ending OutOfMemory) → IfOk r P → IfOk r Q → IfOk r R → ((e : Ending) → P e → Q e → R e → S e) → IfOk r S
-by_three P Q R S (Err e) p q t f = tt
-by_three P Q R S (Ok e) p q t f = f e p q t
+use Rattle.command_endings.specs.Answering.{IsAnswer}
+use Rattle.workbench.specs.Performing.{Performs}
+use Rattle.command_endings.specs.declared.ending.Ending.{Ending}
 
 -- the stop of the only input, a formula
 pub formula_stops : (told : Told) (name : Word) (ailing : Bool) (current : Option (List ℕ)) (s : Stop) → StopsReading Formula nothing_known (told name) ailing s → (s ≡ stop.Read → current ≡ Some name) → StopsOn told nothing_known (Formula ∷ []) (name ∷ []) ailing current s
@@ -32,6 +23,7 @@ formula_stops told name ailing current (stop.Formula r) h at = inl h
 formula_stops told name ailing current (stop.Words i) h at = absurd h
 formula_stops told name ailing current (stop.Document line) h at = absurd h
 formula_stops told name ailing current (stop.Model line) h at = absurd h
+formula_stops told name ailing current (stop.Answer line) h at = absurd h
 
 -- an input is bad, or a call failed
 pub stopped : (request : Request) (shelf : Shelved) (s : Stop) → StopsOn shelf.told nothing_known (inputs_of request.command) request.names shelf.ailing shelf.current s

@@ -1,5 +1,5 @@
 -- Which texts of an ending are empty.
-use Rattle.std.proofs.Common.{◌≡◌, ℕ, List, [], ◌∷◌, Option, Some, None, subst}
+use Rattle.std.proofs.Common.{◌≡◌, ℕ, List, [], ◌∷◌, true, Option, Some, None, refl, subst}
 use Rattle.std.specs.Prelude.{IsTrue, nat_eq}
 use Rattle.std.specs.List.{list_any}
 use Rattle.lk_model.specs.Texts.Lines.{Word}
@@ -7,16 +7,16 @@ use Rattle.workbench.specs.Endings.{Shelved, IsResult, Allows}
 use Rattle.command_inputs.specs.Inputs.{Told}
 use Rattle.command_words.specs.Lawful.{Request, request_of}
 use Rattle.workbench.specs.QuietEndings.{QuietOutcomes}
-use Rattle.workbench.specs.Statuses.{code}
-use Rattle.workbench.specs.declared.status.Status.{Status}
-use Rattle.workbench.specs.declared.status.Status.TheVariants.{Done, Words, Input, ReadFault, WriteFault, Budget, TooWide, TooLarge, Refused, Memory}
-use Rattle.workbench.proofs.CommandTable.{done_silent, wide_unwritten, large_unwritten}
+use Rattle.command_endings.specs.Statuses.{code, is_silent}
+use Rattle.command_endings.specs.declared.status.Status.{Status}
+use Rattle.command_endings.specs.declared.status.Status.TheVariants.{Done, Words, Input, ReadFault, WriteFault, Budget, TooWide, TooLarge, Refused, Memory, Satisfiable, Unsatisfiable}
+use Rattle.command_endings.proofs.CommandTable.{result_silent, wide_unwritten, large_unwritten}
 use Rattle.workbench.proofs.Outcomes.{one_status}
 
 -- of a result
-silent : (o : Option Request) (told : Told) (written said : List ℕ) → IsResult o told Done written said → said ≡ []
-silent None told written said h = absurd h
-silent (Some request) told written said h = done_silent request.command request.options h.values written said h.answers
+silent : (o : Option Request) (told : Told) (s : Status) (written said : List ℕ) → is_silent s ≡ true → IsResult o told s written said → said ≡ []
+silent None told s written said is h = absurd h
+silent (Some request) told s written said is h = result_silent request.command request.options h.values s written said is h.answers
 
 unwritten_wide : (o : Option Request) (told : Told) (written said : List ℕ) → IsResult o told TooWide written said → written ≡ []
 unwritten_wide None told written said h = absurd h
@@ -38,9 +38,13 @@ unwritten words shelf Done written said among h = absurd (let f : ⊥ = cc among
 unwritten words shelf WriteFault written said among h = absurd h
 unwritten words shelf Budget written said among h = absurd (let f : ⊥ = cc among in f)
 unwritten words shelf Refused written said among h = absurd (let f : ⊥ = cc among in f)
+unwritten words shelf Satisfiable written said among h = absurd (let f : ⊥ = cc among in f)
+unwritten words shelf Unsatisfiable written said among h = absurd (let f : ⊥ = cc among in f)
 
 pub quiet_outcomes : QuietOutcomes
 quiet_outcomes words shelf out say = record {
-  done = λ e. silent (request_of words) shelf.told e.written e.said (subst (λ (s : Status). Allows words shelf s e.written e.said) (one_status e.status 0 e.answer_is) e.allowed);
+  done = λ e. silent (request_of words) shelf.told Done e.written e.said refl (subst (λ (s : Status). Allows words shelf s e.written e.said) (one_status e.status 0 e.answer_is) e.allowed);
+  satisfiable = λ e. silent (request_of words) shelf.told Satisfiable e.written e.said refl (subst (λ (s : Status). Allows words shelf s e.written e.said) (one_status e.status 10 e.answer_is) e.allowed);
+  unsatisfiable = λ e. silent (request_of words) shelf.told Unsatisfiable e.written e.said refl (subst (λ (s : Status). Allows words shelf s e.written e.said) (one_status e.status 20 e.answer_is) e.allowed);
   failed = λ answer among e. unwritten words shelf e.status e.written e.said (subst (λ (n : ℕ). IsTrue (list_any (nat_eq n) (1 ∷ 2 ∷ 3 ∷ 6 ∷ 7 ∷ 9 ∷ []))) e.answer_is among) e.allowed;
 }

@@ -16,13 +16,13 @@ use Rattle.lean_checker.specs.Verdicts.{verdict_of, verdict_words}
 use Rattle.lean_checker.specs.declared.verdict.Verdict.{Verdict}
 use Rattle.lean_checker.specs.declared.verdict.Verdict.TheVariants as verdict
 use Rattle.cert_text.proofs.ReadLaws.{of_one_document}
-use Rattle.workbench.specs.Commands.Checking.{verdict_status}
+use Rattle.command_endings.specs.Commands.Checking.{verdict_status}
 use Rattle.workbench.specs.Endings.{Shelved, Sunk, Takes, HasValues, IsDecidedFor, IsDecided}
 use Rattle.workbench.specs.GeneralOutcomes.{ReducesWithin, StopsShort}
 use Rattle.command_inputs.specs.Inputs.{Told}
 use Rattle.command_words.specs.Lawful.{Request}
 use Rattle.command_words.specs.Settings.{Options}
-use Rattle.workbench.specs.Statuses.{code, is_result}
+use Rattle.command_endings.specs.Statuses.{code, is_result}
 use Rattle.workbench.specs.WrittenChecks.{HasWritten, AsksCheck, ChecksAs, WrittenChecksAsAccepted, StoppedChecksAsUnfinished}
 use Rattle.workbench.proofs.Agreement.{written_accepted, stopped_unfinished}
 use Rattle.workbench.proofs.GeneralOutcomes.{general_outcomes, within_reduces, short_stops}
@@ -32,7 +32,7 @@ use Rattle.workbench.proofs.Outcomes.{numbered, result_of, pure_outcomes, matchi
 -- WHAT STANDS ON `out`
 
 -- what is known of a told text and of what was appended to nothing
-whole : (P : List ℕ → List ℕ → Type 0) (told before after : Option (List ℕ)) (text written appended : List ℕ) → told ≡ Some text → before ≡ Some [] → after ≡ Some written → IfSome told (λ bytes. P bytes appended) → Appends before after appended → P text written
+pub whole : (P : List ℕ → List ℕ → Type 0) (told before after : Option (List ℕ)) (text written appended : List ℕ) → told ≡ Some text → before ≡ Some [] → after ≡ Some written → IfSome told (λ bytes. P bytes appended) → Appends before after appended → P text written
 whole P told before after text written appended is empty all h taken =
     let known : P text appended = subst (λ (o : Option (List ℕ)). IfSome o (λ bytes. P bytes appended)) is h in
     let same : written ≡ appended = subst (λ (o : Option (List ℕ)). Appends (Some []) o appended) all (subst (λ (o : Option (List ℕ)). Appends o after appended) empty taken) in
@@ -63,19 +63,19 @@ has_stopped options text written h =
 -- WHAT THE CHECK COMES TO
 
 -- a verdict is told by the status of a result
-told_by : (v : Verdict) → IsTrue (is_result (numbered (code (verdict_status v))))
+pub told_by : (v : Verdict) → IsTrue (is_result (numbered (code (verdict_status v))))
 told_by verdict.Accepted = refl
 told_by (verdict.Unfinished learned) = refl
 told_by (verdict.No why) = refl
 
 -- and inputs that are read decide it
-decided_by : (request : Request) (told : Told) (v : Verdict) → HasValues request told (verdict_status v) → IsDecidedFor request told (verdict_status v)
+pub decided_by : (request : Request) (told : Told) (v : Verdict) → HasValues request told (verdict_status v) → IsDecidedFor request told (verdict_status v)
 decided_by request told verdict.Accepted h = h
 decided_by request told (verdict.Unfinished learned) h = h
 decided_by request told (verdict.No why) h = h
 
 -- where the verdict on the two texts is known
-checks_as : (text written : List ℕ) (F : Cnf) (d : Document) (v : Verdict) → Spells text F → IsTextOf written d → verdict_of F d ≡ v → (words : List Word) (shelf : Shelved) (out say : Sunk) → AsksCheck words shelf.told text written
+pub checks_as : (text written : List ℕ) (F : Cnf) (d : Document) (v : Verdict) → Spells text F → IsTextOf written d → verdict_of F d ≡ v → (words : List Word) (shelf : Shelved) (out say : Sunk) → AsksCheck words shelf.told text written
     → ChecksAs words shelf out say v
 checks_as text written F d v spells is known words shelf out say a = record {
   decided = subst (λ (o : Option Request). IsDecided o shelf.told (verdict_status v)) (sym a.asks)

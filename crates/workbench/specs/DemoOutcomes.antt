@@ -5,8 +5,8 @@ use Rattle.lk_model.specs.Texts.Lines.{Word}
 use Rattle.lk_model.specs.Texts.NumberWords.{natural}
 use Rattle.lk_model.specs.Reduction.{IsUnfinishedText}
 use Rattle.demo_formula.specs.Demo.{demo_formula}
-use Rattle.workbench.specs.Commands.GeneralReducing.{conflicts_line}
-use Rattle.workbench.specs.Commands.Demonstrating.{WritesDemo, conflicts}
+use Rattle.command_endings.specs.Commands.GeneralReducing.{conflicts_line}
+use Rattle.command_endings.specs.Commands.Demonstrating.{WritesDemo, conflicts}
 use Rattle.workbench.specs.Endings.{Shelved, Sunk, Takes, Ends}
 
 -- With status 0 the six lines stand on `out`, and nothing was said; with 5 the text of an unfinished document of the formula

@@ -5,13 +5,13 @@ use Rattle.std.specs.Io.KnownBytes.{Appends}
 use Rattle.lk_model.specs.Texts.Lines.{Word}
 use Rattle.lk_outside.specs.Causes.{Rose}
 use Rattle.command_words.specs.Shapes.{inputs_of}
-use Rattle.workbench.specs.Commands.{Answers, Decides}
+use Rattle.command_endings.specs.Commands.{Answers, Decides}
 use Rattle.command_inputs.specs.Inputs.{nothing_known, Told, Values, AreRead, AreTold, IsFirstBad, HasBad, StopsOn, IsAilingOn}
 use Rattle.command_words.specs.Lawful.{Request, request_of, IsRefusedAt}
-use Rattle.workbench.specs.Statuses.{code, is_result}
-use Rattle.workbench.specs.StopLines.{line_of}
-use Rattle.workbench.specs.declared.status.Status.{Status}
-use Rattle.workbench.specs.declared.status.Status.TheVariants as status
+use Rattle.command_endings.specs.Statuses.{code, is_result}
+use Rattle.command_endings.specs.StopLines.{Tells}
+use Rattle.command_endings.specs.declared.status.Status.{Status}
+use Rattle.command_endings.specs.declared.status.Status.TheVariants as status
 use Rattle.command_inputs.specs.declared.stop.Stop.{Stop}
 use Rattle.command_inputs.specs.declared.stop.Stop.TheVariants as stop
 
@@ -61,10 +61,6 @@ abbrev pub IsWell : Status → Option Request → Bool → Type 0
 IsWell status.ReadFault o ailing = ⊤
 IsWell status.Memory o ailing = ⊤
 IsWell answer o ailing = IsTrue ailing → ReadsNothing o
-
--- nothing is written, and the line of the stop is said
-abbrev pub Tells : Stop → List ℕ → List ℕ → Type 0
-Tells s written said = (written ≡ []) × (said ≡ line_of s)
 
 -- With this status the one text may be written and the other said: the refused word, the refusal of an input, a failed read,
 -- or want of memory; or else what the command answers.

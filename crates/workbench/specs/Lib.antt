@@ -1,8 +1,3 @@
-pub mod Statuses
-pub mod Commands
-pub mod Counting
-pub mod LinearStops
-pub mod Listing
 pub mod Endings
 pub mod Agreement
 pub mod Outcomes
@@ -10,8 +5,10 @@ pub mod StopOutcomes
 pub mod LinearOutcomes
 pub mod GeneralOutcomes
 pub mod DemoOutcomes
+pub mod SolveOutcomes
+pub mod VerifyOutcomes
 pub mod KeptClauses
 pub mod WrittenChecks
+pub mod WrittenAnswers
 pub mod QuietEndings
-pub mod StopLines
 pub mod Performing

@@ -19,14 +19,14 @@ use Rattle.lk_model.specs.declared.document.DoneDocument.{DoneDocument}
 use Rattle.lk_model.specs.declared.document.OpenDocument.{OpenDocument}
 use Rattle.lk_model.specs.declared.verdict.Why.{Why}
 use Rattle.lk_model.specs.Documents.Reading.{IsTextOf}
-use Rattle.workbench.specs.Commands.Extending.{IsExtended, extension, model_line, failure_line, open_line}
-use Rattle.workbench.specs.Commands.Reporting.{WritesReport}
+use Rattle.command_endings.specs.Commands.Extending.{IsExtended, extension, model_line, failure_line, open_line}
+use Rattle.command_endings.specs.Commands.Reporting.{WritesReport}
 use Rattle.workbench.specs.Endings.{Shelved, Sunk, Takes, Ends, IsDecided}
 use Rattle.command_words.specs.Lawful.{request_of}
 use Rattle.command_words.specs.Settings.{Options}
 use Rattle.command_words.specs.declared.command.Command.{Command}
 use Rattle.command_words.specs.declared.command.Command.TheVariants.{Check, Extend, Report}
-use Rattle.workbench.specs.declared.status.Status.TheVariants.{Done, Input, Budget, Refused}
+use Rattle.command_endings.specs.declared.status.Status.TheVariants.{Done, Input, Budget, Refused}
 
 -- the words ask for the command over these inputs, with these options
 abbrev pub AskFor : List Word → Command → List Word → Options → Type 0

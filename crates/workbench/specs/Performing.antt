@@ -3,21 +3,12 @@ use Rattle.std.specs.Prelude.{◌≡◌, ◌⊎◌, [], IfOk, IfErr, IsErrAnd, I
 use Rattle.std.specs.declared.result.Result.{Result}
 use Rattle.lk_outside.specs.Causes.{HasCause}
 use Rattle.command_words.specs.Lawful.{Request}
-use Rattle.command_words.specs.Settings.{Options}
 use Rattle.command_words.specs.Shapes.{inputs_of}
-use Rattle.command_words.specs.declared.command.Command.{Command}
-use Rattle.command_inputs.specs.Inputs.{Values, nothing_known, StopsOn, IsFailure}
+use Rattle.command_inputs.specs.Inputs.{nothing_known, StopsOn, IsFailure}
 use Rattle.command_inputs.specs.declared.stop.Stop.{Stop}
 use Rattle.command_inputs.specs.declared.stop.Stop.TheVariants.{Read}
-use Rattle.workbench.specs.Commands.{Answers}
 use Rattle.workbench.specs.Endings.{Shelved, HasResult}
-use Rattle.workbench.specs.Statuses.{is_result}
-use Rattle.workbench.specs.declared.ending.Ending.{Ending}
-
--- with these options the command may answer these inputs so
-pub record IsAnswer (command : Command) (options : Options) (values : Values (inputs_of command)) (e : Ending) : Type 0 where
-  pub result : IsTrue (is_result e.status)
-  pub answers : Answers command options values e.status e.written.items e.said.items
+use Rattle.command_endings.specs.declared.ending.Ending.{Ending}
 
 -- It ends as the command may answer what is read; or as its inputs are read, with the first that is bad or with a failed call,
 -- of which the shelf's count tells, or there was no memory. Where an input is read, the shelf is ailing only then.

@@ -4,9 +4,11 @@ use Rattle.std.specs.List.{list_any}
 use Rattle.lk_model.specs.Texts.Lines.{Word}
 use Rattle.workbench.specs.Endings.{Shelved, Sunk, Ends}
 
--- With status 0 nothing is said. With 1, 2, 3, 6, 7 and 9 nothing is written.
+-- With status 0, 10 and 20 nothing is said. With 1, 2, 3, 6, 7 and 9 nothing is written.
 pub record QuietMeans (words : List Word) (shelf : Shelved) (out say : Sunk) : Type 0 where
   pub done : (e : Ends words shelf out say 0) → e.said ≡ []
+  pub satisfiable : (e : Ends words shelf out say 10) → e.said ≡ []
+  pub unsatisfiable : (e : Ends words shelf out say 20) → e.said ≡ []
   pub failed : (answer : ℕ) → IsTrue (list_any (nat_eq answer) (1 ∷ 2 ∷ 3 ∷ 6 ∷ 7 ∷ 9 ∷ [])) → (e : Ends words shelf out say answer) → e.written ≡ []
 
 abbrev pub QuietOutcomes : Type 0

@@ -7,13 +7,13 @@ use Rattle.lk_model.specs.declared.class.Class.TheVariants.{Pure, Matching, Line
 use Rattle.lean_checker.specs.Verdicts.{verdict_words}
 use Rattle.lean_checker.specs.declared.verdict.Verdict.{Verdict}
 use Rattle.lean_checker.specs.declared.verdict.Verdict.TheVariants.{Accepted, Unfinished}
-use Rattle.workbench.specs.Commands.Checking.{verdict_status}
+use Rattle.command_endings.specs.Commands.Checking.{verdict_status}
 use Rattle.workbench.specs.Endings.{Shelved, Sunk, Takes, Ends, IsDecided}
 use Rattle.command_inputs.specs.Inputs.{Told}
 use Rattle.command_words.specs.Lawful.{request_of}
 use Rattle.workbench.specs.Outcomes.{AskFor}
 use Rattle.command_words.specs.Settings.{Options}
-use Rattle.workbench.specs.Statuses.{code}
+use Rattle.command_endings.specs.Statuses.{code}
 use Rattle.command_words.specs.declared.command.Command.{Command}
 use Rattle.command_words.specs.declared.command.Command.TheVariants.{ReducePure, ReduceMatching, ReduceLinear, ReduceGeneral, Check}
 
@@ -24,19 +24,23 @@ reducing Matching = ReduceMatching
 reducing Linear = ReduceLinear
 reducing General = ReduceGeneral
 
--- Some run of `reduce` for the class, with these options, ended with this answer: it read the one text, which was told, and
+-- Some run of a command over one input, with these options, ended with this answer: it read the one text, which was told, and
 -- the other is all that stands on its `out`.
-pub record HasWritten (class : Class) (options : Options) (text : List ℕ) (answer : ℕ) (written : List ℕ) : Type 0 where
+pub record HasWrittenBy (command : Command) (options : Options) (text : List ℕ) (answer : ℕ) (written : List ℕ) : Type 0 where
   pub words : List Word
   pub shelf : Shelved
   pub out : Sunk
   pub say : Sunk
   pub name : Word
-  pub asks : AskFor words (reducing class) (name ∷ []) options
+  pub asks : AskFor words command (name ∷ []) options
   pub text_is : shelf.told name ≡ Some text
   pub ends : Ends words shelf out say answer
   pub empty : out.before ≡ Some []
   pub written_is : out.after ≡ Some written
+
+-- so did `reduce` for the class
+abbrev pub HasWritten : Class → Options → List ℕ → ℕ → List ℕ → Type 0
+HasWritten class = HasWrittenBy (reducing class)
 
 -- the words ask for a check of the one text as a formula, and of the other as a document
 pub record AsksCheck (words : List Word) (told : Told) (text written : List ℕ) : Type 0 where

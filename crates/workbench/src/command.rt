@@ -6,13 +6,14 @@ ghost use Rattle.workbench.specs.Endings.{shelved};
 ghost use Rattle.workbench.specs.Performing.{Performs};
 
 mod check;
-mod demo;
 mod extend;
 mod reduce;
 mod reduce_general;
 mod report;
+mod solve;
+mod verify;
 
-use crate::ending::Ending;
+use command_endings::{Ending, demo};
 use command_inputs::Stop;
 use command_words::{Command, Request};
 use lk_outside::{Gate, Shelf};
@@ -48,5 +49,7 @@ pub(crate) fn perform<R: Threads + Sync, H: Shelf, G: Gate>(
         Command::Extend => extend::perform(alloc, shelf, names, options),
         Command::Report => report::perform(alloc, shelf, names, options),
         Command::Demo => Ok(demo::answer(rt, alloc, gate, options.number)?),
+        Command::Solve => solve::perform(rt, alloc, gate, shelf, names, options),
+        Command::Verify => verify::perform(alloc, shelf, names, options),
     }
 }

@@ -9,6 +9,9 @@ ghost use Rattle.workbench.specs.LinearOutcomes.{LinearOutcomes};
 ghost use Rattle.workbench.specs.QuietEndings.{QuietOutcomes};
 ghost use Rattle.workbench.specs.StopOutcomes.{StopOutcomes};
 ghost use Rattle.workbench.specs.Outcomes.{ReduceOutcomes, CheckOutcomes, ExtendOutcomes, ReportOutcomes};
+ghost use Rattle.workbench.specs.SolveOutcomes.{SolveOutcomes};
+ghost use Rattle.workbench.specs.VerifyOutcomes.{VerifyOutcomes};
+ghost use Rattle.workbench.specs.WrittenAnswers.{SolvedIsVerified, WrittenVerifiesAsAccepted, UnsolvedChecksAsUnfinished};
 ghost use Rattle.workbench.specs.WrittenChecks.{WrittenChecksAsAccepted, StoppedChecksAsUnfinished};
 
 /// Of `reduce`: with status 0 the document of a reduction for the class stands on `out`. For pure and matching
@@ -47,7 +50,7 @@ pub fn stop_law()
     ensures { StopOutcomes }
 {}
 
-/// With status 0 the text for `say` is empty, and with 1, 2, 3, 6, 7 and 9 that for `out`; so by `quiet` of `run` that
+/// With status 0, 10 and 20 the text for `say` is empty, and with 1, 2, 3, 6, 7 and 9 that for `out`; so by `quiet` of `run` that
 /// sink is as it was.
 pub fn quiet_law()
     ensures { QuietOutcomes }
@@ -67,6 +70,28 @@ pub fn written_law()
     ensures budget { StoppedIsUnfinished }
     ensures accepted { WrittenChecksAsAccepted }
     ensures unfinished { StoppedChecksAsUnfinished }
+{}
+
+/// Of `solve`: with status 10 a model of the formula stands on `out`, and with 20 a refutation of it, which uses clauses of the
+/// general kernel alone; with 5 an unfinished document. With a budget of 3^n for n variables a text of a formula decides
+/// between 10 and 20. Each other text is refused, unless a call or memory fails.
+pub fn solve_law()
+    ensures { SolveOutcomes }
+{}
+
+/// Of `verify`: with status 0 no check of the answer fails, and so its literals satisfy the formula, or this has no model; with 8
+/// a check of it fails. Told texts decide between these and 2, unless a call or memory fails.
+pub fn verify_law()
+    ensures { VerifyOutcomes }
+{}
+
+/// What `solve` writes of a text with status 10 or 20 is an answer for that text of which no check fails, and of what it writes
+/// with 5 no check fails either. So where the one text is told and the other as well, `verify` of the two is decided: status 0
+/// and `accepted`; and `check` of the two: 5, and `unfinished` with the number of learned clauses.
+pub fn solved_law()
+    ensures texts { SolvedIsVerified }
+    ensures accepted { WrittenVerifiesAsAccepted }
+    ensures unfinished { UnsolvedChecksAsUnfinished }
 {}
 
 /// What is kept of a text is a function of the text, the class and the list of protected variables: two documents that are

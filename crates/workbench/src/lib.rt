@@ -2,18 +2,12 @@
 #![tactic(auto)]
 
 mod command;
-mod counts;
-mod ending;
 mod laws;
-mod lines;
 mod output;
 mod program;
-mod protect;
-mod rows;
-mod status;
 
 pub use laws::{
-    check_law, demo_law, extend_law, kept_law, quiet_law, reduce_law, report_law, stop_law,
-    written_law,
+    check_law, demo_law, extend_law, kept_law, quiet_law, reduce_law, report_law, solve_law,
+    solved_law, stop_law, verify_law, written_law,
 };
 pub use program::run;

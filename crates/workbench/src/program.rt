@@ -2,16 +2,15 @@
 ghost use Rattle.std.specs.Prelude.{◌≡◌, ◌≢◌, ◌⊎◌, [], map, IsTrue, IfOk, IfErr, IsErrAnd};
 ghost use Rattle.lk_outside.specs.Causes.{HasCause, Rose};
 ghost use Rattle.command_words.specs.Lawful.{request_of};
-ghost use Rattle.workbench.specs.Statuses.{code};
-ghost use Rattle.workbench.specs.declared.status.Status.{Status as AnyStatus};
+ghost use Rattle.command_endings.specs.Statuses.{code};
+ghost use Rattle.command_endings.specs.declared.status.Status.{Status as AnyStatus};
 ghost use Rattle.workbench.specs.Endings.{shelved, sunk, Allows, IsResult, Ends, IsCutOff, IsDecided, IsUnlessFailed, StopsAt, IsWell, ReadsNothing, TakesBoth, IsCutIn, EndsQuietly};
 ghost use Rattle.command_inputs.specs.Inputs.{IsFailure};
 
 use crate::command;
-use crate::ending::{Ending, ending_of};
 use crate::output::write_both;
-use crate::status::Status;
 use cert_text::text_law;
+use command_endings::{Ending, Status, ending_of};
 use command_inputs::Stop;
 use command_words::request_of;
 use lk_model::OutOfMemory;
@@ -20,8 +19,8 @@ use std::alloc::Global;
 use std::thread::Threads;
 
 /// Does what the command line asks for, and answers the status with which the program ends. Where the bytes of an
-/// input are visible to contracts (`told`), they are those that this speaks of; else what is said of 0, 5, 6, 7 and 8
-/// holds of some formula, document or model, and of 2 nothing is said.
+/// input are visible to contracts (`told`), they are those that this speaks of; else what is said of 0, 5, 6, 7, 8, 10
+/// and 20 holds of some formula, document, model or answer, and of 2 nothing is said.
 ///
 /// - 0: the result stands on `out`, and `say` has nothing. Of `reduce`, the text that was read spells a formula F,
 ///   and `out` has a document with kept clauses K and an assignment φ. K is the largest subset of F that is lean for
@@ -29,6 +28,7 @@ use std::thread::Threads;
 ///   exactly the clauses of F outside K; a model of K, overridden by φ, is one of F; the checks accept the document.
 ///   Of `check` the document is accepted, and so all this holds of it, whoever made it. Of `extend` it is the line of
 ///   a model of the formula; of `report` nine numbers of the formula; of `demo` six lines on the formula of a number.
+///   Of `verify` the answer is accepted: its literals satisfy the formula, or this has no model.
 /// - 1: the command line is not valid. `say` has the number of the refused word.
 /// - 2: an input is outside its grammar, and those before it are within theirs. `say` has the line of its first
 ///   fault, and of a formula the kind.
@@ -36,13 +36,16 @@ use std::thread::Threads;
 /// - 4: a call on `out` or `say` failed: its count of faults rose, and it took a proper prefix of its text. If it was
 ///   `out`, `say` is as it was.
 /// - 5: the document that was read is unfinished: of `check` no check of it fails, and `out` has how many clauses it
-///   learned; of `extend` `say` has this. Or `reduce general` or `demo` used up its budget: `out` has a sound
+///   learned; of `extend` `say` has this. Or `reduce general`, `solve` or `demo` used up its budget: `out` has a sound
 ///   unfinished document of as many learned clauses as were allowed, and `say` their number. Or `reduce linear`
 ///   needs more pivots than it may make, and `say` has how many it may make.
 /// - 6: a number of the linear run is too wide. `say` has its operands, and the number of pivots before.
 /// - 7: the rows of the linear run are too large. `say` has the numbers of variables and clauses.
 /// - 8: a check fails. `out` has the kind and the place of the first one, and of `extend` `say`.
 /// - 9: out of memory. `say` has this, and `out` nothing.
+/// - 10: of `solve`: `out` has a model of the formula that was read, a literal on each variable. `say` has nothing.
+/// - 20: of `solve`: the formula that was read has no model, and `out` has a refutation of it. The clauses that this uses
+///   are in the general kernel. `say` has nothing.
 ///
 /// If the command line and the inputs decide a status, it is that one, or 3 or 4 where a count of faults rose, or 9.
 /// If the command line is not valid, or names no input, the shelf is as it was. A sink whose text is empty is as it

@@ -7,8 +7,8 @@ use Rattle.command_words.proofs.Texts.{text_at}
 use Rattle.command_inputs.specs.Inputs.{nothing_known, known_of}
 use Rattle.command_inputs.proofs.ModelReads.{stops_before, stops_behind, model_behind}
 use Rattle.command_inputs.proofs.Streams.{Cause-then}
-use Rattle.workbench.specs.Commands.Extending.{outcome_of, Tells}
-use Rattle.workbench.proofs.Extensions.{outcome_result}
+use Rattle.command_endings.specs.Commands.Extending.{outcome_of, Tells}
+use Rattle.command_endings.proofs.Extensions.{outcome_result}
 use Rattle.workbench.proofs.Names.{three_names}
 use Rattle.workbench.proofs.Performing.{stopped, no_memory, performed}
 use Rattle.workbench.proofs.command.extend.perform.Goals as goal
@@ -35,9 +35,9 @@ returns-in_err-model g c =
     c.in_err-model.field-0.0 read.told read.read stop.stop stop.current))
     (Cause-then _ _ _ read.cause stop.cause) stop.well)
 
-pub returns-in_err-told : goal.returns-in_err-told
-returns-in_err-told g c =
-    let p = err_from_is_err_and c.from_residual-in_err-told.result c.from_residual-in_err-told.ensures.1 in
+pub returns-in_err-answer : goal.returns-in_err-answer
+returns-in_err-answer g c =
+    let p = err_from_is_err_and c.from_residual-in_err-answer.result c.from_residual-in_err-answer.ensures.1 in
     rw (p.1, p.2) (no_memory _ _ (Cause-then _ _ _ c.in_ok-read.ensures.cause c.in_ok-model.ensures.cause))
 
 pub returns : goal.returns
@@ -46,11 +46,11 @@ returns g c =
     let names = c.args.names.now in
     let F = c.in_ok-read.read.formula in
     let d = c.in_ok-read.read.document in
-    let e = c.in_ok-told.field-0 in
+    let e = c.in_ok-answer.field-0 in
     let read = c.in_ok-read.ensures in
     let model = c.in_ok-model.ensures in
     let m = model_behind (shelf.told c.args.shelf.now) (shelf.told c.read_checked.new.shelf) (text_at names 2) (known_of F) c.in_ok-model.model read.told model.model in
     performed _ _ (F, (d, (m.literals, tt))) e (rw (three_names names c.requires.names) (read.read.0, (read.read.1.0, (m.text, tt)))) (record {
-      result = outcome_result (outcome_of F d (assignment_by c.in_ok-model.model)) e.status c.in_ok-told.ensures.status_is;
-      answers = subst (λ (φ : Assignment). Tells F d φ e.status e.written.items e.said.items) m.values_are c.in_ok-told.ensures;
+      result = outcome_result (outcome_of F d (assignment_by c.in_ok-model.model)) e.status c.in_ok-answer.ensures.status_is;
+      answers = subst (λ (φ : Assignment). Tells F d φ e.status e.written.items e.said.items) m.values_are c.in_ok-answer.ensures;
     }) (Cause-then _ _ _ read.cause model.cause) model.well

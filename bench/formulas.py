@@ -1,0 +1,167 @@
+"""Drawers of formulas for the programs of this folder. Each answers the number of variables and the clauses; what is
+drawn is drawn with the generator that it is given."""
+
+
+def write(out, variables, clauses):
+    """Writes a formula as DIMACS, a clause on each line."""
+    out.write(f"p cnf {variables} {len(clauses)}\n")
+    for clause in clauses:
+        out.write(" ".join(map(str, [*clause, 0])) + "\n")
+
+
+def drawn_clause(draw, variables, width):
+    """A clause on so many variables out of these, of which each sign is drawn."""
+    return [v if draw.random() < 0.5 else -v for v in draw.sample(variables, width)]
+
+
+def random_three(draw, variables, clauses_each=4.26):
+    """Clauses of three literals, so many for each variable."""
+    names = range(1, variables + 1)
+    return variables, [drawn_clause(draw, names, 3) for _ in range(int(clauses_each * variables))]
+
+
+def planted_three(draw, variables, clauses_each=4.26):
+    """The same of which each clause holds a literal that a drawn model makes true."""
+    model = {v if draw.random() < 0.5 else -v for v in range(1, variables + 1)}
+    clauses = []
+    while len(clauses) < int(clauses_each * variables):
+        clause = drawn_clause(draw, range(1, variables + 1), 3)
+        if not model.isdisjoint(clause):
+            clauses.append(clause)
+    return variables, clauses
+
+
+def pigeons(holes, number=None):
+    """One pigeon more than there are holes, or this number of them."""
+    number = holes + 1 if number is None else number
+    place = lambda pigeon, hole: holes * pigeon + hole + 1
+    clauses = [[place(p, h) for h in range(holes)] for p in range(number)]
+    for hole in range(holes):
+        for one in range(number):
+            clauses += [[-place(other, hole), -place(one, hole)] for other in range(one)]
+    return holes * number, clauses
+
+
+def parity(draw, variables, more=5):
+    """Sums of three variables each, drawn, and so many more sums than variables: with more of them, their parities can
+    hardly all hold."""
+    clauses = []
+    for _ in range(variables + more):
+        chosen = draw.sample(range(1, variables + 1), 3)
+        odd = draw.randrange(2)
+        for bits in range(8):
+            if bin(bits).count("1") % 2 != odd:
+                clauses.append([-v if bits >> i & 1 else v for i, v in enumerate(chosen)])
+    return variables, clauses
+
+
+def pebbles(rows):
+    """A pyramid of stones that are black or white, of which the top one is neither."""
+    stone = lambda row, place, colour: row * (row + 1) + 2 * place + colour + 1
+    colours = lambda row, place: [stone(row, place, 0), stone(row, place, 1)]
+    clauses = [colours(rows - 1, place) for place in range(rows)]
+    for row in range(rows - 1):
+        for place in range(row + 1):
+            for left in colours(row + 1, place):
+                for right in colours(row + 1, place + 1):
+                    clauses.append(colours(row, place) + [-left, -right])
+    clauses += [[-top] for top in colours(0, 0)]
+    return rows * (rows + 1), clauses
+
+
+def counter(bits, steps):
+    """A counter from 0 that may count or wait at each step, and shall stand one past the steps in the end."""
+    names, clauses = {}, []
+    var = lambda *name: names.setdefault(name, len(names) + 1)
+    for i in range(bits):
+        clauses.append([-var(0, i)])
+        clauses.append([var(steps, i) if steps + 1 >> i & 1 else -var(steps, i)])
+    for time in range(steps):
+        carry = var(time, "count")
+        for i in range(bits):
+            old, new = var(time, i), var(time + 1, i)
+            clauses += [[-new, old, carry], [-new, -old, -carry], [new, -old, carry], [new, old, -carry]]
+            if i + 1 < bits:
+                further = var(time, i, "carry")
+                clauses += [[-further, old], [-further, carry], [further, -old, -carry]]
+                carry = further
+    return len(names), clauses
+
+
+def sum_clauses(z, x, y):
+    """z is the sum of x and y modulo two."""
+    return [[-z, x, y], [-z, -x, -y], [z, -x, y], [z, x, -y]]
+
+
+def product_clauses(z, x, y):
+    """z is true where x and y are."""
+    return [[-z, x], [-z, y], [z, -x, -y]]
+
+
+def carry_clauses(z, x, y, w):
+    """z is true where two of the others are."""
+    return [clause for a, b in ((x, y), (x, w), (y, w)) for clause in ([-z, a, b], [z, -a, -b])]
+
+
+def machine(draw, registers, steps):
+    """A drawn machine of which half the registers are given in the end. In a step each becomes the sum of one with
+    the product of two."""
+    wiring = [draw.sample(range(registers), 3) for _ in range(registers)]
+    state, count, clauses = list(range(1, registers + 1)), registers, []
+    for _ in range(steps):
+        following = []
+        for a, b, c in ([state[k] for k in places] for places in wiring):
+            product, total = count + 1, count + 2
+            count += 2
+            clauses += product_clauses(product, b, -c if draw.random() < 0.5 else c) + sum_clauses(total, a, product)
+            following.append(total)
+        state = following
+    clauses += [[v if draw.random() < 0.5 else -v] for v in state[: registers // 2]]
+    return count, clauses
+
+
+def adders(bits):
+    """(a + b) + c and a + (b + c), which shall differ in a bit."""
+    names, clauses = [], []
+
+    def fresh():
+        names.append(len(names) + 1)
+        return names[-1]
+
+    def added(x, y):
+        totals, carry = [], None
+        for p, q in zip(x, y):
+            half, following = fresh(), fresh()
+            clauses.extend(sum_clauses(half, p, q))
+            if carry is None:
+                totals.append(half)
+                clauses.extend(product_clauses(following, p, q))
+            else:
+                totals.append(fresh())
+                clauses.extend(sum_clauses(totals[-1], half, carry) + carry_clauses(following, p, q, carry))
+            carry = following
+        return totals
+
+    a, b, c = ([fresh() for _ in range(bits)] for _ in range(3))
+    differences = []
+    for p, q in zip(added(added(a, b), c), added(a, added(b, c))):
+        differences.append(fresh())
+        clauses.extend(sum_clauses(differences[-1], p, q))
+    return len(names), clauses + [differences]
+
+
+def side_by_side(parts):
+    """Formulas that share no variable, as one."""
+    variables, clauses = 0, []
+    for count, part in parts:
+        clauses += [[l + variables if l > 0 else l - variables for l in clause] for clause in part]
+        variables += count
+    return variables, clauses
+
+
+def shuffled(draw, variables, clauses):
+    """The same formula with its variables renamed and its clauses in another order."""
+    names = draw.sample(range(1, variables + 1), variables)
+    renamed = [[names[l - 1] if l > 0 else -names[-l - 1] for l in clause] for clause in clauses]
+    draw.shuffle(renamed)
+    return variables, renamed

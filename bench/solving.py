@@ -1,0 +1,269 @@
+#!/usr/bin/env python3
+"""Measures `solve` beside minisat and cadical, and `verify` beside reading what it reads.
+
+    bench/solving.py LEANK [GROUP] [KIND ...]
+
+LEANK is the built program (crates/leank/out holds it after `bin/leank` ran once). GROUP is `families`, `tools` or `parts`;
+without it all three are measured. Needs python3 and Debian's packages minisat and cadical; `tools` needs cbmc and yosys
+too. Prints rows of tables. Each figure is the least of three runs, by turns, or of one run that takes over 20 seconds; a
+run ends after 100 seconds of the processor, and `solve` may learn as many clauses as it wants. Seconds are those of the
+processor; in `parts`, where two workers are at work, those of the clock.
+
+`reading` is `verify` of the same answer without its last byte: it reads the formula and the whole answer, and refuses the
+last line. The judge of answers.py goes through each answer of at most 100 MB. Nothing fails by time.
+"""
+import multiprocessing
+import os
+import random
+import resource
+import subprocess
+import sys
+import tempfile
+import time
+from collections import namedtuple
+
+import answers
+import tool_formulas
+from formulas import (adders, counter, machine, parity, pebbles, pigeons, planted_three, random_three, shuffled,
+                      side_by_side, write)
+
+SEED = 1
+RUNS = 3
+MOST_SECONDS = 100
+LONG_SECONDS = 20
+MOST_BYTES = 10 << 30
+JUDGED_BYTES = 100 << 20
+BUDGET = str(2**63 - 1)
+
+FAMILIES = {
+    "random, 100 variables": lambda draw: random_three(draw, 100),
+    "random, 150 variables": lambda draw: random_three(draw, 150),
+    "random, 200 variables": lambda draw: random_three(draw, 200),
+    "random, 250 variables": lambda draw: random_three(draw, 250),
+    "random, 400 variables, 3.6 clauses for each": lambda draw: random_three(draw, 400, 3.6),
+    "pigeons, 7 holes": lambda draw: pigeons(7),
+    "pigeons, 8 holes": lambda draw: pigeons(8),
+    "pigeons, 9 holes": lambda draw: pigeons(9),
+    "parity, 40 variables": lambda draw: parity(draw, 40),
+    "parity, 60 variables": lambda draw: parity(draw, 60),
+    "parity, 300 variables": lambda draw: parity(draw, 300),
+    "pebbles, 60 rows": lambda draw: pebbles(60),
+    "machine, 30 registers over 15 steps": lambda draw: machine(draw, 30, 15),
+    "machine, 64 registers over 36 steps": lambda draw: machine(draw, 64, 36),
+    "adders, 10 bits": lambda draw: adders(10),
+    "adders, 20 bits": lambda draw: adders(20),
+    "adders, 40 bits": lambda draw: adders(40),
+    "counter, 8 bits over 40 steps": lambda draw: counter(8, 40),
+    "counter, 10 bits over 100 steps": lambda draw: counter(10, 100),
+    "counter, 12 bits over 200 steps": lambda draw: counter(12, 200),
+}
+
+
+def square(draw):
+    """The four clauses over two variables but one."""
+    return 2, draw.sample([[1, 2], [1, -2], [-1, 2], [-1, -2]], 3)
+
+
+def many(draw, number, part, last=None):
+    """So many drawn parts, and perhaps a last one, with their variables and clauses among one another."""
+    return shuffled(draw, *side_by_side([part(draw) for _ in range(number)] + ([last] if last else [])))
+
+
+small = lambda draw: planted_three(draw, 30)
+
+PARTS = {
+    "2 parts, random with a model": lambda draw: side_by_side([planted_three(draw, 200)] * 2),
+    "2 parts, random without": lambda draw: side_by_side([random_three(draw, 150, 4.6)] * 2),
+    "2 parts, pigeons in 7 holes": lambda draw: side_by_side([pigeons(7)] * 2),
+    "16 parts, random with a model": lambda draw: side_by_side([planted_three(draw, 150) for _ in range(16)]),
+    "3,000 parts, random with a model": lambda draw: many(draw, 3000, small),
+    "the same, and one of 6 pigeons": lambda draw: many(draw, 3000, small, pigeons(5)),
+    "100,000 parts that matching removes": lambda draw: many(draw, 100000, square),
+}
+
+Run = namedtuple("Run", "clock processor status")
+
+
+def limited():
+    resource.setrlimit(resource.RLIMIT_CPU, (MOST_SECONDS, MOST_SECONDS + 5))
+    resource.setrlimit(resource.RLIMIT_AS, (MOST_BYTES, MOST_BYTES))
+
+
+def measured(words, output):
+    """Seconds of a command, and its status, which is below 0 if it was stopped."""
+    begin = time.monotonic()
+    with open(output, "w") as out:
+        process = subprocess.Popen(words, stdout=out, stderr=subprocess.DEVNULL, preexec_fn=limited)
+        _, status, usage = os.wait4(process.pid, 0)
+    process.returncode = os.waitstatus_to_exitcode(status)
+    return Run(time.monotonic() - begin, usage.ru_utime + usage.ru_stime, process.returncode)
+
+
+def by_turns(commands):
+    """The least seconds of each of the commands, a name with words and an output."""
+    least = {}
+    for turn in range(RUNS):
+        for name, (words, output) in commands.items():
+            if turn > 0 and least[name].processor > LONG_SECONDS:
+                continue
+            run = measured(words, output)
+            before = least.get(name, run)
+            least[name] = Run(min(before.clock, run.clock), min(before.processor, run.processor), run.status)
+    return least
+
+
+def write_drawn(group, kind, file):
+    """Writes a formula into a file."""
+    with open(file, "w") as out:
+        write(out, *group[kind](random.Random(SEED)))
+
+
+def write_apart(group, kind, file):
+    """The same, by a process of its own, so that this one stays small."""
+    writer = multiprocessing.get_context("fork").Process(target=write_drawn, args=(group, kind, file))
+    writer.start()
+    writer.join()
+
+
+def header_of(file):
+    """The numbers of variables and clauses that a formula states."""
+    with open(file) as lines:
+        words = next(line for line in lines if line.startswith("p")).split()
+    return int(words[2]), int(words[3])
+
+
+def shown(seconds, status):
+    """Seconds, or why there are none."""
+    if status in (10, 20):
+        return f"{seconds:.2f} s"
+    return {9: "no memory", 5: "budget"}.get(status, f"over {MOST_SECONDS} s")
+
+
+def ratio(ours, theirs):
+    """How many times theirs, where both came to an answer."""
+    if ours.status in (10, 20) and theirs.status in (10, 20):
+        return f" ({ours.processor / max(theirs.processor, 0.001):.1f})"
+    return ""
+
+
+def solver_words(leank, formula, answer, *options):
+    return {
+        "solve": ([leank, "solve", formula, "--conflicts", BUDGET, *options], answer),
+        "minisat": (["minisat", "-verb=0", formula], os.devnull),
+        "cadical": (["cadical", "-q", "-n", formula], os.devnull),
+    }
+
+
+def judge(kind, formula, answer):
+    """Ends the program where the judge, a process of its own, does not accept the answer."""
+    if os.path.getsize(answer) > JUDGED_BYTES:
+        return "not judged"
+    words = [sys.executable, answers.__file__, "judge", formula, answer]
+    verdict = subprocess.run(words, stdout=subprocess.PIPE, text=True, check=True).stdout
+    if verdict != "0\n":
+        sys.exit(f"{kind}: the answer is judged {verdict}")
+    return "judged"
+
+
+def same_status(kind, runs):
+    """Ends the program where two came to different answers."""
+    found = {run.status for run in runs.values() if run.status in (10, 20)}
+    if len(found) > 1:
+        sys.exit(f"{kind}: other answers: {runs}")
+
+
+def verify_row(leank, formula, answer):
+    """Seconds of `verify`, its ratio to reading, and how long the answer is."""
+    cut = answer + ".cut"
+    with open(cut, "wb") as out, open(answer, "rb") as text:
+        size = os.path.getsize(answer)
+        while (piece := text.read(min(1 << 20, size - 1 - out.tell()))):
+            out.write(piece)
+    runs = by_turns({
+        "verify": ([leank, "verify", formula, answer], os.devnull),
+        "reading": ([leank, "verify", formula, cut], os.devnull),
+    })
+    os.unlink(cut)
+    if (runs["verify"].status, runs["reading"].status) != (0, 2):
+        sys.exit(f"{formula}: verify {runs}")
+    verify, reading = runs["verify"].processor, runs["reading"].processor
+    return f"{verify:.2f} s | {reading:.2f} s ({verify / max(reading, 0.001):.2f}) | {size / 1e6:.2f} MB"
+
+
+def answer_row(leank, kind, formula, answer):
+    """Prints a row on a formula."""
+    runs = by_turns(solver_words(leank, formula, answer))
+    same_status(kind, runs)
+    solve = runs["solve"]
+    variables, clauses = header_of(formula)
+    name = {10: "a model", 20: "none"}
+    told = next((name[run.status] for run in runs.values() if run.status in name), "-")
+    columns = [kind, f"{variables:,} and {clauses:,}", told, shown(solve.processor, solve.status)]
+    columns += [shown(runs[other].processor, runs[other].status) + ratio(solve, runs[other]) for other in ("minisat", "cadical")]
+    if solve.status in name:
+        columns += [verify_row(leank, formula, answer), judge(kind, formula, answer)]
+    else:
+        columns += ["- | - | -", "-"]
+    print("| " + " | ".join(columns) + " |", flush=True)
+
+
+def print_head(*columns):
+    print("\n| " + " | ".join(columns) + " |")
+    print("|" + "---|" * len(columns))
+
+
+ANSWER_HEAD = ("formula", "variables and clauses", "model", "`solve`", "minisat (`solve` to it)", "cadical", "`verify`",
+               "reading (`verify` to it)", "answer", "judge")
+
+
+def families(leank, folder, kinds):
+    print_head(*ANSWER_HEAD)
+    for kind in kinds or FAMILIES:
+        formula = os.path.join(folder, "formula")
+        write_apart(FAMILIES, kind, formula)
+        answer_row(leank, kind, formula, os.path.join(folder, "answer"))
+
+
+def tools(leank, folder, kinds):
+    print_head(*ANSWER_HEAD)
+    for kind in kinds or tool_formulas.KINDS:
+        formula = os.path.join(folder, "tool")
+        if tool_formulas.written_by(kind, formula):
+            answer_row(leank, kind, formula, os.path.join(folder, "answer"))
+            os.unlink(formula)
+
+
+def parts(leank, folder, kinds):
+    """Prints seconds of the clock."""
+    print_head("formula", "variables and clauses", "model", "one worker", "two workers (to one)", "minisat", "cadical", "judge")
+    for kind in kinds or PARTS:
+        formula, answer = (os.path.join(folder, name) for name in ("formula", "answer"))
+        write_apart(PARTS, kind, formula)
+        commands = solver_words(leank, formula, answer)
+        commands["two"] = solver_words(leank, formula, answer + "2", "--workers", "2")["solve"]
+        runs = by_turns(commands)
+        same_status(kind, runs)
+        one, two = runs["solve"], runs["two"]
+        variables, clauses = header_of(formula)
+        told = {10: "a model", 20: "none"}.get(one.status, "-")
+        columns = [kind, f"{variables:,} and {clauses:,}", told, shown(one.clock, one.status)]
+        columns.append(f"{shown(two.clock, two.status)} ({two.clock / one.clock:.2f})")
+        columns += [shown(runs[other].clock, runs[other].status) for other in ("minisat", "cadical")]
+        both = [judge(kind, formula, name) for name, run in ((answer, one), (answer + "2", two)) if run.status in (10, 20)]
+        print("| " + " | ".join([*columns, both[0] if both else "-"]) + " |", flush=True)
+
+
+GROUPS = {"families": families, "tools": tools, "parts": parts}
+
+
+def main():
+    if len(sys.argv) < 2:
+        sys.exit(__doc__)
+    leank, words = os.path.abspath(sys.argv[1]), sys.argv[2:]
+    with tempfile.TemporaryDirectory() as folder:
+        for group in words[:1] or GROUPS:
+            GROUPS[group](leank, folder, words[1:])
+
+
+if __name__ == "__main__":
+    main()

@@ -1,0 +1,9 @@
+pub mod TotalLists
+pub mod CheckedAnswers
+pub mod AnswerLaws
+pub mod PrintedAnswers
+pub mod DraftSteps
+pub mod DraftEnds
+pub mod ReadWords
+pub mod AnswerRuns
+pub mod AnswerReads

@@ -1,0 +1,13 @@
+use Rattle.std.specs.Prelude.{codes}
+use Rattle.answer_check.proofs.ReadWords.{other_line, no_state_of_none, no_state}
+use Rattle.answer_check.proofs.draft.state_in.Goals as goal
+
+pub returns-then-m-eq0 : goal.returns-then-m-eq0
+returns-then-m-eq0 c =
+    no_state_of_none c.args.m c.args.line.now (other_line c.args.line.now c.as_slice.result.now (codes "s SATISFIABLE") c.eq.result c.as_slice.ensures c.eq.ensures c.if-eq.false) c.if-m-eq0.true
+
+pub returns : goal.returns
+returns c =
+    no_state c.args.m c.args.line.now
+    (other_line c.args.line.now c.as_slice.result.now (codes "s SATISFIABLE") c.eq.result c.as_slice.ensures c.eq.ensures c.if-eq.false)
+    (other_line c.args.line.now c.as_slice-2.result.now (codes "s UNSATISFIABLE") c.eq-2.result c.as_slice-2.ensures c.eq-2.ensures c.if-eq-2.false)

@@ -1,0 +1,5 @@
+pub mod Answers
+pub mod AnswerChecks
+pub mod AnswerLaw
+pub mod AnswerTextLaw
+pub mod Drafts

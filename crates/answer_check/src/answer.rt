@@ -1,0 +1,12 @@
+//! Answers.
+use lk_model::{List, Lit, Round};
+
+/// Whether a formula has a model, with what shows it.
+#[derive(Drop)]
+pub enum Answer {
+    /// It has one: a literal on each variable, ascending, which makes the literals true.
+    Model(List<Lit>),
+    /// It has none: a refutation, which ends with its empty step. Its steps are numbered from the formula's
+    /// number of clauses plus 1.
+    Refuted(Round),
+}

@@ -1,0 +1,136 @@
+//! What was read of an answer, and one line more.
+//!
+//! The lines of a round are read as those of documents are.
+ghost use Rattle.std.specs.Prelude.{◌≡◌, ◌≤◌, IfOk};
+ghost use Rattle.lk_model.specs.Limits.{max_vars};
+ghost use Rattle.line_text.specs.Fields.{fields};
+ghost use Rattle.line_text.specs.Taking.{IsTaken};
+ghost use Rattle.answer_check.specs.Drafts.{next_state, next_model, next_round, next_draft, refuted_by, finished};
+
+use crate::answer::Answer;
+use line_text::{first_field, literals_in};
+use lk_model::{List, Lit, OutOfMemory};
+use round_text::{RoundsPart, fresh_rounds, take_rounds};
+use std::alloc::Global;
+
+/// The lines of an answer, as far as they were read.
+#[derive(Drop)]
+pub(crate) enum Draft {
+    /// No line.
+    Nothing,
+    /// The line that there is a model.
+    Satisfiable,
+    /// That line, and the line of its literals.
+    Model(List<Lit>),
+    /// The line that there is no model.
+    Unsatisfiable,
+    /// That line, the line of a round, and some of its steps or all.
+    Refuting(RoundsPart),
+}
+
+/// Takes the next line of an answer for n variables and m clauses. The answer is whether the line was taken; the
+/// draft is not used again otherwise. The error is want of memory.
+pub(crate) fn take_line(
+    alloc: Global,
+    draft: &mut Draft,
+    line: &[u8],
+    n: u32,
+    m: u32,
+) -> Result<bool, OutOfMemory>
+    requires { n ≤ max_vars }
+    ensures { IfOk result (λ taken. IsTaken (next_draft n m draft.old (fields line.now)) taken draft.new) }
+{
+    match draft {
+        Draft::Nothing => Ok(lead_on(draft, state_in(line, m))),
+        Draft::Satisfiable => {
+            let model = model_in(alloc, line, n)?;
+            Ok(lead_on(draft, model))
+        }
+        Draft::Model(_) => Ok(false),
+        Draft::Unsatisfiable => Ok(lead_on(draft, round_in(alloc, line))),
+        Draft::Refuting(part) => take_rounds(alloc, part, line, n, m, false),
+    }
+}
+
+/// Puts the draft that a line leads to in its place, where it leads to one.
+fn lead_on(draft: &mut Draft, next: Option<Draft>) -> bool
+    ensures { IsTaken next result draft.new }
+{
+    match next {
+        Some(next) => {
+            *draft = next;
+            true
+        }
+        None => false,
+    }
+}
+
+/// What a first line leads to. Over no clauses there is no refutation.
+fn state_in(line: &[u8], m: u32) -> Option<Draft>
+    ensures { result ≡ next_state m (fields line.now) }
+{
+    if line == b"s SATISFIABLE".as_slice() {
+        return Some(Draft::Satisfiable);
+    }
+    if m == 0 {
+        return None;
+    }
+    if line == b"s UNSATISFIABLE".as_slice() {
+        return Some(Draft::Unsatisfiable);
+    }
+    None
+}
+
+/// The model of a line of values: a literal on each variable from 1 to n, ascending.
+fn model_in(alloc: Global, line: &[u8], n: u32) -> Result<Option<Draft>, OutOfMemory>
+    requires { n ≤ max_vars }
+    ensures { IfOk result (λ model. model ≡ next_model n (fields line.now)) }
+{
+    let (first, Some(rest)) = first_field(line) else {
+        return Ok(None);
+    };
+    if first != b"v".as_slice() {
+        return Ok(None);
+    }
+    let Some(lits) = literals_in(alloc, rest, n, true)? else {
+        return Ok(None);
+    };
+    if lits.len() != n as usize {
+        return Ok(None);
+    }
+    Ok(Some(Draft::Model(lits)))
+}
+
+/// The round that a line begins.
+fn round_in(alloc: Global, line: &[u8]) -> Option<Draft>
+    ensures { result ≡ next_round (fields line.now) }
+{
+    if line != b"c round".as_slice() {
+        return None;
+    }
+    let mut part = fresh_rounds(alloc);
+    part.is_open = true;
+    Some(Draft::Refuting(part))
+}
+
+/// The answer of a draft, if all its lines were read.
+pub(crate) fn finish(draft: Draft) -> Option<Answer>
+    ensures { result ≡ finished draft }
+{
+    match draft {
+        Draft::Model(lits) => Some(Answer::Model(lits)),
+        Draft::Refuting(part) => refuted(part),
+        _ => None,
+    }
+}
+
+/// The refutation whose round has ended, if one has.
+fn refuted(part: RoundsPart) -> Option<Answer>
+    ensures { result ≡ refuted_by part }
+{
+    let mut rounds = part.rounds;
+    match rounds.pop() {
+        Some(round) => Some(Answer::Refuted(round)),
+        None => None,
+    }
+}

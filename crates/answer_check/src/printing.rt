@@ -1,0 +1,41 @@
+//! Printing answers.
+ghost use Rattle.std.specs.Prelude.{◌≡◌, ◌++◌, ◌∷◌, [], IfOk, OnOk, codes};
+ghost use Rattle.std.specs.List.{flat_map};
+ghost use Rattle.lk_model.specs.Texts.PlainText.{line, literal_words};
+ghost use Rattle.answer_check.specs.Answers.{answer_lines, answer_text};
+ghost use Rattle.answer_check.specs.declared.answer.Answer.TheVariants.{Model, Refuted};
+
+use crate::answer::Answer;
+use line_text::{put, put_clause_line};
+use lk_model::{Lit, OutOfMemory, Round};
+use round_text::put_round;
+use std::alloc::Global;
+
+/// The one text of an answer, in form or not. The error is want of memory for the text.
+pub fn print_answer(alloc: Global, answer: &Answer) -> Result<Vec<u8>, OutOfMemory>
+    ensures { IfOk result (λ text. text.items ≡ answer_text answer.now) }
+{
+    let mut out = Vec::new(alloc);
+    match answer {
+        Answer::Model(lits) => put_model(&mut out, lits.as_slice())?,
+        Answer::Refuted(round) => put_refutation(&mut out, round)?,
+    }
+    Ok(out)
+}
+
+/// Appends the lines of a model.
+fn put_model(out: &mut Vec<u8>, lits: &[Lit]) -> Result<(), OutOfMemory>
+    ensures { OnOk result (out.new.items ≡ out.old.items ++ flat_map line (answer_lines (Model lits.now))) }
+{
+    put(out, b"s SATISFIABLE\n")?;
+    put(out, b"v ")?;
+    put_clause_line(out, lits)
+}
+
+/// Appends the lines of a refutation.
+fn put_refutation(out: &mut Vec<u8>, round: &Round) -> Result<(), OutOfMemory>
+    ensures { OnOk result (out.new.items ≡ out.old.items ++ flat_map line (answer_lines (Refuted round.now))) }
+{
+    put(out, b"s UNSATISFIABLE\n")?;
+    put_round(out, round)
+}

@@ -1,0 +1,12 @@
+pub mod CommandTable
+pub mod EndingFacts
+pub mod Verdicts
+pub mod KernelSizes
+pub mod Counted
+pub mod LinearEndings
+pub mod Listing
+pub mod GeneralEndings
+pub mod DemoEndings
+pub mod Extensions
+pub mod SolveEndings
+pub mod VerifiedAnswers

@@ -1,0 +1,129 @@
+-- How what is found of a formula is answered.
+use Rattle.std.proofs.Common.{◌≡◌, ◌∙◌, ℕ, ◌^◌, ◌<◌, ◌≤◌, List, [], ◌∷◌, None, length, ℤ, Result, Ok, Err, IfOk, refl, sym, ap, subst, arith, inl, inr}
+use Rattle.std.specs.Prelude.{IsTrue}
+use Rattle.lk_model.specs.Formulas.Formula.{Cnf}
+use Rattle.lk_model.specs.Formulas.Assignment.{assignment_of}
+use Rattle.lk_model.specs.Checks.RoundChecks.{learned_steps}
+use Rattle.lk_model.specs.Checks.Checks.{IsSound, HasProgress}
+use Rattle.lk_model.specs.Documents.Text.{text_of}
+use Rattle.lk_model.specs.declared.document.Document.TheVariants.{Unfinished}
+use Rattle.lk_model.specs.declared.document.OpenDocument.{OpenDocument}
+use Rattle.lk_model.specs.declared.document.Round.{Round}
+use Rattle.kernel_laws.specs.General.OpenResults.{open_document}
+use Rattle.kernel_solve.specs.Solutions.{IsTotalModel, IsRefuted, IsUnfinished}
+use Rattle.reductions.specs.Founds.{open_document_of}
+use Rattle.answer_check.specs.Answers.{answer_text}
+use Rattle.answer_check.specs.declared.answer.Answer.TheVariants.{Model, Refuted}
+use Rattle.answer_check.proofs.AnswerLaws.{answer_law}
+use Rattle.command_words.specs.Settings.{Options}
+use Rattle.command_endings.specs.Commands.GeneralReducing.{conflicts_line}
+use Rattle.command_endings.specs.Commands.Solving.{WritesModel, WritesRefutation, WritesUnfinished, Answers, Decides}
+use Rattle.command_endings.specs.declared.status.Status.{Status}
+use Rattle.command_endings.specs.declared.status.Status.TheVariants.{Done, Words, Input, ReadFault, WriteFault, Budget, TooWide, TooLarge, Refused, Memory, Satisfiable, Unsatisfiable}
+
+-- WHAT IS WRITTEN
+
+-- the text of a model
+pub writes_model : (F : Cnf) (literals : List ℤ) (written : List ℕ) → IsTotalModel F literals → written ≡ answer_text (Model literals) → WritesModel F written
+writes_model F literals written h text =
+    let form = (answer_law.total F.vars (length F.clauses) literals).1 h.total in
+    record {
+      literals = literals;
+      writes = record { form = form; checks = (answer_law.shows F (Model literals) form).1 h.satisfies; written_is = text };
+      model = h.satisfies;
+    }
+
+-- the text of a refutation
+pub writes_refutation : (options : Options) (F : Cnf) (round : Round) (written : List ℕ) → IsRefuted F options.conflicts round → written ≡ answer_text (Refuted round) → WritesRefutation options F written
+writes_refutation options F round written h text =
+    let form = answer_law.refutes F _ round h.refutation in
+    record {
+      round = round;
+      writes = record { form = form; checks = (answer_law.shows F (Refuted round) form).1 h.refutation; written_is = text };
+      no_model = answer_law.no_model F round h.refutation;
+      used = λ kept kernel. answer_law.used F kept round h.refutation kernel;
+      needed = h.needed;
+      most = h.most;
+      empty = h.empty;
+    }
+
+-- the text of an open round
+pub writes_unfinished : (options : Options) (F : Cnf) (round : Round) (rounds : List Round) (d : OpenDocument) (written : List ℕ) → IsUnfinished F options.conflicts round → rounds ≡ round ∷ []
+    → d ≡ open_document_of F None options.conflicts rounds → written ≡ text_of (Unfinished d) → WritesUnfinished options F written
+writes_unfinished options F round rounds d written h one told text =
+    let counted : open_document F (round ∷ []) ≡ open_document_of F None options.conflicts (round ∷ []) =
+    λ i. record { vars = F.vars; clauses = length F.clauses; protect = None; learned = h.all i; rounds = round ∷ []; texts = F } in
+    let same : open_document F (round ∷ []) ≡ d = counted ∙ ap (open_document_of F None options.conflicts) (sym one) ∙ sym told in
+    record {
+      filled = h.filled;
+      unfinished = record {
+        document = d;
+        written_is = text;
+        sound = subst (λ (e : OpenDocument). IsSound F e) same h.sound;
+        progress = subst (λ (e : OpenDocument). HasProgress F e) same h.progress;
+        protects = ap (λ (e : OpenDocument). e.protect) told;
+        count = ap (λ (e : OpenDocument). e.learned) told;
+      };
+      round = round;
+      one = ap (λ (e : OpenDocument). e.rounds) told ∙ one;
+      learned = h.all;
+      few = h.few;
+      part = h.part;
+      stops = h.stops;
+    }
+
+-- HOW IT ENDS
+
+pub model_answers : (options : Options) (F : Cnf) (literals : List ℤ) (status : Status) (written said : List ℕ) → IsTotalModel F literals → status ≡ Satisfiable → written ≡ answer_text (Model literals) → said ≡ [] → Answers options F status written said
+model_answers options F literals status written said h is text silent =
+    subst (λ (s : Status). Answers options F s written said) (sym is) (writes_model F literals written h text, silent)
+
+pub refuted_answers : (options : Options) (F : Cnf) (round : Round) (status : Status) (written said : List ℕ) → IsRefuted F options.conflicts round → status ≡ Unsatisfiable → written ≡ answer_text (Refuted round) → said ≡ []
+    → Answers options F status written said
+refuted_answers options F round status written said h is text silent =
+    subst (λ (s : Status). Answers options F s written said) (sym is) (writes_refutation options F round written h text, silent)
+
+pub open_answers : (options : Options) (F : Cnf) (round : Round) (rounds : List Round) (d : OpenDocument) (status : Status) (written said : List ℕ) → IsUnfinished F options.conflicts round → rounds ≡ round ∷ []
+    → d ≡ open_document_of F None options.conflicts rounds → status ≡ Budget → written ≡ text_of (Unfinished d) → said ≡ conflicts_line d.learned → Answers options F status written said
+open_answers options F round rounds d status written said h one told is text line =
+    subst (λ (s : Status). Answers options F s written said) (sym is)
+    (writes_unfinished options F round rounds d written h one told text, line ∙ ap (λ (e : OpenDocument). conflicts_line e.learned) told)
+
+-- WHAT IS DECIDED
+
+-- a status with which it may end is the decided one
+pub solve_status : (options : Options) (F : Cnf) (decided status : Status) (written said : List ℕ) → Decides options F decided → Answers options F status written said → status ≡ decided
+solve_status options F Satisfiable Satisfiable written said d a = refl
+solve_status options F Satisfiable Unsatisfiable written said d a = absurd (a.0.no_model d.1.0 d.1.1)
+solve_status options F Satisfiable Budget written said d a = absurd (let few = a.0.few in let enough = d.0 in omega (arith, few, enough))
+solve_status options F Unsatisfiable Satisfiable written said d a = absurd (d.1 (assignment_of a.0.literals) a.0.model)
+solve_status options F Unsatisfiable Unsatisfiable written said d a = refl
+solve_status options F Unsatisfiable Budget written said d a = absurd (let few = a.0.few in let enough = d.0 in omega (arith, few, enough))
+solve_status options F Done status written said d a = absurd d
+solve_status options F Words status written said d a = absurd d
+solve_status options F Input status written said d a = absurd d
+solve_status options F ReadFault status written said d a = absurd d
+solve_status options F WriteFault status written said d a = absurd d
+solve_status options F Budget status written said d a = absurd d
+solve_status options F TooWide status written said d a = absurd d
+solve_status options F TooLarge status written said d a = absurd d
+solve_status options F Refused status written said d a = absurd d
+solve_status options F Memory status written said d a = absurd d
+solve_status options F Satisfiable Done written said d a = absurd a
+solve_status options F Satisfiable Words written said d a = absurd a
+solve_status options F Satisfiable Input written said d a = absurd a
+solve_status options F Satisfiable ReadFault written said d a = absurd a
+solve_status options F Satisfiable WriteFault written said d a = absurd a
+solve_status options F Satisfiable TooWide written said d a = absurd a
+solve_status options F Satisfiable TooLarge written said d a = absurd a
+solve_status options F Satisfiable Refused written said d a = absurd a
+solve_status options F Satisfiable Memory written said d a = absurd a
+solve_status options F Unsatisfiable Done written said d a = absurd a
+solve_status options F Unsatisfiable Words written said d a = absurd a
+solve_status options F Unsatisfiable Input written said d a = absurd a
+solve_status options F Unsatisfiable ReadFault written said d a = absurd a
+solve_status options F Unsatisfiable WriteFault written said d a = absurd a
+solve_status options F Unsatisfiable TooWide written said d a = absurd a
+solve_status options F Unsatisfiable TooLarge written said d a = absurd a
+solve_status options F Unsatisfiable Refused written said d a = absurd a
+solve_status options F Unsatisfiable Memory written said d a = absurd a

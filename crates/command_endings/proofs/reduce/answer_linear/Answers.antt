@@ -1,0 +1,45 @@
+use Rattle.std.proofs.Common.{◌≡◌, ◌∙◌, [], refl, sym, subst}
+use Rattle.std.specs.Prelude.{IsTrue}
+use Rattle.lk_model.specs.Documents.Text.{text_of}
+use Rattle.lk_model.specs.Formulas.Formula.{Cnf}
+use Rattle.lk_model.specs.declared.class.Class.TheVariants.{Linear}
+use Rattle.lk_model.specs.declared.document.Document.TheVariants.{Done as Finished}
+use Rattle.reductions.specs.Founds.{TellsReduction}
+use Rattle.reductions.proofs.Protecting.{left_without, problem_writes}
+use Rattle.command_words.specs.OptionRows.{values_of}
+use Rattle.command_words.specs.declared.command.Command.TheVariants.{ReduceLinear}
+use Rattle.command_endings.specs.LinearStops.{TellsStop}
+use Rattle.command_endings.specs.Answering.{IsAnswer}
+use Rattle.command_endings.specs.Statuses.{is_result}
+use Rattle.command_endings.specs.declared.status.Status.{Status}
+use Rattle.command_endings.specs.declared.status.Status.TheVariants.{Done}
+use Rattle.command_endings.proofs.LinearEndings.{done_answers, ends_done, stop_answers, stop_result}
+use Rattle.command_endings.proofs.EndingFacts.{by_one, by_three}
+use Rattle.command_endings.proofs.reduce.answer_linear.Goals as goal
+
+pub returns-in_ok-document-in-Ok : goal.returns-in_ok-document-in-Ok
+returns-in_ok-document-in-Ok c =
+    let options = values_of c.args.options.now in
+    let F = c.args.formula in
+    let d = c.in_ok-document-in-Ok in
+    by_three (λ e. e.status ≡ Done) (λ e. e.written.items ≡ text_of (Finished d.document)) (λ e. e.said.items ≡ []) (IsAnswer ReduceLinear options (F, tt)) c.written.result c.written.ensures.status c.written.ensures.written c.written.ensures.said
+    (λ e status written said.
+    let writes = problem_writes F Linear options.protect c.in_ok-problem.problem c.in-Ok.found options.pivots d.document e.written.items
+    c.in_ok-problem.ensures d.ensures.formula d.ensures.limits
+    (subst (λ (G : Cnf). TellsReduction Linear options.pivots G c.in-Ok.found) c.left.ensures c.in-Ok.ensures.reduces) d.ensures.document written in
+    record {
+      result = subst (λ (s : Status). IsTrue (is_result s)) (sym status) refl;
+      answers = done_answers options F c.left.result.now e.status e.written.items e.said.items (c.left.ensures ∙ left_without F options.protect c.in_ok-problem.problem c.in_ok-problem.ensures)
+          (ends_done options.pivots c.left.result.now c.in-Ok.ensures.done) status writes said;
+    })
+
+pub returns-in-Err : goal.returns-in-Err
+returns-in-Err c =
+    let options = values_of c.args.options.now in
+    let F = c.args.formula in
+    by_one (λ e. TellsStop c.in-Err.stop e.status e.written.items e.said.items) (IsAnswer ReduceLinear options (F, tt)) c.stopped.result c.stopped.ensures
+    (λ e tells. record {
+      result = stop_result c.in-Err.stop e.status e.written.items e.said.items tells;
+      answers = stop_answers options F c.left.result.now c.in-Err.stop e.status e.written.items e.said.items (c.left.ensures ∙ left_without F options.protect c.in_ok-problem.problem c.in_ok-problem.ensures)
+          c.in-Err.ensures.stop tells;
+    })

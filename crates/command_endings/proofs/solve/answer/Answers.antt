@@ -1,0 +1,58 @@
+use Rattle.std.proofs.Common.{◌≡◌, ◌∙◌, ℕ, [], None, refl, sym, ap, subst}
+use Rattle.std.specs.Prelude.{IsTrue}
+use Rattle.lk_model.specs.Documents.Text.{text_of}
+use Rattle.lk_model.specs.declared.document.Document.TheVariants.{Unfinished}
+use Rattle.kernel_solve.specs.Solutions.{IsSolved}
+use Rattle.kernel_solve.specs.declared.solving.Solved.{Solved}
+use Rattle.reductions.specs.Founds.{open_document_of}
+use Rattle.answer_check.specs.Answers.{answer_text}
+use Rattle.answer_check.specs.declared.answer.Answer.TheVariants.{Model, Refuted}
+use Rattle.command_words.specs.OptionRows.{values_of}
+use Rattle.command_words.specs.declared.command.Command.TheVariants.{Solve}
+use Rattle.command_endings.specs.Answering.{IsAnswer}
+use Rattle.command_endings.specs.Commands.GeneralReducing.{conflicts_line}
+use Rattle.command_endings.specs.Statuses.{is_result}
+use Rattle.command_endings.specs.declared.status.Status.{Status}
+use Rattle.command_endings.specs.declared.status.Status.TheVariants.{Budget, Satisfiable, Unsatisfiable}
+use Rattle.command_endings.proofs.EndingFacts.{by_three}
+use Rattle.command_endings.proofs.SolveEndings.{model_answers, refuted_answers, open_answers}
+use Rattle.command_endings.proofs.solve.answer.Goals as goal
+
+pub returns-in-Model : goal.returns-in-Model
+returns-in-Model g c =
+    let F = c.args.formula in
+    let options = values_of c.args.options.now in
+    let literals = c.in-Model.literals in
+    let h = subst (λ (s : Solved). IsSolved F options.conflicts s) c.in-Model.is c.in_ok-solved.ensures in
+    by_three (λ e. e.status ≡ Satisfiable) (λ e. e.written.items ≡ answer_text (Model literals)) (λ e. e.said.items ≡ []) (IsAnswer Solve options (F, tt)) c.answered.result c.answered.ensures.status c.answered.ensures.written c.answered.ensures.said
+    (λ e status written said. record {
+      result = subst (λ (s : Status). IsTrue (is_result s)) (sym status) refl;
+      answers = model_answers options F literals e.status e.written.items e.said.items h status written said;
+    })
+
+pub returns-in-Refuted : goal.returns-in-Refuted
+returns-in-Refuted g c =
+    let F = c.args.formula in
+    let options = values_of c.args.options.now in
+    let round = c.in-Refuted.round in
+    let h = subst (λ (s : Solved). IsSolved F options.conflicts s) c.in-Refuted.is c.in_ok-solved.ensures in
+    by_three (λ e. e.status ≡ Unsatisfiable) (λ e. e.written.items ≡ answer_text (Refuted round)) (λ e. e.said.items ≡ []) (IsAnswer Solve options (F, tt)) c.answered-in-Refuted.result c.answered-in-Refuted.ensures.status c.answered-in-Refuted.ensures.written c.answered-in-Refuted.ensures.said
+    (λ e status written said. record {
+      result = subst (λ (s : Status). IsTrue (is_result s)) (sym status) refl;
+      answers = refuted_answers options F round e.status e.written.items e.said.items h status written said;
+    })
+
+pub returns-in_ok-rounds-in-Unfinished : goal.returns-in_ok-rounds-in-Unfinished
+returns-in_ok-rounds-in-Unfinished g c =
+    let F = c.args.formula in
+    let options = values_of c.args.options.now in
+    let round = c.in-Unfinished.round in
+    let rounds = c.in_ok-rounds-in-Unfinished.rounds in
+    let document = c.open_document_of-document in
+    let h = subst (λ (s : Solved). IsSolved F options.conflicts s) c.in-Unfinished.is c.in_ok-solved.ensures in
+    let told : document.result ≡ open_document_of F None options.conflicts rounds = document.ensures.document ∙ ap (λ (n : ℕ). open_document_of F None n rounds) c.get.ensures.value in
+    by_three (λ e. e.status ≡ Budget) (λ e. e.written.items ≡ text_of (Unfinished document.result)) (λ e. e.said.items ≡ conflicts_line document.result.learned) (IsAnswer Solve options (F, tt)) c.unfinished.result c.unfinished.ensures.status c.unfinished.ensures.written c.unfinished.ensures.said
+    (λ e status written said. record {
+      result = subst (λ (s : Status). IsTrue (is_result s)) (sym status) refl;
+      answers = open_answers options F round rounds document.result e.status e.written.items e.said.items h c.in_ok-rounds-in-Unfinished.ensures told status written said;
+    })

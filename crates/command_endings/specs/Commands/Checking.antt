@@ -1,0 +1,37 @@
+-- The command `check`.
+use Rattle.std.specs.Prelude.{◌≡◌, ℕ, List, [], None}
+use Rattle.lk_model.specs.Formulas.Formula.{Cnf}
+use Rattle.lk_model.specs.Texts.PlainText.{line}
+use Rattle.lk_model.specs.Checks.Checks.{first_failure, Accepts, IsSound}
+use Rattle.lk_model.specs.Reduction.{IsReduction}
+use Rattle.lk_model.specs.declared.document.Document.{Document as AnyDocument}
+use Rattle.lk_model.specs.declared.document.Document.TheVariants.{Done as Finished, Unfinished}
+use Rattle.lean_checker.specs.Verdicts.{verdict_of, verdict_words}
+use Rattle.lean_checker.specs.declared.verdict.Verdict.{Verdict}
+use Rattle.lean_checker.specs.declared.verdict.Verdict.TheVariants as verdict
+use Rattle.command_endings.specs.declared.status.Status.{Status}
+use Rattle.command_endings.specs.declared.status.Status.TheVariants.{Done, Budget, Refused}
+
+-- the status that tells a verdict
+abbrev pub verdict_status : Verdict → Status
+verdict_status verdict.Accepted = Done
+verdict_status (verdict.Unfinished learned) = Budget
+verdict_status (verdict.No why) = Refused
+
+-- A finished document of which no check fails is a reduction of the formula, whoever made it: it keeps the kernel of its
+-- class, its set line is an autarky of the class that touches exactly the removed clauses, and every model of the kept ones
+-- extends. An unfinished one is sound: each step states the clause of its chain, and each learned clause is new.
+abbrev pub IsProved : Cnf → AnyDocument → Type 0
+IsProved F (Finished d) = Accepts F d × IsReduction F d
+IsProved F (Unfinished d) = IsSound F d
+
+-- It writes the verdict on the document: accepted, unfinished, or the first check that fails.
+pub record Answers (F : Cnf) (d : AnyDocument) (status : Status) (written said : List ℕ) : Type 0 where
+  pub status_is : status ≡ verdict_status (verdict_of F d)
+  pub writes : written ≡ line (verdict_words (verdict_of F d))
+  pub silent : said ≡ []
+  pub proved : first_failure F d ≡ None → IsProved F d
+
+-- the status is that of the verdict
+abbrev pub Decides : Cnf → AnyDocument → Status → Type 0
+Decides F d status = status ≡ verdict_status (verdict_of F d)

@@ -1,0 +1,20 @@
+//! How each command ends: what it answers to what was read, the line of each stop, and the statuses.
+#![tactic(auto)]
+
+pub mod check;
+mod counts;
+pub mod demo;
+mod ending;
+pub mod extend;
+mod lines;
+mod protect;
+pub mod reduce;
+pub mod reduce_general;
+pub mod report;
+mod rows;
+pub mod solve;
+mod status;
+pub mod verify;
+
+pub use ending::{Ending, ending_of};
+pub use status::Status;

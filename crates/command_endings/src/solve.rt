@@ -1,0 +1,63 @@
+//! What `solve` answers.
+ghost use Rattle.std.specs.Prelude.{◌≡◌, ◌∷◌, [], IfOk};
+ghost use Rattle.answer_check.specs.Answers.{answer_text};
+ghost use Rattle.command_words.specs.OptionRows.{values_of};
+ghost use Rattle.command_endings.specs.Answering.{IsAnswer};
+
+use crate::ending::Ending;
+use crate::reduce_general::unfinished;
+use crate::status::Status;
+use answer_check::{Answer, print_answer};
+use command_words::{Command, Options};
+use kernel_solve::{Solved, solve};
+use lk_model::{Formula, List, OutOfMemory, Round};
+use lk_outside::Gate;
+use reductions::open_document_of;
+use std::alloc::Global;
+use std::thread::Threads;
+
+/// A model of a formula, or a refutation, or the unfinished document of a search that used up its budget.
+pub fn answer<R: Threads + Sync, G: Gate>(
+    rt: &R,
+    alloc: Global,
+    gate: &G,
+    formula: Formula,
+    options: &Options<'_>,
+) -> Result<Ending, OutOfMemory>
+    ensures { IfOk result (IsAnswer Command.Solve (values_of options.now) (formula, tt)) }
+{
+    let conflicts = options.conflicts;
+    let workers = options.workers.get();
+    let solved = solve(rt, alloc, gate, &formula, conflicts, workers)?;
+    match solved {
+        Solved::Model(literals) => answered(alloc, Status::Satisfiable, Answer::Model(literals)),
+        Solved::Refuted(round) => answered(alloc, Status::Unsatisfiable, Answer::Refuted(round)),
+        Solved::Unfinished(round) => {
+            let rounds = one_round(alloc, round)?;
+            let document = open_document_of(formula, None, conflicts.get(), rounds);
+            unfinished(alloc, document)
+        }
+    }
+}
+
+/// The ending with this status that writes an answer.
+fn answered(alloc: Global, status: Status, answer: Answer) -> Result<Ending, OutOfMemory>
+    ensures status { IfOk result (λ e. e.status ≡ status) }
+    ensures written { IfOk result (λ e. e.written.items ≡ answer_text answer) }
+    ensures said { IfOk result (λ e. e.said.items ≡ []) }
+{
+    Ok(Ending {
+        status,
+        written: print_answer(alloc, &answer)?,
+        said: Vec::new(alloc),
+    })
+}
+
+/// A list of one round.
+fn one_round(alloc: Global, round: Round) -> Result<List<Round>, OutOfMemory>
+    ensures { IfOk result (λ rounds. rounds ≡ round ∷ []) }
+{
+    let mut rounds = List::new(alloc);
+    rounds.push(round)?;
+    Ok(rounds)
+}

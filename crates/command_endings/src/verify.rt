@@ -1,0 +1,34 @@
+//! What `verify` answers.
+ghost use Rattle.std.specs.Prelude.{◌≡◌, length, IfOk, IsTrue};
+ghost use Rattle.answer_check.specs.Answers.{is_answer};
+ghost use Rattle.command_words.specs.OptionRows.{values_of};
+ghost use Rattle.command_endings.specs.Answering.{IsAnswer};
+ghost use Rattle.command_endings.specs.Commands.Verifying.{verdict_by};
+
+use crate::check::told;
+use crate::ending::Ending;
+use answer_check::check_answer;
+use command_inputs::Answered;
+use command_words::{Command, Options};
+use lean_checker::Verdict;
+use lk_model::{OutOfMemory, Why};
+use std::alloc::Global;
+
+/// What the checks say of a formula and an answer.
+pub fn answer(alloc: Global, read: &Answered, options: &Options<'_>) -> Result<Ending, OutOfMemory>
+    requires form { IsTrue (is_answer read.now.formula.vars (length read.now.formula.clauses) read.now.answer) }
+    ensures { IfOk result (IsAnswer Command.Verify (values_of options.now) (read.now.formula, (read.now.answer, tt))) }
+{
+    let why = check_answer(alloc, &read.formula, &read.answer)?;
+    told(alloc, verdict_by(why))
+}
+
+/// The verdict on an answer, by the first check that fails.
+fn verdict_by(why: Option<Why>) -> Verdict
+    ensures { result ≡ verdict_by why }
+{
+    match why {
+        Some(why) => Verdict::No(why),
+        None => Verdict::Accepted,
+    }
+}

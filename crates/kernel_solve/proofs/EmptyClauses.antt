@@ -1,0 +1,116 @@
+-- An empty clause is a refutation by itself.
+use Rattle.std.proofs.Common.{◌≡◌, ℕ, zero, suc, ◌∙◌, ◌+◌, ◌-◌, ◌<◌, ◌≤◌, ◌^◌, ◌==◌, nat_lt, nat_le, Bool, true, not, List, [], ◌∷◌, refl, sym, ap, subst, arith, ℤ, length, Option, Some, None, IfSome, false, inl, inr}
+use Rattle.std.specs.Prelude.{find}
+use Rattle.std.specs.List.{range_with_len}
+use Rattle.std.proofs.lemmas.Bool.{and_from, cases_Bool, cond-true, cond-false, eq-eqb, eqb-true, eqb-false, le-leb, lt-ltb, not_from_false}
+use Rattle.lk_model.specs.Lists.{among, is_between, is_empty}
+use Rattle.lk_model.specs.Formulas.Formula.{Cnf, IsWithinLimits, clause_at, positions_of}
+use Rattle.lk_model.specs.Formulas.Crossed.{no_variable}
+use Rattle.lk_model.specs.Formulas.Lean.{are_positions}
+use Rattle.lk_model.specs.Chains.Chain.{states_its_clause}
+use Rattle.lk_model.specs.Chains.Rounds.{is_trimmed, reached}
+use Rattle.lk_model.specs.declared.document.Step.{Step}
+use Rattle.lk_model.specs.declared.document.Round.{Round}
+use Rattle.lk_model.proofs.Founds.{none_at, none_found, up_to_bounds}
+use Rattle.lk_model.proofs.Lists.{among_here}
+use Rattle.lk_model.proofs.ListTests.{all_weaker}
+use Rattle.kernel_laws.specs.General.RefutationLaw.{IsRefutation}
+use Rattle.kernel_laws.proofs.Lines.{found_any, found_passes}
+use Rattle.kernel_laws.proofs.General.JoinLaws.{none_misstated}
+use Rattle.kernel_laws.proofs.General.Numbering.{premises_in}
+use Rattle.part_formula.specs.Decisions.{are_filled}
+use Rattle.renaming_laws.proofs.Mapped.{rising_all}
+use Rattle.kernel_solve.specs.EmptyClause.{first_empty, empty_round}
+use Rattle.kernel_solve.specs.Solutions.{IsRefuted}
+
+-- THE FIRST ONE
+
+-- the first number of a range that passes a test is found
+first_passing : (t : ℕ → Bool) (a n p : ℕ) → a ≤ p → p < a + n → ((k : ℕ) → a ≤ k → k < p → t k ≡ false) → t p ≡ true → Some p ≡ find t (range_with_len a n)
+first_passing t a zero p low high before pass = absurd (omega (arith, low, high))
+first_passing t a (suc n) p low high before pass = elim (cases_Bool (a == p)) [
+  | inl here ↦
+      (let same : a ≡ p = eqb-true a p here in
+      let passes : t a ≡ true = subst (λ (k : ℕ). t k ≡ true) (sym same) pass in
+      ap Some (sym same) ∙ sym (cond-true (t a) (Some a) (find t (range_with_len (a + 1) n)) passes))
+  | inr later ↦
+      (let past : a < p = above a p low later in
+      first_passing t (a + 1) n p (omega (arith, past)) (omega (arith, high)) (λ k least. before k (omega (arith, least))) pass
+      ∙ sym (cond-false (t a) (Some a) (find t (range_with_len (a + 1) n)) (before a (omega arith) past)))
+]
+  where
+    above : (a p : ℕ) → a ≤ p → (a == p) ≡ false → a < p
+    above a p low other = let apart = eqb-false a p other in omega (arith, low, apart)
+
+-- FOUND
+
+-- the clause at a position is empty
+abbrev is_empty_at : Cnf → ℕ → Bool
+is_empty_at F p = is_empty (clause_at F p)
+
+empty_is : (c : List ℤ) → is_empty c ≡ true → c ≡ []
+empty_is [] e = refl
+empty_is (l ∷ c) e = absurd (let f : ⊥ = cc in f)
+
+-- the step of an empty clause
+abbrev empty_step : Cnf → ℕ → Step
+empty_step F p = record { number = length F.clauses + 1; clause = []; first = p; turns = [] }
+
+states : (F : Cnf) (p : ℕ) → p ≤ length F.clauses → among (positions_of F) p ≡ true → clause_at F p ≡ []
+    → states_its_clause (premises_in F (positions_of F) no_variable []) (empty_step F p) ≡ true
+unfolding states_its_clause
+states F p last there empty = rw (le-leb p (length F.clauses) last, there, empty) refl
+
+refutes : (F : Cnf) (p : ℕ) → IsWithinLimits F → first_empty F ≡ Some p → IsRefutation F (positions_of F) (empty_round F p)
+refutes F p limits found =
+    let there : among (positions_of F) p ≡ true = found_any (is_empty_at F) (λ k. k == p) (positions_of F) p found (eq-eqb p p refl) in
+    let empty : clause_at F p ≡ [] = empty_is (clause_at F p) (found_passes (is_empty_at F) (positions_of F) p found) in
+    let b = up_to_bounds (length F.clauses) p there in
+    let last = b.1 in
+    let few = limits.clauses in
+    record {
+      steps = and_from _ _ (and_from _ true (eq-eqb (length F.clauses + 1) (length F.clauses + 1) refl) refl)
+          (and_from _ true (and_from _ true (and_from _ _ (and_from _ true (lt-ltb (length F.clauses + 1) (2 ^ 64) (omega (arith, few))) refl)
+          (and_from _ _ (le-leb 1 p b.0) (le-leb p (length F.clauses + 1 - 1) (omega (arith, last))))) refl) refl);
+      whole = refl;
+      stated = none_misstated F no_variable (positions_of F) (empty_round F p ∷ []) ((ap not (states F p last there empty), tt), tt);
+    }
+
+trimmed : (F : Cnf) (p : ℕ) → is_trimmed (empty_round F p) ≡ true
+unfolding reached
+trimmed F p = and_from _ true (among_here (length F.clauses + 1) (p ∷ [])) refl
+
+pub by_empty : (F : Cnf) (p conflicts : ℕ) → IsWithinLimits F → first_empty F ≡ Some p → IsRefuted F conflicts (empty_round F p)
+by_empty F p conflicts limits found = record {
+  refutation = refutes F p limits found;
+  needed = trimmed F p;
+  most = omega arith;
+  empty = subst (λ (o : Option ℕ). IfSome o (λ q. empty_round F p ≡ empty_round F q)) (sym found) refl;
+}
+
+-- NOT FOUND
+
+-- no clause at a list of positions is empty, where none of the formula is
+pub filled_at : (F : Cnf) (part : List ℕ) → first_empty F ≡ None → are_positions F part ≡ true → are_filled F part ≡ true
+filled_at F part none rise =
+    all_weaker (λ p. is_between 1 (length F.clauses) p) (λ p. not (is_empty_at F p))
+    (λ p inside. not_from_false (is_empty_at F p) (none_at (is_empty_at F) F p none inside)) part (rising_all 0 (length F.clauses) part rise)
+
+-- THE SEARCH FOR ONE
+
+-- where none before a position is empty and it is, it is the first one
+pub first_at : (F : Cnf) (p : ℕ) → 0 < p → p ≤ length F.clauses → ((k : ℕ) → 0 < k → k < p → is_empty (clause_at F k) ≡ false)
+    → is_empty (clause_at F p) ≡ true → Some p ≡ first_empty F
+first_at F p first last before empty = first_passing (is_empty_at F) 1 (length F.clauses) p first (omega (arith, last)) before empty
+
+-- where none is, there is no first one
+pub none_empty : (F : Cnf) (end : ℕ) → length F.clauses < end → ((k : ℕ) → 0 < k → k < end → is_empty (clause_at F k) ≡ false) → None ≡ first_empty F
+none_empty F end past before = sym (none_found (is_empty_at F) (positions_of F) (λ p there.
+    let b = up_to_bounds (length F.clauses) p there in
+    let last = b.1 in
+    before p b.0 (omega (arith, last, past))))
+
+-- a test of clauses as the code has it
+pub no_length : (c : List ℤ) → (length c == 0) ≡ true → is_empty c ≡ true
+no_length [] e = refl
+no_length (l ∷ c) e = absurd (let some = eqb-true (length (l ∷ c)) 0 e in omega (arith, some))

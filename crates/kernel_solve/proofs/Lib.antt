@@ -1,0 +1,5 @@
+pub mod RefutationLaws
+pub mod ModelLaws
+pub mod EmptyClauses
+pub mod Gathering
+pub mod SolveResults

@@ -1,0 +1,288 @@
+-- What the answers on all parts of the matching kernel come to.
+use Rattle.std.proofs.Common.{◌≡◌, ℕ, zero, suc, ◌+◌, ◌<◌, ◌≤◌, ◌^◌, Bool, true, List, [], ◌∷◌, ◌++◌, length, map, get_or, refl, sym, ◌∙◌, ap, subst, arith, ℤ, Ok, Err, Result, IfOk, Contains, All, None, false}
+use Rattle.std.specs.List.{AllByRecursion}
+use Rattle.std.proofs.lemmas.Bool.{and_from, both_ways, false_from_ne_true}
+use Rattle.std.proofs.lemmas.List.{append-nil, length-map}
+use Rattle.std.proofs.lemmas.Result.{IfOk-at_ok}
+use Rattle.lk_model.specs.Lists.{among, rises_within}
+use Rattle.lk_model.specs.Formulas.Literal.{variable}
+use Rattle.lk_model.specs.Formulas.Formula.{Cnf, IsWithinLimits, is_formula, clause_at, clauses_at, positions_of}
+use Rattle.lk_model.specs.Formulas.Assignment.{Assignment, assignment_of, extended, extended_literals}
+use Rattle.lk_model.specs.Formulas.Lean.{are_positions, all_of}
+use Rattle.lk_model.specs.Formulas.Parts.{IsPart}
+use Rattle.lk_model.specs.Chains.Rounds.{is_trimmed}
+use Rattle.lk_model.specs.Documents.Documents.{steps_of}
+use Rattle.lk_model.specs.Reduction.{IsModel}
+use Rattle.lk_model.specs.declared.document.Round.{Round}
+use Rattle.lk_model.specs.declared.document.Step.{Step}
+use Rattle.lk_model.specs.declared.list.OutOfMemory.{OutOfMemory}
+use Rattle.lk_model.specs.declared.result.GeneralResult.{GeneralResult}
+use Rattle.lk_model.specs.declared.result.MatchingResult.{MatchingResult}
+use Rattle.lk_model.proofs.Booleans.{and_true}
+use Rattle.lk_model.proofs.Counting.{among-range}
+use Rattle.lk_model.proofs.Rising.{bounded, range_rises, rising_count}
+use Rattle.kernel_laws.specs.General.GeneralResults.{IsGeneralResult, AreGeneralResults}
+use Rattle.kernel_laws.specs.General.JoinLaw.{IsApart, moved, renumbered_round}
+use Rattle.kernel_laws.specs.Matching.MatchingResults.{IsMatchingResult, set_line}
+use Rattle.kernel_laws.proofs.Occurrences.{in_positions}
+use Rattle.kernel_laws.proofs.General.OpenResults.{open_result_law}
+use Rattle.kernel_laws.proofs.General.PartLaws.{is_position}
+use Rattle.autarky_compose.specs.JoinedGeneral.{AreJoinable, AreJoined, all_kept, rounds_behind}
+use Rattle.autarky_compose.proofs.GeneralLaws.{joined_general_law}
+use Rattle.part_formula.specs.Decisions.{IsDecision, sets_only}
+use Rattle.part_formula.specs.declared.deciding.Decision.{Decision}
+use Rattle.part_formula.specs.declared.deciding.Decision.TheVariants.{Model, Refuted, Stopped}
+use Rattle.kernel_solve.specs.EmptyClause.{first_empty}
+use Rattle.kernel_solve.specs.KernelParts.{IsFilledPart, told, AreKernelParts, AreKernelModels, IsJoinedModel}
+use Rattle.kernel_solve.specs.Answers.{Answer, AreAnswers, IsAmongAnswers, models}
+use Rattle.kernel_solve.specs.Solutions.{IsTotalModel, IsRefuted, IsUnfinished, IsSolved}
+use Rattle.kernel_solve.specs.declared.solving.Solved.{Solved}
+use Rattle.kernel_solve.specs.declared.solving.Solved.TheVariants as solved
+use Rattle.kernel_solve.proofs.EmptyClauses.{filled_at}
+use Rattle.kernel_solve.proofs.ModelLaws.{model_law, is_rising}
+use Rattle.kernel_solve.proofs.RefutationLaws.{refutation_law}
+
+-- what is found in a formula without an empty clause
+pub record IsSearched (F : Cnf) (r : MatchingResult) (list : List (List ℕ)) : Type 0 where
+  pub form : is_formula F ≡ true
+  pub limits : IsWithinLimits F
+  pub filled : first_empty F ≡ None
+  pub matching : IsMatchingResult F (positions_of F) r
+  pub parts : AreKernelParts F r.kept list
+
+-- what is found, by the positions as they were read
+pub searched : (F : Cnf) (r : MatchingResult) (kept : List ℕ) (list : List (List ℕ)) → is_formula F ≡ true → IsWithinLimits F → first_empty F ≡ None
+    → IsMatchingResult F (positions_of F) r → kept ≡ r.kept → AreKernelParts F kept list → IsSearched F r list
+searched F r kept list form limits filled matching same parts = record {
+  form = form;
+  limits = limits;
+  filled = filled;
+  matching = matching;
+  parts = subst (λ (ps : List ℕ). AreKernelParts F ps list) same parts;
+}
+
+-- THE PARTS
+
+filled_parts : (F : Cnf) (kept : List ℕ) (parts : List (List ℕ)) → are_positions F kept ≡ true → first_empty F ≡ None
+    → AllByRecursion (IsPart (clauses_at F kept)) parts → AllByRecursion (IsFilledPart F) (map (told kept) parts)
+filled_parts F kept [] rise filled all = tt
+filled_parts F kept (part ∷ parts) rise filled all =
+    let positions = model_law.positions F kept part rise (is_rising (clauses_at F kept) part all.0) in
+    (record { positions = positions; filled = filled_at F (told kept part) filled positions }, filled_parts F kept parts rise filled all.1)
+
+pub all_filled : (F : Cnf) (r : MatchingResult) (list : List (List ℕ)) → IsSearched F r list → AllByRecursion (IsFilledPart F) list
+all_filled F r list h =
+    subst (λ (ps : List (List ℕ)). AllByRecursion (IsFilledPart F) ps) (sym h.parts.told_are)
+    (filled_parts F r.kept h.parts.parts h.matching.positions h.filled h.parts.are.each)
+
+-- ONE ANSWER AMONG THEM
+
+decided_at : (F : Cnf) (part : List ℕ) (conflicts : ℕ) (d : Decision) → IfOk {E = OutOfMemory} (Ok d) (IsDecision F part conflicts) → IsDecision F part conflicts d
+decided_at F part conflicts d h = (let same : answered d ≡ answered d = refl in IfOk-at_ok (IsDecision F part conflicts) same h)
+  where
+    answered : Decision → Answer
+    answered v = Ok v
+
+-- the part on which it is given
+record IsAnswered (F : Cnf) (kept : List ℕ) (conflicts : ℕ) (d : Decision) : Type 0 where
+  part : List ℕ
+  part_is : IsPart (clauses_at F kept) part
+  decides : IsDecision F (told kept part) conflicts d
+
+answer_among : (F : Cnf) (kept : List ℕ) (conflicts : ℕ) (d : Decision) (parts : List (List ℕ)) (answers : List Answer) → AllByRecursion (IsPart (clauses_at F kept)) parts
+    → AreAnswers F conflicts (map (told kept) parts) answers → Contains answers (Ok d) → IsAnswered F kept conflicts d
+answer_among F kept conflicts d [] [] each all (k, lt, e) = absurd (omega (arith, lt))
+answer_among F kept conflicts d [] (a ∷ answers) each all c = absurd all
+answer_among F kept conflicts d (part ∷ parts) [] each all c = absurd all
+answer_among F kept conflicts d (part ∷ parts) (a ∷ answers) each all (zero, lt, e) = record {
+  part = part;
+  part_is = each.0;
+  decides = decided_at F (told kept part) conflicts d (subst (λ (x : Answer). IfOk x (IsDecision F (told kept part) conflicts)) e all.0);
+}
+answer_among F kept conflicts d (part ∷ parts) (a ∷ answers) each all (suc k, lt, e) = answer_among F kept conflicts d parts answers each.1 all.1 (k, omega (arith, lt), e)
+
+answer_in : (F : Cnf) (kept : List ℕ) (list : List (List ℕ)) (conflicts : ℕ) (answers : List Answer) (d : Decision) → AreKernelParts F kept list
+    → AreAnswers F conflicts list answers → Contains answers (Ok d) → IsAnswered F kept conflicts d
+answer_in F kept list conflicts answers d h all c =
+    answer_among F kept conflicts d h.parts answers h.are.each
+    (subst (λ (ps : List (List ℕ)). AreAnswers F conflicts ps answers) h.told_are all) c
+
+-- a refuted part refutes the formula
+refuted : (F : Cnf) (r : MatchingResult) (list : List (List ℕ)) (conflicts : ℕ) (answers : List Answer) (round : Round) → IsSearched F r list
+    → AreAnswers F conflicts list answers → Contains answers (Ok (Refuted round)) → IsRefuted F conflicts round
+refuted F r list conflicts answers round h all c =
+    let a = answer_in F r.kept list conflicts answers (Refuted round) h.parts all c in
+    let rise = model_law.positions F r.kept a.part h.matching.positions (is_rising (clauses_at F r.kept) a.part a.part_is) in
+    record {
+      refutation = refutation_law.wider F (told r.kept a.part) (positions_of F) round (λ p m.
+          let b = bounded 0 (length F.clauses) (told r.kept a.part) p rise m in
+          let most = b.1 in
+          among-range 1 (length F.clauses) p b.0 (omega (arith, most))) a.decides.refutation;
+      needed = (and_true (is_trimmed round) true a.decides.needed.trimmed).0;
+      most = a.decides.most;
+      empty = rw h.filled tt;
+    }
+
+-- there is no other position
+no_other : (F : Cnf) → IsApart F (positions_of F)
+no_other F p v out there = false_from_ne_true _ (λ m. both_ways (among (positions_of F) p) out (in_positions F p (is_position F p v m)))
+
+-- what is learned over a part makes an unfinished round of the formula
+stopped : (F : Cnf) (r : MatchingResult) (list : List (List ℕ)) (conflicts : ℕ) (answers : List Answer) (round : Round) → conflicts < 2 ^ 63 → IsSearched F r list
+    → AreAnswers F conflicts list answers → Contains answers (Ok (Stopped round)) → IsUnfinished F conflicts round
+stopped F r list conflicts answers round most h all c =
+    let a = answer_in F r.kept list conflicts answers (Stopped round) h.parts all c in
+    let part = told r.kept a.part in
+    let rise = model_law.positions F r.kept a.part h.matching.positions (is_rising (clauses_at F r.kept) a.part a.part_is) in
+    let learning = refutation_law.whole F part (round ∷ []) rise (model_law.foreign F r a.part h.matching a.part_is) a.decides.result in
+    let count = a.decides.all in
+    let few = refutation_law.few F (positions_of F) round h.form learning in
+    record {
+      filled = h.filled;
+      learning = learning;
+      all = count;
+      few = omega (arith, count, few);
+      sound = open_result_law.sound F (positions_of F) (round ∷ []) h.form h.limits
+          (range_rises 0 (length F.clauses) 1 (length F.clauses) (omega arith) (omega arith)) (no_other F) learning (omega (arith, count, most));
+      progress = learning.progress;
+      part = part;
+      stops = record {
+        is_part = model_law.is_part F r a.part h.form h.matching a.part_is;
+        names = open_result_law.names F part (round ∷ []) a.decides.result;
+        wants = a.decides.wants;
+      };
+    }
+
+pub solved_by : (F : Cnf) (r : MatchingResult) (list : List (List ℕ)) (conflicts : ℕ) (answers : List Answer) (solved : Solved) → conflicts < 2 ^ 63 → IsSearched F r list
+    → AreAnswers F conflicts list answers → IsAmongAnswers answers solved → IsSolved F conflicts solved
+solved_by F r list conflicts answers (solved.Model lits) most h all c = absurd c
+solved_by F r list conflicts answers (solved.Refuted round) most h all c = refuted F r list conflicts answers round h all c
+solved_by F r list conflicts answers (solved.Unfinished round) most h all c = stopped F r list conflicts answers round most h all c
+
+-- MODELS OF ALL PARTS
+
+results_of : (F : Cnf) (kept : List ℕ) (conflicts : ℕ) (parts : List (List ℕ)) (sets : List (List ℤ)) → AllByRecursion (IsPart (clauses_at F kept)) parts
+    → AreAnswers F conflicts (map (told kept) parts) (models sets) → AreGeneralResults (clauses_at F kept) parts (map sets_only sets)
+results_of F kept conflicts [] [] each all = tt
+results_of F kept conflicts [] (set ∷ sets) each all = absurd all
+results_of F kept conflicts (part ∷ parts) [] each all = absurd all
+results_of F kept conflicts (part ∷ parts) (set ∷ sets) each all = (
+  model_law.part F kept part set (is_rising (clauses_at F kept) part each.0) (decided_at F (told kept part) conflicts (Model set) all.0),
+  results_of F kept conflicts parts sets each.1 all.1,
+)
+
+pub kernel_models : (F : Cnf) (kept : List ℕ) (list : List (List ℕ)) (conflicts : ℕ) (answers : List Answer) (sets : List (List ℤ)) → AreKernelParts F kept list
+    → AreAnswers F conflicts list answers → answers ≡ models sets → AreKernelModels F kept sets
+kernel_models F kept list conflicts answers sets h all is = record {
+  parts = h.parts;
+  are = h.are;
+  each = results_of F kept conflicts h.parts sets h.are.each
+      (subst (λ (ps : List (List ℕ)). AreAnswers F conflicts ps (models sets)) h.told_are (subst (λ (given : List Answer). AreAnswers F conflicts list given) is all));
+}
+
+-- RESULTS THAT KEEP NOTHING
+
+none_kept : (sets : List (List ℤ)) → all_kept (map sets_only sets) ≡ []
+none_kept [] = refl
+none_kept (set ∷ sets) = none_kept sets
+
+no_rounds : (m : ℕ) (rounds : List Round) (sets : List (List ℤ)) → rounds_behind m rounds (map sets_only sets) ≡ rounds
+no_rounds m rounds [] = refl
+no_rounds m rounds (set ∷ sets) = no_rounds m (rounds ++ []) sets ∙ append-nil rounds
+
+-- they can be joined over any number of positions
+pub joinable : (F : Cnf) (kept : List ℕ) (sets : List (List ℤ)) → AreKernelModels F kept sets → AreJoinable 0 (map sets_only sets)
+joinable F kept sets h =
+    let j = joined_general_law.joinable (clauses_at F kept) h.parts (map sets_only sets) h.are h.each in
+    record {
+      kept = subst (λ (ps : List ℕ). All (λ (p : ℕ). (0 < p) × (p ≤ 0)) ps) (sym (none_kept sets)) (none_of (λ (p : ℕ). (0 < p) × (p ≤ 0)));
+      set = j.set;
+      apart = j.apart;
+    }
+  where
+    none_of : (P : ℕ → Type 0) → All P []
+    none_of P = search arith
+
+keeps_none : (sets : List (List ℤ)) (t : GeneralResult) → AreJoined 0 (map sets_only sets) t → t.kept ≡ []
+keeps_none sets t j = at t.kept refl
+  where
+    at : (ps : List ℕ) → t.kept ≡ ps → ps ≡ []
+    at [] e = refl
+    at (p ∷ ps) e =
+        let inside : Contains t.kept p = subst (λ (qs : List ℕ). Contains qs p) (sym e) (zero, omega arith, refl) in
+        let from : Contains [] p = subst (λ (qs : List ℕ). Contains qs p) (none_kept sets) (j.kept.only p inside) in
+        absurd (let lt = from.1 in omega (arith, lt))
+
+joined_over : (m : ℕ) (sets : List (List ℤ)) (t : GeneralResult) → m < 2 ^ 64 → AreJoined 0 (map sets_only sets) t → AreJoined m (map sets_only sets) t
+joined_over m sets t few j =
+    let none : t.rounds ≡ [] = j.rounds ∙ no_rounds 0 [] sets in
+    record {
+      kept = record {
+        rising = subst (λ (ps : List ℕ). rises_within 0 m (map (λ p. p) ps) ≡ true) (sym (keeps_none sets t j)) refl;
+        only = j.kept.only;
+        every = j.kept.every;
+      };
+      set = j.set;
+      rounds = none ∙ sym (no_rounds m [] sets);
+      numbers = subst (λ (rs : List Round). m + length (steps_of rs) < 2 ^ 64) (sym none) (omega (arith, few));
+    }
+
+-- joined, they are a result of the whole kernel
+record IsOfKernel (F : Cnf) (kept : List ℕ) (t : GeneralResult) : Type 0 where
+  result : IsGeneralResult (clauses_at F kept) (positions_of (clauses_at F kept)) t
+  none : t.kept ≡ []
+
+of_kernel : (F : Cnf) (kept : List ℕ) (sets : List (List ℤ)) (t : GeneralResult) → IsWithinLimits F → are_positions F kept ≡ true
+    → AreKernelModels F kept sets → AreJoined 0 (map sets_only sets) t → IsOfKernel F kept t
+of_kernel F kept sets t limits rise h j =
+    let K = clauses_at F kept in
+    let long : length K.clauses ≡ length kept = length-map {B = List ℤ} kept (clause_at F) in
+    let short = rising_count 0 (length F.clauses) kept rise (omega arith) in
+    let clauses = limits.clauses in
+    record {
+      result = joined_general_law.whole K h.parts (map sets_only sets) t h.are h.each (joined_over (length K.clauses) sets t (omega (arith, long, short, clauses)) j);
+      none = keeps_none sets t j;
+    }
+
+-- THE MODEL
+
+-- the variables of its literals rise
+pub joined_rises : (F : Cnf) (r : MatchingResult) (sets : List (List ℤ)) (lits : List ℤ) → IsWithinLimits F → IsMatchingResult F (positions_of F) r
+    → AreKernelModels F r.kept sets → IsJoinedModel sets lits → rises_within 0 F.vars (map variable lits) ≡ true
+joined_rises F r sets lits limits matching h j =
+    subst (λ (ls : List ℤ). rises_within 0 F.vars (map variable ls) ≡ true) (sym j.literals)
+    (of_kernel F r.kept sets j.result limits matching.positions h j.joined).result.set
+
+-- the literals that the matching makes of it
+pub total_model : (F : Cnf) (r : MatchingResult) (sets : List (List ℤ)) (joined lits : List ℤ)
+    → is_formula F ≡ true → IsWithinLimits F → IsMatchingResult F (positions_of F) r → AreKernelModels F r.kept sets → IsJoinedModel sets joined
+    → lits ≡ extended_literals (assignment_of (set_line F r.own)) (assignment_of joined) F.vars
+    → assignment_of lits ≡ extended (assignment_of (set_line F r.own)) (assignment_of joined) F.vars → IsTotalModel F lits
+total_model F r sets joined lits form limits matching h j literals values =
+    let k = of_kernel F r.kept sets j.result limits matching.positions h j.joined in
+    let kernel = subst (λ (ls : List ℤ). IsModel F (among r.kept) (assignment_of ls)) (sym j.literals) (model_law.kernel F r.kept j.result matching.positions k.result k.none) in
+    let model = model_law.whole F r (assignment_of joined) form limits matching kernel in
+    record {
+      total = ap (map variable) literals ∙ model_law.total (assignment_of (set_line F r.own)) (assignment_of joined) F.vars;
+      satisfies = subst (λ (φ : Assignment). IsModel F (all_of F) φ) (sym values) model;
+    }
+
+-- ANSWERS ON PARTS
+
+-- what two promises on an answer come to
+pub both_ok : {X Y : Type 0} (r : Result X Y) (P Q S : X → Type 0) → ((x : X) → P x → Q x → S x) → IfOk r P → IfOk r Q → IfOk r S
+both_ok (Ok x) P Q S f p q = f x p q
+both_ok (Err e) P Q S f p q = tt
+
+-- no decision
+abbrev pub nothing : Answer
+nothing = Ok (Model [])
+
+-- answers that each are one for the part at their place
+pub answers_from : (F : Cnf) (conflicts : ℕ) (parts : List (List ℕ)) (answers : List Answer) → length answers ≡ length parts
+    → ((k : ℕ) → k < length parts → IfOk (get_or answers k nothing) (IsDecision F (get_or parts k []) conflicts)) → AreAnswers F conflicts parts answers
+answers_from F conflicts [] [] e each = tt
+answers_from F conflicts [] (a ∷ answers) e each = absurd (omega (arith, e))
+answers_from F conflicts (part ∷ parts) [] e each = absurd (omega (arith, e))
+answers_from F conflicts (part ∷ parts) (a ∷ answers) e each =
+    (each zero (omega arith), answers_from F conflicts parts answers (omega (arith, e)) (λ k lt. each (suc k) (omega (arith, lt))))

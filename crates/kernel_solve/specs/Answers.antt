@@ -1,0 +1,34 @@
+-- What is decided of all parts.
+use Rattle.std.specs.Prelude.{◌≡◌, ℕ, List, [], ◌∷◌, ⊤, map, ℤ, Option, Some, None, Result, Ok, IfOk, Contains}
+use Rattle.lk_model.specs.Formulas.Formula.{Cnf}
+use Rattle.lk_model.specs.declared.document.Round.{Round}
+use Rattle.lk_model.specs.declared.list.OutOfMemory.{OutOfMemory}
+use Rattle.part_formula.specs.Decisions.{IsDecision}
+use Rattle.part_formula.specs.declared.deciding.Decision.{Decision}
+use Rattle.part_formula.specs.declared.deciding.Decision.TheVariants as decision
+use Rattle.kernel_solve.specs.declared.solving.Solved.{Solved}
+use Rattle.kernel_solve.specs.declared.solving.Solved.TheVariants.{Model, Refuted, Unfinished}
+
+abbrev pub Answer : Type 0
+Answer = Result Decision OutOfMemory
+
+-- one answer for each of these parts
+abbrev pub AreAnswers : Cnf → ℕ → List (List ℕ) → List Answer → Type 0
+AreAnswers F conflicts [] [] = ⊤
+AreAnswers F conflicts (part ∷ parts) (answer ∷ answers) = IfOk answer (IsDecision F part conflicts) × AreAnswers F conflicts parts answers
+AreAnswers F conflicts _ _ = ⊥
+
+-- the answers that these models are
+abbrev pub models : List (List ℤ) → List Answer
+models sets = map (λ (lits : List ℤ). Ok (decision.Model lits)) sets
+
+-- a refutation among the answers, or a round that stopped
+abbrev pub IsAmongAnswers : List Answer → Solved → Type 0
+IsAmongAnswers answers (Model lits) = ⊥
+IsAmongAnswers answers (Refuted r) = Contains answers (Ok (decision.Refuted r))
+IsAmongAnswers answers (Unfinished r) = Contains answers (Ok (decision.Stopped r))
+
+-- of some answers without a refutation: models as long as no round stopped, and then a round that did
+abbrev pub IsGatheredSoFar : List Answer → List (List ℤ) → Option Round → Type 0
+IsGatheredSoFar answers sets None = answers ≡ models sets
+IsGatheredSoFar answers sets (Some r) = Contains answers (Ok (decision.Stopped r))

@@ -1,0 +1,6 @@
+pub mod EmptyClause
+pub mod KernelParts
+pub mod Answers
+pub mod Solutions
+pub mod RefutationLaw
+pub mod ModelLaw

@@ -1,0 +1,55 @@
+-- What is found of a formula: a model, a refutation, or an open round.
+use Rattle.std.specs.Prelude.{◌≡◌, ℕ, ◌^◌, ◌<◌, ◌≤◌, List, [], ◌∷◌, map, length, ℤ, None, IfSome, IsTrue}
+use Rattle.lk_model.specs.Formulas.Literal.{variable}
+use Rattle.lk_model.specs.Formulas.Formula.{Cnf, positions_of, variables_to}
+use Rattle.lk_model.specs.Formulas.Assignment.{assignment_of}
+use Rattle.lk_model.specs.Formulas.Crossed.{no_variable}
+use Rattle.lk_model.specs.Formulas.Lean.{all_of}
+use Rattle.lk_model.specs.Chains.Rounds.{is_trimmed, names_within}
+use Rattle.lk_model.specs.Chains.Searches.{WantsMore}
+use Rattle.lk_model.specs.Checks.RoundChecks.{learned_steps}
+use Rattle.lk_model.specs.Checks.Checks.{IsSound, HasProgress}
+use Rattle.lk_model.specs.Reduction.{IsModel}
+use Rattle.lk_model.specs.declared.document.Round.{Round}
+use Rattle.kernel_laws.specs.General.OpenResults.{IsOpenResult, open_document}
+use Rattle.kernel_laws.specs.General.RefutationLaw.{IsRefutation}
+use Rattle.kernel_solve.specs.EmptyClause.{first_empty, empty_round}
+use Rattle.kernel_solve.specs.KernelParts.{IsKernelPart}
+use Rattle.kernel_solve.specs.declared.solving.Solved.{Solved}
+use Rattle.kernel_solve.specs.declared.solving.Solved.TheVariants.{Model, Refuted, Unfinished}
+
+-- a literal for each variable, ascending, and together they satisfy each clause
+pub record IsTotalModel (F : Cnf) (lits : List ℤ) : Type 0 where
+  pub total : map variable lits ≡ variables_to F.vars
+  pub satisfies : IsModel F (all_of F) (assignment_of lits)
+
+-- A refutation of the formula, with at most so many learned clauses. Each step is reached backwards from the last one. Where
+-- a clause is empty, it is the one step of the first such clause.
+pub record IsRefuted (F : Cnf) (conflicts : ℕ) (r : Round) : Type 0 where
+  pub refutation : IsRefutation F (positions_of F) r
+  pub needed : IsTrue (is_trimmed r)
+  pub most : length (learned_steps (r ∷ [])) ≤ conflicts
+  pub empty : IfSome (first_empty F) (λ p. r ≡ empty_round F p)
+
+-- The chains of the round name positions of one part of the matching kernel, and the search there is not at its end.
+pub record StopsIn (F : Cnf) (part : List ℕ) (r : Round) : Type 0 where
+  pub is_part : IsKernelPart F part
+  pub names : IsTrue (names_within F part (r ∷ []))
+  pub wants : WantsMore F no_variable part (r ∷ [])
+
+-- No clause is empty. The round learned exactly so many clauses, over the whole formula, which are fewer than all that can
+-- be learned. The document that tells them is sound for the formula, and has progress.
+pub record IsUnfinished (F : Cnf) (conflicts : ℕ) (r : Round) : Type 0 where
+  pub filled : first_empty F ≡ None
+  pub learning : IsOpenResult F (positions_of F) (r ∷ [])
+  pub all : length (learned_steps (r ∷ [])) ≡ conflicts
+  pub few : conflicts < 3 ^ F.vars
+  pub sound : IsSound F (open_document F (r ∷ []))
+  pub progress : HasProgress F (open_document F (r ∷ []))
+  pub part : List ℕ
+  pub stops : StopsIn F part r
+
+abbrev pub IsSolved : Cnf → ℕ → Solved → Type 0
+IsSolved F conflicts (Model lits) = IsTotalModel F lits
+IsSolved F conflicts (Refuted r) = IsRefuted F conflicts r
+IsSolved F conflicts (Unfinished r) = IsUnfinished F conflicts r

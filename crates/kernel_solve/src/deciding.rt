@@ -1,0 +1,86 @@
+//! What is decided of the parts of the kernel.
+ghost use Rattle.std.specs.Prelude.{◌≡◌, ◌≤◌, IfOk, unwrap_or};
+ghost use Rattle.std.specs.ControlFlow.{MatchControlFlow};
+ghost use Rattle.std.specs.List.{AllByRecursion};
+ghost use Rattle.part_formula.specs.Decisions.{IsDecision};
+ghost use Rattle.kernel_solve.specs.KernelParts.{IsFilledPart};
+ghost use Rattle.kernel_solve.specs.Answers.{AreAnswers, IsAmongAnswers, models};
+
+use crate::solving::Solved;
+use lk_model::{Budget, Formula, List, Lit, OutOfMemory, Round};
+use par_parts::{Gate, map_halves};
+use part_formula::{Decision, decide_part};
+use std::alloc::Global;
+use std::marker::Sync;
+use std::ops::ControlFlow;
+use std::thread::Threads;
+
+/// What is decided of each part, in their order, in halves.
+pub(crate) fn decisions<R: Threads + Sync, G: Gate>(
+    rt: &R,
+    alloc: Global,
+    gate: &G,
+    f: &Formula,
+    list: &[List<u32>],
+    conflicts: Budget,
+    workers: u32,
+) -> Result<List<Result<Decision, OutOfMemory>>, OutOfMemory>
+    requires parts { AllByRecursion (IsFilledPart f.now) list.now }
+    requires workers { 1 ≤ workers }
+    ensures { IfOk result (AreAnswers f.now conflicts list.now) }
+{
+    map_halves(
+        rt,
+        alloc,
+        gate,
+        list,
+        workers,
+        &|_, part| decision_of(alloc, f, part, conflicts),
+    )
+}
+
+// What is decided of a part.
+fn decision_of(
+    alloc: Global,
+    f: &Formula,
+    part: &List<u32>,
+    conflicts: Budget,
+) -> Result<Decision, OutOfMemory>
+    requires part { IsFilledPart f.now part.now }
+    ensures { IfOk result (IsDecision f.now part.now conflicts) }
+{
+    decide_part(alloc, f, part.as_slice(), conflicts)
+}
+
+/// What the parts come to, in their order: the first refutation, or else the first round that stopped, or else
+/// all models.
+pub(crate) fn gather(
+    alloc: Global,
+    answers: List<Result<Decision, OutOfMemory>>,
+) -> Result<ControlFlow<Solved, List<List<Lit>>>, OutOfMemory>
+    ensures { IfOk result (λ flow. MatchControlFlow flow (λ sets. answers ≡ models sets) (IsAmongAnswers answers)) }
+{
+    let mut models = List::new(alloc);
+    let mut stopped = None;
+    for answer in answers.into_vec() {
+        match answer? {
+            Decision::Model(model) => models.push(model)?,
+            Decision::Refuted(round) => return Ok(ControlFlow::Break(Solved::Refuted(round))),
+            Decision::Stopped(round) => stopped = Some(first_of(stopped, round)),
+        }
+    }
+    match stopped {
+        Some(round) => Ok(ControlFlow::Break(Solved::Unfinished(round))),
+        None => Ok(ControlFlow::Continue(models)),
+    }
+}
+
+// The first of two rounds, where there is one before the second.
+fn first_of(first: Option<Round>, second: Round) -> Round
+    ensures { result ≡ unwrap_or first second }
+{
+    match first {
+        Some(round) => round,
+        None => second,
+    }
+}

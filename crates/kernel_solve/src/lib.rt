@@ -1,0 +1,12 @@
+//! Whether a formula has a model, by the parts of its matching kernel.
+#![tactic(auto)]
+
+mod deciding;
+mod empty_clause;
+mod kernel_parts;
+mod laws;
+mod model;
+mod solving;
+
+pub use laws::{model_law, refutation_law};
+pub use solving::{Solved, solve};

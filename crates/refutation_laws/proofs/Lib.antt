@@ -1,0 +1,3 @@
+pub mod StepForms
+pub mod ReachedSteps
+pub mod UsedLaws

@@ -1,0 +1,96 @@
+-- Steps in form.
+use Rattle.std.proofs.Common.{◌≡◌, ℕ, zero, ◌+◌, ◌-◌, ◌*◌, ◌<◌, ◌^◌, Bool, true, false, cond, ◌&&◌, ◌==◌, nat_le, nat_lt, List, [], ◌∷◌, refl, sym, ℤ, pos, map, arith}
+use Rattle.std.specs.List.{list_all}
+use Rattle.std.proofs.lemmas.Bool.{and_from, lt-ltb, leb-true, eqb-true, not-false}
+use Rattle.lk_model.specs.Lists.{is_between, is_empty, is_zero, is_nonzero, rises_within}
+use Rattle.lk_model.specs.Laws.{are_in_order}
+use Rattle.lk_model.specs.Formulas.Literal.{rank_of, is_literal}
+use Rattle.lk_model.specs.Chains.Chain.{names_of}
+use Rattle.lk_model.specs.Chains.Rounds.{is_refutation}
+use Rattle.lk_model.specs.Documents.Form.{counts_from, is_turn, is_step, are_steps, ends_at_empty}
+use Rattle.lk_model.specs.declared.document.Step.{Step}
+use Rattle.lk_model.specs.declared.document.Turn.{Turn}
+use Rattle.lk_model.proofs.Booleans.{and_true}
+use Rattle.lk_model.proofs.ListTests.{not_zero, all_weaker}
+use Rattle.lk_model.proofs.Literals.{same_int}
+use Rattle.kernel_laws.proofs.General.Chains.{are_real}
+use Rattle.kernel_laws.proofs.General.Numbering.{AreRising, counts_rise}
+use Rattle.kernel_laws.proofs.General.Reaching.{are_real_steps}
+
+-- steps that end with their one empty clause refute
+pub refutes : (steps : List Step) → ends_at_empty steps ≡ true → is_refutation steps ≡ true
+refutes [] e = absurd (let f : ⊥ = cc in f)
+refutes (s ∷ []) e = at_test (is_empty s.clause) e
+  where
+    at_test : (b : Bool) → cond b true false ≡ true → b ≡ true
+    at_test true e = refl
+    at_test false e = e
+refutes (s ∷ t ∷ later) e = at_test (is_empty s.clause) e (refutes (t ∷ later))
+  where
+    at_test : (b : Bool) → cond b false (ends_at_empty (t ∷ later)) ≡ true → (ends_at_empty (t ∷ later) ≡ true → is_refutation (t ∷ later) ≡ true) → is_refutation (t ∷ later) ≡ true
+    at_test true e rest = absurd (let f : ⊥ = cc in f)
+    at_test false e rest = rest e
+
+-- WHAT CHAINS NAME
+
+lower_by : (number k : ℕ) → is_between 1 (number - 1) k ≡ true → nat_lt k number ≡ true
+lower_by number k e =
+    let both = and_true (nat_le 1 k) (nat_le k (number - 1)) e in
+    let least = leb-true 1 k both.0 in
+    let most = leb-true k (number - 1) both.1 in
+    lt-ltb k number (omega (arith, least, most))
+
+turns_lower : (n number : ℕ) (turns : List Turn) → list_all (is_turn n number) turns ≡ true → list_all (λ k. nat_lt k number) (map (λ (t : Turn). t.with) turns) ≡ true
+turns_lower n number [] e = refl
+turns_lower n number (t ∷ turns) e =
+    let both = and_true (is_turn n number t) (list_all (is_turn n number) turns) e in
+    and_from (nat_lt t.with number) _ (lower_by number t.with (and_true (is_literal n t.lit) (is_between 1 (number - 1) t.with) both.0).1) (turns_lower n number turns both.1)
+
+-- the chain of a step names lower numbers
+names_lower : (n : ℕ) (s : Step) → is_step n s ≡ true → list_all (λ k. nat_lt k s.number) (names_of s) ≡ true
+names_lower n s e =
+    let first = is_between 1 (s.number - 1) s.first in
+    let turns = list_all (is_turn n s.number) s.turns in
+    let a = and_true (nat_lt s.number (2 ^ 64) && rises_within 1 (2 * n + 1) (map rank_of s.clause) && first) turns e in
+    let b = and_true (nat_lt s.number (2 ^ 64) && rises_within 1 (2 * n + 1) (map rank_of s.clause)) first a.0 in
+    and_from (nat_lt s.first s.number) _ (lower_by s.number s.first b.1) (turns_lower n s.number s.turns a.1)
+
+-- so the numbers rise, and each chain names lower ones
+pub in_order : (n low next : ℕ) (steps : List Step) → low < next → counts_from next (map (λ (s : Step). s.number) steps) ≡ true → list_all (is_step n) steps ≡ true → are_in_order low steps ≡ true
+in_order n low next [] lt c f = refl
+in_order n low next (s ∷ steps) lt c f =
+    let counts = and_true (s.number == next) (counts_from (next + 1) (map (λ (s : Step). s.number) steps)) c in
+    let forms = and_true (is_step n s) (list_all (is_step n) steps) f in
+    let same = eqb-true s.number next counts.0 in
+    and_from (nat_lt low s.number && list_all (λ k. nat_lt k s.number) (names_of s)) (are_in_order s.number steps)
+    (and_from (nat_lt low s.number) (list_all (λ k. nat_lt k s.number) (names_of s)) (lt-ltb low s.number (omega (arith, lt, same))) (names_lower n s forms.0))
+    (in_order n s.number (next + 1) steps (omega (arith, same)) counts.1 forms.1)
+
+-- WHAT TURNS ARE ON
+
+real_literal : (n : ℕ) (l : ℤ) → is_literal n l ≡ true → is_nonzero l ≡ true
+real_literal n l e = at_test (is_nonzero l) refl
+  where
+    at_test : (b : Bool) → is_nonzero l ≡ b → b ≡ true
+    at_test true z = refl
+    at_test false z = absurd (not_zero n l e (sym (same_int (pos zero) l (not-false (is_zero l) z))))
+
+real_step : (n : ℕ) (s : Step) → is_step n s ≡ true → are_real s.turns ≡ true
+real_step n s e =
+    let turns = (and_true _ (list_all (is_turn n s.number) s.turns) e).1 in
+    all_weaker (is_turn n s.number) (λ (t : Turn). is_nonzero t.lit) (λ t h. real_literal n t.lit (and_true (is_literal n t.lit) _ h).0) s.turns turns
+
+-- what is known of steps in form
+pub record AreFormed (m : ℕ) (steps : List Step) : Type 0 where
+  pub rising : AreRising m steps
+  pub real : are_real_steps steps ≡ true
+  pub order : are_in_order m steps ≡ true
+
+pub formed : (n m : ℕ) (steps : List Step) → are_steps n m steps ≡ true → AreFormed m steps
+formed n m steps e =
+    let both = and_true (counts_from (m + 1) (map (λ (s : Step). s.number) steps)) (list_all (is_step n) steps) e in
+    record {
+      rising = counts_rise m (m + 1) steps (omega arith) both.0;
+      real = all_weaker (is_step n) (λ (s : Step). are_real s.turns) (real_step n) steps both.1;
+      order = in_order n m (m + 1) steps (omega arith) both.0 both.1;
+    }

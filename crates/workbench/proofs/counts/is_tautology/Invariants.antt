@@ -1,6 +1,0 @@
-use Rattle.std.proofs.Common.{◌≡◌, take}
-use Rattle.workbench.proofs.counts.is_tautology.Given as goal
-
--- it holds the literals so far
-abbrev pub invariant-loop-l : goal.invariant-loop-l
-invariant-loop-l l = l.growing ≡ record { vars = l.fn.growing.vars; literals = take l.l-index l.clause }
