@@ -17,7 +17,7 @@ use crate::reduce_general::unfinished;
 use crate::rows::{Row, text_of};
 use crate::status::Status;
 use demo_formula::demo_formula;
-use lean_checker::{check, put_verdict};
+use lean_checker::{Verdict, check, put_verdict};
 use lk_model::{Budget, Document, DoneDocument, Formula, OutOfMemory};
 use lk_outside::Gate;
 use part_kernels::matching_by_parts;
@@ -72,9 +72,10 @@ fn lines_of<R: Threads + Sync, G: Gate>(
     ensures { IfOk result (λ text. WritesDemo number text.items) }
 {
     let vars = f.vars();
-    let matching = matching_size(rt, alloc, gate, f)?;
     let general = found.kept.len() as u64;
     let document = document_of(alloc, f, None, found)?;
+    let verdict = verdict_on(rt, alloc, gate, f, document)?;
+    let matching = matching_size(rt, alloc, gate, f)?;
     let mut text = text_of(
         alloc,
         &[
@@ -100,7 +101,7 @@ fn lines_of<R: Threads + Sync, G: Gate>(
             },
         ],
     )?;
-    put_checked(rt, alloc, gate, f, document, &mut text)?;
+    put_line(&mut text, &verdict)?;
     Ok(text)
 }
 
@@ -118,20 +119,28 @@ fn matching_size<R: Threads + Sync, G: Gate>(
     Ok(found.kept.len() as u64)
 }
 
-/// Appends the verdict on a document that the checks accept.
-fn put_checked<R: Threads + Sync, G: Gate>(
+/// The verdict on a document that the checks accept.
+fn verdict_on<R: Threads + Sync, G: Gate>(
     rt: &R,
     alloc: Global,
     gate: &G,
     f: &Formula,
     document: DoneDocument,
-    text: &mut Vec<u8>,
-) -> Result<(), OutOfMemory>
+) -> Result<Verdict, OutOfMemory>
     requires accepted { Accepts f.now document }
-    ensures { OnOk result (text.new.items ≡ text.old.items ++ line (verdict_words Accepted)) }
+    ensures { IfOk result (λ verdict. verdict ≡ Accepted) }
 {
-    let verdict = check(rt, alloc, gate, f, &Document::Done(document), 1)?;
-    let told = put_verdict(&verdict);
+    let document = Document::Done(document);
+    let verdict = check(rt, alloc, gate, f, &document, 1);
+    drop(document);
+    verdict
+}
+
+/// Appends the line of a verdict.
+fn put_line(text: &mut Vec<u8>, verdict: &Verdict) -> Result<(), OutOfMemory>
+    ensures { OnOk result (text.new.items ≡ text.old.items ++ line (verdict_words verdict.now)) }
+{
+    let told = put_verdict(verdict);
     text.extend_from_slice(&told.bytes[..told.len])?;
     Ok(())
 }

@@ -109,7 +109,16 @@ pub(crate) fn written(alloc: Global, document: DoneDocument) -> Result<Ending, O
 {
     Ok(Ending {
         status: Status::Done,
-        written: print(alloc, &Document::Done(document))?,
+        written: printed(alloc, Document::Done(document))?,
         said: Vec::new(alloc),
     })
+}
+
+/// The text of a document.
+pub(crate) fn printed(alloc: Global, document: Document) -> Result<Vec<u8>, OutOfMemory>
+    ensures { IfOk result (λ text. text.items ≡ text_of document) }
+{
+    let text = print(alloc, &document);
+    drop(document);
+    text
 }

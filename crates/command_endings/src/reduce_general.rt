@@ -9,9 +9,8 @@ ghost use Rattle.command_endings.specs.Commands.GeneralReducing.{conflicts_line}
 use crate::ending::Ending;
 use crate::lines::conflicts_line;
 use crate::protect::problem_of;
-use crate::reduce::written;
+use crate::reduce::{printed, written};
 use crate::status::Status;
-use cert_text::print;
 use command_words::{Command, Options};
 use lk_model::{Document, Formula, OpenDocument, OutOfMemory};
 use lk_outside::Gate;
@@ -57,10 +56,10 @@ pub(crate) fn unfinished(alloc: Global, document: OpenDocument) -> Result<Ending
     ensures written { IfOk result (λ e. e.written.items ≡ text_of (Unfinished document)) }
     ensures said { IfOk result (λ e. e.said.items ≡ conflicts_line document.learned) }
 {
-    let said = conflicts_line(alloc, document.learned)?;
+    let learned = document.learned;
     Ok(Ending {
         status: Status::Budget,
-        written: print(alloc, &Document::Unfinished(document))?,
-        said,
+        written: printed(alloc, Document::Unfinished(document))?,
+        said: conflicts_line(alloc, learned)?,
     })
 }

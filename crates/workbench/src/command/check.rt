@@ -28,5 +28,8 @@ pub(crate) fn perform<R: Threads + Sync, H: Shelf, G: Gate>(
         result }
 {
     let read = read_checked(alloc, shelf, names[0], names[1])?;
-    Ok(answer(rt, alloc, gate, &read, options)?)
+    let ending = answer(rt, alloc, gate, &read, options);
+    // A drop by a call is proved once. Each exit would spell it out.
+    drop(read);
+    Ok(ending?)
 }

@@ -26,6 +26,16 @@ pub(crate) fn perform<H: Shelf>(
         result }
 {
     let read = read_checked(alloc, shelf, names[0], names[1])?;
-    let model = read_values(alloc, shelf, names[2], &read.formula)?;
-    Ok(answer(alloc, &read.formula, &read.document, &model)?)
+    // What was read is dropped by a call, which is proved once. Each exit would spell it out.
+    match read_values(alloc, shelf, names[2], &read.formula) {
+        Ok(model) => {
+            let ending = answer(alloc, &read.formula, &read.document, &model);
+            drop(read);
+            Ok(ending?)
+        }
+        Err(stop) => {
+            drop(read);
+            Err(stop)
+        }
+    }
 }

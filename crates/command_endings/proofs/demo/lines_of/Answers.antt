@@ -1,7 +1,6 @@
-use Rattle.std.proofs.Common.{◌≡◌, ◌∙◌, ◌∷◌, ◌++◌, [], length, List, ℕ, ap, sym, subst}
+use Rattle.std.proofs.Common.{◌≡◌, ◌∙◌, ◌∷◌, ◌++◌, [], length, sym, subst}
 use Rattle.std.specs.Prelude.{codes, flat_map}
 use Rattle.lean_checker.specs.Verdicts.{verdict_words}
-use Rattle.lean_checker.specs.declared.verdict.Verdict.TheVariants.{Accepted}
 use Rattle.lk_model.specs.Checks.Checks.{Accepts}
 use Rattle.lk_model.specs.Texts.PlainText.{line}
 use Rattle.lk_model.specs.declared.document.DoneDocument.{DoneDocument}
@@ -12,8 +11,8 @@ use Rattle.command_endings.proofs.demo.lines_of.Goals as goal
 pub matching_size-requires-clause-formula : goal.matching_size-requires-clause-formula
 matching_size-requires-clause-formula g c κs within = c.vars-vars.ensures.formula
 
-pub put_checked-requires-clause-accepted : goal.put_checked-requires-clause-accepted
-put_checked-requires-clause-accepted g c κs within =
+pub verdict_on-requires-clause-accepted : goal.verdict_on-requires-clause-accepted
+verdict_on-requires-clause-accepted g c κs within =
     subst (λ (d : DoneDocument). Accepts c.args.f.now d) (sym c.in_ok-document.ensures.document)
     (reduces_formula c.args.f.now c.args.found c.in_ok-document.ensures.formula c.in_ok-document.ensures.limits c.requires.found.kernel).accepted
 
@@ -26,5 +25,5 @@ returns g c =
     let general : c.len-general.result ≡ length c.args.found.kept = c.len-general.ensures in
     let rows = c.in_ok-text.ensures
     ∙ (λ i. flat_map row_line (row (codes "demo") number ∷ row (codes "variables") (vars i) ∷ row (codes "clauses") (clauses i) ∷ row (codes "matching") matching ∷ row (codes "general") (general i) ∷ [])) in
-    writes_demo number matching c.args.f.now c.args.found c.put_checked.new.text.items c.requires.formula c.in_ok-document.ensures.formula c.in_ok-document.ensures.limits c.requires.found c.in_ok-matching.ensures
-    (c.in_ok-put_checked.ensures ∙ ap (λ (text : List ℕ). text ++ line (verdict_words Accepted)) rows)
+    writes_demo number matching c.args.f.now c.args.found c.put_line.new.text.items c.requires.formula c.in_ok-document.ensures.formula c.in_ok-document.ensures.limits c.requires.found c.in_ok-matching.ensures
+    (c.in_ok-put_line.ensures ∙ (λ i. rows i ++ line (verdict_words (c.in_ok-verdict.ensures i))))

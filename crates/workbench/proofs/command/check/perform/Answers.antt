@@ -9,12 +9,12 @@ returns-in_err-read g c =
     let stop = c.in_err-read.ensures in
     rw (p.1, p.2) (stopped _ _ c.in_err-read.field-0.0 (rw (two_names c.args.names.now c.requires.names) stop.stop) stop.cause stop.well)
 
-pub returns-in_err-answer : goal.returns-in_err-answer
-returns-in_err-answer g c =
-    let p = err_from_is_err_and c.from_residual-in_err-answer.result c.from_residual-in_err-answer.ensures.1 in
+pub returns-in_err-ending : goal.returns-in_err-ending
+returns-in_err-ending g c =
+    let p = err_from_is_err_and c.from_residual-in_err-ending.result c.from_residual-in_err-ending.ensures.1 in
     rw (p.1, p.2) (no_memory _ _ c.in_ok-read.ensures.cause)
 
 pub returns : goal.returns
 returns g c =
     let read = c.in_ok-read.ensures in
-    performed _ _ (c.in_ok-read.read.formula, (c.in_ok-read.read.document, tt)) c.in_ok-answer.field-0 (rw (two_names c.args.names.now c.requires.names) read.read) c.in_ok-answer.ensures read.cause read.well
+    performed _ _ (c.in_ok-read.read.formula, (c.in_ok-read.read.document, tt)) c.in_ok-ending.field-0 (rw (two_names c.args.names.now c.requires.names) read.read) c.in_ok-ending.ensures read.cause read.well
