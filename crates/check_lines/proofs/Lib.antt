@@ -1,11 +1,6 @@
 pub mod OrderPlaces
 pub mod OrderBreaks
 pub mod OrderChecks
+pub mod KeptClauses
 pub mod PairTables
 pub mod MatchingChecks
-pub mod DualChecks
-pub mod Numbers
-pub mod StageChecks
-pub mod StageBalances
-pub mod UnitPlaces
-pub mod UnitChecks

@@ -6,13 +6,13 @@ use Rattle.std.specs.Option.{option_map_or}
 use Rattle.std.proofs.lemmas.Bool.{cases_Bool, cases_eq, cond-true, cond-false, eq-eqb, ne_eqb, leb-true, le-leb, ltb-true, lt-ltb, ltb-false, le-ltb}
 use Rattle.std.proofs.lemmas.List.{get_or-replicate, get_or-map, length-map, length-replicate, length-set, drop_more}
 use Rattle.std.proofs.lemmas.List.Folds.{list_any_more}
-use Rattle.std.proofs.Math.Bool.{or_assoc, or-false}
+use Rattle.std.proofs.Math.Bool.{or_assoc}
 use Rattle.lk_model.specs.Lists.{among, is_between, rises_within}
 use Rattle.lk_model.specs.Formulas.Literal.{variable, mentions}
 use Rattle.lk_model.specs.Formulas.Formula.{Cnf, clause_at, positions_of, variable_occurs, variables_to}
 use Rattle.lk_model.specs.Formulas.Crossed.{no_variable}
 use Rattle.lk_model.specs.Formulas.Assignment.{Assignment, assignment_of}
-use Rattle.lk_model.specs.Held.VariableSets.{is_in, with_variable}
+use Rattle.lk_model.specs.Held.VariableSets.{is_in}
 use Rattle.lk_model.specs.Documents.Documents.{own_of, row_of}
 use Rattle.lk_model.specs.Documents.Form.{are_own, are_rows, is_match_row}
 use Rattle.lk_model.specs.Checks.Check.{line_fails, is_kept_with}
@@ -23,9 +23,8 @@ use Rattle.lk_model.specs.declared.document.DoneDocument.{DoneDocument}
 use Rattle.lk_model.proofs.Booleans.{and_true, same_tests}
 use Rattle.lk_model.proofs.ListTests.{all_at}
 use Rattle.lk_model.proofs.Rising.{rising_bounds}
-use Rattle.lk_model.proofs.VariableLists.{in_more}
 use Rattle.check_tables.specs.Flags.{is_flagged, AreKeptFlags}
-use Rattle.check_tables.specs.Occurring.{AreOccurring, NotesVariables}
+use Rattle.check_tables.specs.Occurring.{AreOccurring}
 use Rattle.check_lines.specs.Matching.{AreOwners, AreFirstOwners, AreRows, AreFirstRows, AreRankBounds, AreNamedThere, NotesNamed, rank_bound, row_in, has_own, has_escape, holds_true, is_bad_owner, is_bad_row}
 use Rattle.check_tables.proofs.FirstTables.{earlier_is, found_passes, map_same}
 use Rattle.check_tables.proofs.KeptFlags.{find_to}
@@ -216,19 +215,6 @@ noted_more n clause i d position table names before mid after v lt is h size add
           ∙ rw (eq-eqb v k same) (own_step (is_in before k) (names (row_in table k) position) (mentions (take i clause) k))
       | inr other ↦ rw (ne_eqb v k other) (other_step (is_in before k) (names (row_in table k) position) (names (row_in table v) position) (mentions (take i clause) k))
     ]
-
--- a variable that is put in
-put_in : (flags : List Bool) (v k : ℕ) → 0 < v → v ≤ length flags → is_in (with_variable flags v) k ≡ (is_in flags k || v == k)
-put_in flags v k first last = in_more flags flags (v ∷ []) 0 k (omega arith) first last (sym (or-false (is_in flags k))) ∙ ap (λ (b : Bool). is_in flags k || b) (or-false (v == k))
-
--- so the variable of one literal more
-pub variables_more : (n : ℕ) (clause : List ℤ) (i : ℕ) (d : ℤ) (before mid : List Bool) (v : ℕ) → i < length clause → v ≡ variable (get_or clause i d) → 0 < v → v ≤ length mid
-    → NotesVariables n (take i clause) before mid → NotesVariables n (take (i + 1) clause) before (with_variable mid v)
-variables_more n clause i d before mid v lt is first last h =
-    let all : Option MatchRow → ℕ → Bool = λ row position. true in
-    let so_far : NotesNamed n (take i clause) 0 [] all before mid = record { size = h.size; noted = h.noted } in
-    let more = noted_more n clause i d 0 [] all before mid (with_variable mid v) v lt is so_far (length-set mid (v - 1) true) (λ k. put_in mid v k first last) in
-    record { size = more.size; noted = more.noted }
 
 -- ROWS
 

@@ -1,14 +1,17 @@
 -- Places of literals in an order.
-use Rattle.std.proofs.Common.{◌≡◌, ◌∙◌, ℕ, zero, suc, ◌+◌, ◌-◌, ◌<◌, ◌≤◌, Bool, true, false, ◌||◌, List, [], ◌∷◌, length, get_or, take, drop, map, min, refl, sym, ap, arith, ℤ, None, inl, inr, add-one, drop-cons}
-use Rattle.std.specs.Prelude.{find, nat_le}
+use Rattle.std.proofs.Common.{◌≡◌, ◌≢◌, ◌∙◌, ℕ, zero, suc, ◌+◌, ◌*◌, ◌-◌, ◌<◌, ◌≤◌, Bool, true, false, ◌||◌, List, [], ◌∷◌, length, get_or, take, drop, min, refl, sym, ap, arith, ℤ, None, inl, inr, add-one, drop-cons, get_or-set_same, get_or-set_other}
+use Rattle.std.specs.Prelude.{find, nat_le, replicate, slice_set}
 use Rattle.std.specs.Ordering.{int_eq}
 use Rattle.std.proofs.lemmas.Bool.{cases_Bool, cond-true, cond-false, leb-true, leb-false, le-leb}
+use Rattle.std.proofs.lemmas.List.{get_or_default, get_or-replicate, drop_all}
 use Rattle.std.proofs.lemmas.Bool.Decides.{Decides-int_eq}
-use Rattle.lk_model.specs.Formulas.Literal.{complement, contains}
+use Rattle.lk_model.specs.Formulas.Literal.{contains, is_literal, rank_of}
 use Rattle.lk_model.specs.Formulas.Formula.{Cnf, clause_at, positions_of}
 use Rattle.lk_model.proofs.Booleans.{or_true, or_left, or_right}
 use Rattle.lk_model.proofs.Founds.{none_to}
-use Rattle.check_lines.specs.Order.{place_in, least_place, broken_place, first_broken}
+use Rattle.lk_model.proofs.Lists.{drop_read}
+use Rattle.lk_model.proofs.Ranks.{rank_apart, rank_small}
+use Rattle.check_lines.specs.Order.{place_in, least_place, broken_place, first_broken, ArePlaces}
 
 -- PLACES
 
@@ -68,6 +71,41 @@ read_place (k ∷ order) l d h = elim (cases_Bool (int_eq l k)) [
       ap (λ (n : ℕ). get_or (k ∷ order) n d) at ∙ read_place order l d (omega (arith, is, h))
 ]
 
+-- A TABLE OF PLACES
+
+-- what stands at a literal is its place
+pub read_is : (n : ℕ) (order : List ℤ) (places : List ℕ) (l : ℤ) (r : ℕ) → ArePlaces n order places → is_literal n l ≡ true → r ≡ get_or places (rank_of l) r → r ≡ place_in order l
+read_is n order places l r t lit is = is ∙ get_or_default places (rank_of l) r 0 (omega (arith, t.size, rank_small n l lit)) ∙ t.told l lit
+
+-- at first each literal has the place after the last
+pub places_none : (n : ℕ) (order : List ℤ) (places : List ℕ) → places ≡ replicate (2 * n + 2) (length order + 1)
+    → (k : ℤ) → is_literal n k ≡ true → get_or places (rank_of k) 0 ≡ length order + place_in (drop (length order) order) k
+places_none n order places e k lit =
+    ap (λ (t : List ℕ). get_or t (rank_of k) 0) e
+    ∙ get_or-replicate (2 * n + 2) (rank_of k) (length order + 1) 0 (rank_small n k lit)
+    ∙ sym (ap (λ (ls : List ℤ). length order + place_in ls k) (drop_all (length order) order (omega arith)))
+
+-- one literal more before the others
+pub places_more : (n : ℕ) (order : List ℤ) (i j : ℕ) (l : ℤ) (places : List ℕ) → j ≡ i + 1 → i < length order → l ≡ get_or order i l → is_literal n l ≡ true → length places ≡ 2 * n + 2
+    → ((k : ℤ) → is_literal n k ≡ true → get_or places (rank_of k) 0 ≡ j + place_in (drop j order) k)
+    → (k : ℤ) → is_literal n k ≡ true → get_or (slice_set places (rank_of l) (i + 1)) (rank_of k) 0 ≡ i + place_in (drop i order) k
+places_more n order i j l places next inside is lit size told k kit =
+    let front : drop i order ≡ l ∷ drop j order = drop_read order i l inside is ∙ ap (λ (m : ℕ). l ∷ drop m order) (sym next) in
+    let at = ap (λ (ls : List ℤ). i + place_in ls k) front in
+    elim (cases_Bool (int_eq k l)) [
+      | inl same ↦
+          let here : k ≡ l = (Decides-int_eq k l).0 same in
+          let one : place_in (l ∷ drop j order) k ≡ 1 = cond-true (int_eq k l) 1 (place_in (drop j order) k + 1) same in
+          ap (λ (z : ℤ). get_or (slice_set places (rank_of l) (i + 1)) (rank_of z) 0) here
+          ∙ get_or-set_same places (rank_of l) (i + 1) 0 (omega (arith, size, rank_small n l lit))
+          ∙ sym (at ∙ ap (λ (m : ℕ). i + m) one)
+      | inr other ↦
+          let apart : rank_of k ≢ rank_of l = λ r. absurd (cc (other, (Decides-int_eq k l).1 (rank_apart k l r))) in
+          let later : place_in (l ∷ drop j order) k ≡ place_in (drop j order) k + 1 = cond-false (int_eq k l) 1 (place_in (drop j order) k + 1) other in
+          let sum : j + place_in (drop j order) k ≡ i + place_in (l ∷ drop j order) k = omega (arith, next, later) in
+          get_or-set_other places (rank_of l) (rank_of k) (i + 1) 0 apart ∙ told k kit ∙ sum ∙ sym at
+    ]
+
 -- THE LEAST OF SOME PLACES
 
 pub least_small : (order c : List ℤ) → least_place order c ≤ length order + 1
@@ -111,12 +149,6 @@ least_held order (l ∷ c) h = elim (cases_Bool (nat_le (place_in order l) (leas
 -- the least place so far, and the rest of the clause
 pub least_next : (order c : List ℤ) (i : ℕ) (l d : ℤ) → i < length c → l ≡ get_or c i d → least_place order (drop i c) ≡ min (place_in order l) (least_place order (drop (i + 1) c))
 least_next order c i l d lt is = rw add-one (ap (least_place order) (drop-cons c i d lt) ∙ ap (λ (k : ℤ). min (place_in order k) (least_place order (drop (suc i) c))) (sym is))
-
-pub broken_small : (order c : List ℤ) → broken_place order c ≤ length order + 1
-broken_small order c = elim (cases_Bool (nat_le (least_place order (map complement c)) (least_place order c))) [
-  | inl y ↦ (let is = cond-true (nat_le (least_place order (map complement c)) (least_place order c)) (least_place order (map complement c)) (length order + 1) y in omega (arith, is, least_small order (map complement c)))
-  | inr n ↦ (let is = cond-false (nat_le (least_place order (map complement c)) (least_place order c)) (least_place order (map complement c)) (length order + 1) n in omega (arith, is))
-]
 
 pub first_small : (order : List ℤ) (cs : List (List ℤ)) → first_broken order cs ≤ length order + 1
 first_small order [] = omega arith

@@ -1,4 +1,3 @@
 pub mod Order
 pub mod Pairs
 pub mod Matching
-pub mod Linear

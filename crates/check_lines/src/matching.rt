@@ -19,7 +19,7 @@ ghost use Rattle.check_lines.specs.Matching.{AreOwners, AreFirstOwners, AreRows,
 
 use check_tables::{Workers, kept_flags, number_at};
 use lk_model::{DoneDocument, Formula, Lit, MatchRow, OutOfMemory, Own, VarSet};
-use par_parts::Gate;
+use lk_outside::Gate;
 use partial_assign::{Partial, assignment_of};
 use std::alloc::Global;
 use std::thread::Threads;
@@ -214,9 +214,9 @@ impl Seen {
         ensures own { NotesNamed n clause.now position rows.now has_own self.old.own self.new.own }
         ensures escape { NotesNamed n clause.now position rows.now has_escape self.old.escape self.new.escape }
     {
+        self.occurring.add_clause(clause);
         for l in clause {
             let v = l.var();
-            self.occurring.add(v);
             add_where(has_own(rows, v, position), v, &mut self.own);
             add_where(has_escape(rows, v, position), v, &mut self.escape);
         }

@@ -1,15 +1,15 @@
 //! The check of an order of pure literals.
-ghost use Rattle.std.specs.Prelude.{◌≡◌, ◌≤◌, ◌<◌, ◌+◌, ◌*◌, length, take, nat_le, IfOk, IsTrue};
+ghost use Rattle.std.specs.Prelude.{◌≡◌, ◌≤◌, ◌<◌, ◌+◌, ◌*◌, ◌||◌, not, [], List, ℤ, length, take, nat_le, IfOk, IsTrue};
 ghost use Rattle.std.specs.List.{list_all};
-ghost use Rattle.lk_model.specs.Formulas.Literal.{is_literal, contains};
+ghost use Rattle.lk_model.specs.Formulas.Literal.{is_literal, contains, rank_of};
 ghost use Rattle.lk_model.specs.Formulas.Formula.{clause_at};
 ghost use Rattle.lk_model.specs.Checks.PureChecks.{bad_order};
-ghost use Rattle.check_tables.specs.LiteralSets.{IsSetOf};
+ghost use Rattle.check_tables.specs.LiteralSets.{has_literal, IsSetOf};
 ghost use Rattle.check_lines.specs.Order.{broken_place, first_broken, IsSoundCount, ArePlaces};
 
 use check_tables::{LiteralSet, Workers};
 use lk_model::{DoneDocument, Formula, Lit, LitTable, OutOfMemory};
-use par_parts::Gate;
+use lk_outside::Gate;
 use std::alloc::Global;
 use std::thread::Threads;
 
@@ -31,8 +31,7 @@ pub fn bad_order<R: Threads + Sync, G: Gate>(
 {
     let set = d.set.as_slice();
     let sound = sound_count(alloc, f.vars(), set, order)?;
-    let places = places_of(alloc, f.vars(), &order[..sound])?;
-    let broken = broken_by_any(workers, f, &order[..sound], &places)?;
+    let broken = broken_by_any(workers, alloc, f, &order[..sound])?;
     if broken <= sound {
         return Ok(Some(broken));
     }
@@ -52,13 +51,33 @@ fn sound_count(alloc: Global, n: u32, set: &[Lit], order: &[Lit]) -> Result<usiz
 {
     let set = LiteralSet::of(alloc, n, set)?;
     let mut earlier = LiteralSet::new(alloc, n)?;
-    for (i, l) in order.iter().enumerate() {
-        if earlier.has(*l) || !set.has(*l) {
-            return Ok(i);
+    Ok(sound_front(n, &set, order, &mut earlier))
+}
+
+/// How many first literals of the order are each not among the earlier ones and in the set.
+fn sound_front(n: u32, set: &LiteralSet, order: &[Lit], earlier: &mut LiteralSet) -> usize
+    requires order { IsTrue (list_all (is_literal n) order.now) }
+    requires set { length set.now ≡ 2 * n + 2 }
+    requires none { IsSetOf n [] earlier.old }
+    ensures { (literals : List ℤ) → IsSetOf n literals set.now → IsSoundCount literals order.now result }
+{
+    for i in 0..order.len() {
+        let l = order[i];
+        if is_unsound(set, earlier, l) {
+            return i;
         }
-        earlier.add(*l);
+        earlier.add(l);
     }
-    Ok(order.len())
+    order.len()
+}
+
+/// Whether a literal is among the earlier ones, or not in the set.
+fn is_unsound(set: &LiteralSet, earlier: &LiteralSet, l: Lit) -> bool
+    requires set { rank_of l < length set.now }
+    requires earlier { rank_of l < length earlier.now }
+    ensures { result ≡ (has_literal earlier.now l || not (has_literal set.now l)) }
+{
+    earlier.has(l) || !set.has(l)
 }
 
 /// Whether each literal of the set line stands in the order.
@@ -89,15 +108,16 @@ fn places_of(alloc: Global, n: u32, order: &[Lit]) -> Result<LitTable<usize>, Ou
 /// clause that breaks it, and where there is one, the clauses are gone through for the least place.
 fn broken_by_any<R: Threads + Sync, G: Gate>(
     workers: &Workers<R, G>,
+    alloc: Global,
     f: &Formula,
     order: &[Lit],
-    places: &LitTable<usize>,
 ) -> Result<usize, OutOfMemory>
-    requires { ArePlaces f.now.vars order.now places.now }
+    requires order { IsTrue (list_all (is_literal f.now.vars) order.now) }
     ensures { IfOk result (λ place. place ≡ first_broken order.now f.now.clauses) }
 {
-    match workers.least_place(f.len(), &|p| breaks(f, order, places, p))? {
-        Some(_) => Ok(first_broken(f, order, places)),
+    let places = places_of(alloc, f.vars(), order)?;
+    match workers.least_place(f.len(), &|p| breaks(f, order, &places, p))? {
+        Some(_) => Ok(first_broken(f, order, &places)),
         None => Ok(order.len() + 1),
     }
 }

@@ -13,7 +13,7 @@ ghost use Rattle.check_lines.specs.Pairs.{AreNamed, AreShown, NotesLiterals, is_
 
 use check_tables::{LiteralSet, Workers};
 use lk_model::{DoneDocument, Formula, Lit, LitTable, OutOfMemory, Pair, VarSet};
-use par_parts::Gate;
+use lk_outside::Gate;
 use std::alloc::Global;
 use std::thread::Threads;
 
@@ -93,8 +93,8 @@ impl Seen {
         ensures occurring { NotesVariables n clause.now self.old.occurring self.new.occurring }
         ensures shown { NotesLiterals n clause.now position named.now self.old.shown self.new.shown }
     {
+        self.occurring.add_clause(clause);
         for l in clause {
-            self.occurring.add(l.var());
             if named[*l] == position {
                 self.shown.add(*l);
             }

@@ -19,7 +19,7 @@ ghost use Rattle.check_rounds.specs.Blocking.{AreBlocks, AreRoundSteps, AreMarke
 
 use check_tables::{Workers, occurring_at};
 use lk_model::{DoneDocument, Formula, Lit, OutOfMemory, Round, Step, VarSet};
-use par_parts::Gate;
+use lk_outside::Gate;
 use std::alloc::Global;
 use std::thread::Threads;
 

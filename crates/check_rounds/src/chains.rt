@@ -25,7 +25,7 @@ use crate::steps::{Rounds, StepPlace, number_of, round_at, step_places};
 use crate::work::Work;
 use check_tables::{Workers, kept_flags};
 use lk_model::{Formula, Lit, OutOfMemory, Round, Step, Turn};
-use par_parts::Gate;
+use lk_outside::Gate;
 use std::alloc::Global;
 use std::slice;
 use std::thread::Threads;

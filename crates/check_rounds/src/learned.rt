@@ -27,7 +27,7 @@ use crate::index::Index;
 use crate::steps::{Rounds, StepPlace, number_of, round_at, step_places};
 use check_tables::{LiteralSet, Workers, kept_flags};
 use lk_model::{Formula, Lit, OutOfMemory, Round};
-use par_parts::Gate;
+use lk_outside::Gate;
 use std::alloc::Global;
 use std::thread::Threads;
 

@@ -8,7 +8,7 @@ ghost use Rattle.lk_model.specs.Lists.{up_to};
 ghost use Rattle.check_tables.specs.Places.{AcceptsParts, AcceptsPlaces, AcceptsSpans, AreCut, Decides, Finds, FindsItems, first_answer, places_in};
 
 use lk_model::OutOfMemory;
-use par_parts::{Gate, map_halves};
+use par_halves::{Gate, map_halves};
 use std::alloc::Global;
 use std::marker::Model;
 use std::thread::Threads;

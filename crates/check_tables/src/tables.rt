@@ -1,13 +1,11 @@
 //! Tables of positions and of variables.
-ghost use Rattle.std.specs.Prelude.{◌≡◌, ◌-◌, length, slice_index, IfOk, IsTrue};
-ghost use Rattle.std.specs.List.{list_all};
+ghost use Rattle.std.specs.Prelude.{◌≡◌, ◌-◌, slice_index, IfOk, IsTrue};
 ghost use Rattle.lk_model.specs.Lists.{rises_within};
-ghost use Rattle.lk_model.specs.Formulas.Literal.{is_literal};
 ghost use Rattle.lk_model.specs.Formulas.Lean.{are_positions};
 ghost use Rattle.check_tables.specs.Flags.{AreKeptFlags};
-ghost use Rattle.check_tables.specs.Occurring.{AreOccurring, NotesVariables};
+ghost use Rattle.check_tables.specs.Occurring.{AreOccurring};
 
-use lk_model::{Formula, Lit, OutOfMemory, VarSet};
+use lk_model::{Formula, OutOfMemory, VarSet};
 use std::alloc::Global;
 
 /// Which of the positions from 1 to m are kept: at the place p - 1, counted from 0, whether p is in the
@@ -30,21 +28,8 @@ pub fn occurring_at(alloc: Global, f: &Formula, kept: &[u32]) -> Result<VarSet, 
     ensures { IfOk result (λ set. AreOccurring f.now kept.now set) }
 {
     let mut set = VarSet::new(alloc, f.vars())?;
-    for p in kept {
-        add_variables(f.vars(), f.clause(*p), &mut set);
-    }
+    set.add_clauses(f, kept);
     Ok(set)
-}
-
-/// Puts the variables of a clause into a set.
-fn add_variables(n: u32, clause: &[Lit], set: &mut VarSet)
-    requires clause { IsTrue (list_all (is_literal n) clause.now) }
-    requires size { length set.old ≡ n }
-    ensures { NotesVariables n clause.now set.old set.new }
-{
-    for l in clause {
-        set.add(l.var());
-    }
 }
 
 /// The number of a position or variable, which counts from 1, in a table; 0 outside of it.

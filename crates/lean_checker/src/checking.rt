@@ -16,15 +16,14 @@ use crate::protected::{protected_set, without_protected};
 use crate::shared::{kept_clause, not_autarky, not_exactly_removed};
 use crate::unfinished::open_failure;
 use crate::verdict::Verdict;
-use check_lines::{
-    bad_balance, bad_dual, bad_order, bad_owner, bad_pair, bad_row, bad_sign, bad_stage, bad_unit,
-};
+use check_linear::{bad_balance, bad_dual, bad_sign, bad_stage, bad_unit};
+use check_lines::{bad_order, bad_owner, bad_pair, bad_row};
 use check_tables::Workers;
 use lk_model::{
     Body, Document, DoneDocument, Dual, Formula, Kind, Lit, MatchRow, OutOfMemory, Own, Pair,
     Stage, Unit, Why,
 };
-use par_parts::Gate;
+use lk_outside::Gate;
 use std::alloc::Global;
 use std::thread::Threads;
 

@@ -11,7 +11,7 @@ use crate::common::failure;
 use check_rounds::{bad_step, blocks_of, not_blocked};
 use check_tables::Workers;
 use lk_model::{DoneDocument, Formula, Kind, OutOfMemory, Round, Why};
-use par_parts::Gate;
+use lk_outside::Gate;
 use std::alloc::Global;
 use std::thread::Threads;
 

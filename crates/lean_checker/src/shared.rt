@@ -11,7 +11,7 @@ ghost use Rattle.check_tables.specs.Flags.{AreKeptFlags};
 use crate::common::{is_misplaced, is_same_list};
 use check_tables::{Workers, number_at};
 use lk_model::{DoneDocument, Formula, OutOfMemory};
-use par_parts::Gate;
+use lk_outside::Gate;
 use partial_assign::Partial;
 use std::thread::Threads;
 

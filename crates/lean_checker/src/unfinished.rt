@@ -21,7 +21,7 @@ use crate::protected::without_protected;
 use check_rounds::{bad_step, blocks_of, not_learned};
 use check_tables::Workers;
 use lk_model::{Formula, Kind, OpenDocument, OutOfMemory, Round, Step, Why};
-use par_parts::Gate;
+use lk_outside::Gate;
 use std::alloc::Global;
 use std::thread::Threads;
 

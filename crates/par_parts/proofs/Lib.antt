@@ -5,4 +5,3 @@ pub mod Passing
 pub mod Numbers
 pub mod PartLists
 pub mod GroupLists
-pub mod HalfResults

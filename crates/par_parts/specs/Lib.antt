@@ -1,4 +1,3 @@
 pub mod Positions
 pub mod Numbering
 pub mod Groups
-pub mod Answering

@@ -1,13 +1,11 @@
-//! The parts of a formula, groups of them, and work on a list in halves.
+//! The parts of a formula, and groups of them.
 #![tactic(auto)]
 
 mod gathering;
 mod grouping;
-mod halves;
 mod incidence;
 mod search;
 
 pub use gathering::parts;
 pub use grouping::part_groups;
-pub use halves::map_halves;
-pub use lk_outside::Gate;
+pub use par_halves::{Gate, map_halves};

@@ -1,8 +1,9 @@
-use Rattle.std.proofs.Common.{◌≡◌, ◌∙◌, ℕ, ◌+◌, ◌-◌, ◌<◌, length, get_or, max, arith, Some, None}
-use Rattle.std.proofs.lemmas.List.{get_or_read}
+use Rattle.std.proofs.Common.{◌≡◌, ◌∙◌, ℕ, ◌+◌, ◌-◌, ◌<◌, List, length, get_or, drop, max, sym, subst, arith, rules, Some, None}
+use Rattle.std.proofs.lemmas.List.{get_or_read, drop_all}
 use Rattle.lk_model.specs.declared.document.MatchRow.{MatchRow}
-use Rattle.kernel_laws.proofs.FirstTables.{first_more}
-use Rattle.check_lines.proofs.MatchingChecks.{row_within, bounds_more}
+use Rattle.kernel_laws.proofs.FirstTables.{first_none, first_more}
+use Rattle.check_lines.specs.Matching.{AreRows, AreFirstRows, AreRankBounds}
+use Rattle.check_lines.proofs.MatchingChecks.{row_within, bounds_none, bounds_more}
 use Rattle.check_lines.proofs.matching.rows_of.Goals as goal
 
 -- what stands where there is no row
@@ -58,4 +59,32 @@ loop-i-preserved c =
       of_variable = first_more c.args.n (λ (r : MatchRow). r.var) (λ (r : MatchRow). Some r) None None rows i c.loop-i.i no_row c.loop-i.of_variable.items next inside row.var_first row.var_last c.loop-i.invariant.of_variable;
       first = first_more c.args.m (λ (r : MatchRow). r.own) (λ (r : MatchRow). r.var) 0 c.args.n rows i c.loop-i.i no_row c.loop-i.first.items next inside row.own_first row.own_last c.loop-i.invariant.first;
       rank_bound = bounds_more c.args.m rows i c.loop-i.i no_row c.loop-i.rank_bound.items c.max.result next inside row.own_first row.own_last bound c.loop-i.invariant.rank_bound;
+    }
+
+pub loop-i-init : goal.loop-i-init
+loop-i-init c =
+    let m = c.args.m in
+    let n = c.args.n in
+    let rows = c.args.lines.now in
+    let of_variable = c.in_ok-of_variable.of_variable.items in
+    let first = c.in_ok-first.first.items in
+    let rank_bound = c.in_ok-rank_bound.rank_bound.items in
+    let none = sym (drop_all (length rows) rows (omega arith)) in
+    record {
+      of_variable = subst (λ (rs : List MatchRow). AreRows n rs of_variable) none
+          (first_none n (λ (r : MatchRow). r.var) (λ (r : MatchRow). Some r) None None of_variable (c.in_ok-of_variable.ensures.items_if_clones_equal (λ y e. search rules)));
+      first = subst (λ (rs : List MatchRow). AreFirstRows m n rs first) none (first_none m (λ (r : MatchRow). r.own) (λ (r : MatchRow). r.var) 0 n first (c.in_ok-first.ensures.items_if_clones_equal (λ y e. e)));
+      rank_bound = subst (λ (rs : List MatchRow). AreRankBounds m rs rank_bound) none (bounds_none m rank_bound (c.in_ok-rank_bound.ensures.items_if_clones_equal (λ y e. e)));
+    }
+
+pub returns : goal.returns
+returns c =
+    let m = c.args.m in
+    let n = c.args.n in
+    let rows = c.args.lines.now in
+    let none : c.loop-i.i ≡ 0 = omega (arith, c.loop-i-test.false) in
+    record {
+      of_variable = subst (λ (k : ℕ). AreRows n (drop k rows) c.loop-i.of_variable.items) none c.loop-i.invariant.of_variable;
+      first = subst (λ (k : ℕ). AreFirstRows m n (drop k rows) c.loop-i.first.items) none c.loop-i.invariant.first;
+      rank_bound = subst (λ (k : ℕ). AreRankBounds m (drop k rows) c.loop-i.rank_bound.items) none c.loop-i.invariant.rank_bound;
     }

@@ -17,8 +17,8 @@ is_there : (v b a : Bool) → v ≡ not b → v ≡ false → b ≡ a → a ≡ 
 is_there v true a e h same = sym same
 is_there v false a e h same = absurd (let f : ⊥ = cc in f)
 
-pub places_of-requires-clause-order : goal.places_of-requires-clause-order
-places_of-requires-clause-order g c = rw c.vars-2.ensures.value (all_front (is_literal c.args.f.now.vars) c.in_ok-sound.sound c.args.order.now c.requires.order)
+pub broken_by_any-requires-clause-order : goal.broken_by_any-requires-clause-order
+broken_by_any-requires-clause-order g c κs within = all_front (is_literal c.args.f.now.vars) c.in_ok-sound.sound c.args.order.now c.requires.order
 
 pub returns-then-broken-sound : goal.returns-then-broken-sound
 returns-then-broken-sound g c =
@@ -39,8 +39,8 @@ returns-then-not-branch g c =
           (is_missing _ _ _ w.value-is c.if-not-branch.true (w.in_ok-has_all.ensures ∙ ap (λ (set : List ℤ). list_all (contains order) set) c.as_slice-set.ensures))
     ]
 
-pub returns : goal.returns
-returns g c =
+pub returns-else-not-branch : goal.returns-else-not-branch
+returns-else-not-branch g c =
     let F = c.args.f.now in
     let d = c.args.d.now in
     let order = c.args.order.now in

@@ -7,8 +7,8 @@ use Rattle.check_lines.specs.Order.{broken_place}
 use Rattle.check_lines.proofs.OrderPlaces.{none_broken}
 use Rattle.check_lines.proofs.order.broken_by_any.Goals as goal
 
-pub returns-in-None : goal.returns-in-None
-returns-in-None g c =
+pub returns : goal.returns
+returns g c =
     let F = c.args.f.now in
     let order = c.args.order.now in
     let found = c.in_ok-least_place.ensures (λ p. nat_le (broken_place order (clause_at F p)) (length order)) (λ p b low high told. search (rules, tests)) in

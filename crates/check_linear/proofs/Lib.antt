@@ -1,0 +1,7 @@
+pub mod DualChecks
+pub mod Numbers
+pub mod StageChecks
+pub mod StageBalances
+pub mod UnitPlaces
+pub mod UnitChecks
+pub mod Clearing

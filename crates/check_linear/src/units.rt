@@ -1,0 +1,302 @@
+//! The check of the units of a linear document.
+//!
+//! One table of numbers serves all units of a range: it is filled at the variables of a unit's shares, read there, and made
+//! empty there again. So a unit takes the time of its shares' literals.
+ghost use Rattle.std.specs.Prelude.{◌≡◌, ◌≤◌, ◌<◌, ◌+◌, ◌^◌, ◌||◌, not, neg_ℤ, find, length, map, IfOk, OnOk, IsTrue};
+ghost use Rattle.std.specs.List.{list_all, list_any};
+ghost use Rattle.lk_model.specs.Lists.{is_zero, rises_within};
+ghost use Rattle.lk_model.specs.Limits.{is_in_range};
+ghost use Rattle.lk_model.specs.Formulas.Literal.{is_literal, variable};
+ghost use Rattle.lk_model.specs.Formulas.Formula.{is_formula};
+ghost use Rattle.lk_model.specs.Formulas.Lean.{are_positions};
+ghost use Rattle.lk_model.specs.Formulas.Crossed.{no_variable};
+ghost use Rattle.lk_model.specs.Documents.Form.{is_unit, is_weight};
+ghost use Rattle.lk_model.specs.Checks.LinearChecks.{bad_unit};
+ghost use Rattle.lk_model.specs.declared.document.Share.{Share};
+ghost use Rattle.lk_model.specs.declared.document.Unit.{Unit};
+ghost use Rattle.check_tables.specs.Flags.{is_flagged};
+ghost use Rattle.check_tables.specs.Places.{places_in};
+ghost use Rattle.check_linear.specs.Linear.{AreUnitPlaces, unit_numbered, is_bad_unit, AreNone, AreNumbers, ClearsNumbers, ClearsShares, numbers_by, is_unbalanced, is_unbalanced_clause, is_unbalanced_share, is_bad_unit_line};
+
+use crate::linear::{add_numbers, is_unbalanced, no_numbers};
+use check_tables::{Span, Workers, kept_flags, occurring_at};
+use lk_model::{DoneDocument, Formula, List, Lit, OutOfMemory, Share, Unit, VarSet};
+use lk_outside::Gate;
+use std::alloc::Global;
+use std::thread::Threads;
+
+/// What the units are checked by.
+#[derive(Drop)]
+struct UnitTables {
+    /// Which positions are kept.
+    kept: Vec<bool>,
+    /// The variables of the kept clauses.
+    occurring: VarSet,
+    /// For each variable the number of its unit, counted from 1, or 0.
+    numbers: Vec<usize>,
+}
+
+/// The first variable whose unit is missing, or is not wanted since the variable does not occur in the kept
+/// clauses, or has d 0, or names a position that is not kept, or whose balance is not d in the variable, or
+/// not 0 in another variable of the kept clauses; or none. The error says that memory ran out.
+pub fn bad_unit<R: Threads + Sync, G: Gate>(
+    workers: &Workers<R, G>,
+    alloc: Global,
+    f: &Formula,
+    d: &DoneDocument,
+    units: &[Unit],
+) -> Result<Option<u32>, OutOfMemory>
+    requires kept { IsTrue (are_positions f.now d.now.kept) }
+    requires rising { IsTrue (rises_within 0 f.now.vars (map (λ (u : Unit). u.var) units.now)) }
+    requires units { IsTrue (list_all (is_unit (length f.now.clauses)) units.now) }
+    ensures { IfOk result (λ place. place ≡ (bad_unit no_variable f.now d.now units.now).place) }
+{
+    let n = f.vars();
+    let kept = d.kept.as_slice();
+    let tables = UnitTables {
+        kept: kept_flags(alloc, f.len(), kept)?,
+        occurring: occurring_at(alloc, f, kept)?,
+        numbers: unit_places(alloc, n, units)?,
+    };
+    workers.least_found(n, &|span| bad_unit_in(alloc, f, &tables, units, span))
+}
+
+/// The first such variable in a range.
+fn bad_unit_in(
+    alloc: Global,
+    f: &Formula,
+    tables: &UnitTables,
+    units: &[Unit],
+    span: Span,
+) -> Result<Option<u32>, OutOfMemory>
+    requires occurring { length tables.now.occurring ≡ f.now.vars }
+    requires numbers { AreUnitPlaces f.now.vars units.now tables.now.numbers.items }
+    requires rising { IsTrue (rises_within 0 f.now.vars (map (λ (u : Unit). u.var) units.now)) }
+    requires units { IsTrue (list_all (is_unit (length f.now.clauses)) units.now) }
+    requires first { 0 < span.first }
+    requires within { span.first + span.count ≤ f.now.vars + 1 }
+    requires few { span.first + span.count < 2 ^ 32 }
+    ensures { IfOk result (λ place. place ≡ find (is_bad_unit f.now tables.now.kept.items tables.now.occurring units.now tables.now.numbers.items) (places_in span)) }
+{
+    let mut numbers = no_numbers(alloc, f.vars())?;
+    for v in span.first..span.first + span.count {
+        if is_bad_unit(alloc, f, tables, units, v, &mut numbers)? {
+            return Ok(Some(v));
+        }
+    }
+    Ok(None)
+}
+
+/// Whether the unit of a variable is missing, not wanted or bad. The table of numbers is empty before and
+/// behind.
+fn is_bad_unit(
+    alloc: Global,
+    f: &Formula,
+    tables: &UnitTables,
+    units: &[Unit],
+    v: u32,
+    numbers: &mut Vec<List<i128>>,
+) -> Result<bool, OutOfMemory>
+    requires occurring { length tables.now.occurring ≡ f.now.vars }
+    requires numbers { AreUnitPlaces f.now.vars units.now tables.now.numbers.items }
+    requires rising { IsTrue (rises_within 0 f.now.vars (map (λ (u : Unit). u.var) units.now)) }
+    requires units { IsTrue (list_all (is_unit (length f.now.clauses)) units.now) }
+    requires first { 0 < v }
+    requires last { v ≤ f.now.vars }
+    requires none { AreNone f.now.vars numbers.old.items }
+    ensures bad { IfOk result (λ bad. bad ≡ is_bad_unit f.now tables.now.kept.items tables.now.occurring units.now tables.now.numbers.items v) }
+    ensures none { OnOk result (AreNone f.now.vars numbers.new.items) }
+{
+    let k = tables.numbers[v as usize - 1];
+    if k == 0 {
+        return Ok(tables.occurring.has(v));
+    }
+    if !tables.occurring.has(v) {
+        return Ok(true);
+    }
+    let unit = unit_numbered(units, k);
+    is_bad_line(
+        alloc,
+        f,
+        tables.kept.as_slice(),
+        &tables.occurring,
+        unit,
+        numbers,
+    )
+}
+
+/// The unit of a number.
+fn unit_numbered(units: &[Unit], k: usize) -> &Unit
+    requires first { 0 < k }
+    requires last { k ≤ length units.now }
+    ensures { result.now ≡ unit_numbered units.now k }
+{
+    &units[k - 1]
+}
+
+/// For each variable up to n the number of its unit, counted from 1, or 0.
+fn unit_places(alloc: Global, n: u32, units: &[Unit]) -> Result<Vec<usize>, OutOfMemory>
+    requires { IsTrue (rises_within 0 n (map (λ (u : Unit). u.var) units.now)) }
+    ensures { IfOk result (λ table. AreUnitPlaces n units.now table.items) }
+{
+    let mut table = vec![in alloc; 0usize; n as usize]?;
+    for i in (0..units.len()).rev() {
+        let unit = &units[i];
+        table[unit.var as usize - 1] = i + 1;
+    }
+    Ok(table)
+}
+
+/// Whether a unit is bad. The table of numbers is empty before and behind.
+fn is_bad_line(
+    alloc: Global,
+    f: &Formula,
+    kept: &[bool],
+    occurring: &VarSet,
+    unit: &Unit,
+    numbers: &mut Vec<List<i128>>,
+) -> Result<bool, OutOfMemory>
+    requires first { 0 < unit.now.var }
+    requires last { unit.now.var ≤ f.now.vars }
+    requires unit { IsTrue (is_unit (length f.now.clauses) unit.now) }
+    requires occurring { length occurring.now ≡ f.now.vars }
+    requires none { AreNone f.now.vars numbers.old.items }
+    ensures bad { IfOk result (λ bad. bad ≡ is_bad_unit_line f.now kept.now occurring.now unit.now) }
+    ensures none { OnOk result (AreNone f.now.vars numbers.new.items) }
+{
+    if is_void(kept, unit) {
+        return Ok(true);
+    }
+    let v = unit.var as usize - 1;
+    fill(f, unit.shares.as_slice(), numbers)?;
+    numbers[v].push(opposite(unit.d))?;
+    let bad = is_out_of_balance(f, occurring, numbers, unit);
+    clear(alloc, f, unit.shares.as_slice(), numbers);
+    numbers[v] = List::new(alloc);
+    Ok(bad)
+}
+
+/// The number with the other sign.
+fn opposite(y: i128) -> i128
+    requires { IsTrue (is_in_range y) }
+    ensures { result ≡ neg_ℤ y }
+{
+    -y
+}
+
+/// Whether d is 0, or a share is of a clause that is not kept.
+fn is_void(kept: &[bool], unit: &Unit) -> bool
+    ensures { result ≡ (is_zero unit.now.d || list_any (λ (s : Share). not (is_flagged kept.now s.pos)) unit.now.shares) }
+{
+    unit.d == 0 || names_removed(kept, unit.shares.as_slice())
+}
+
+/// Whether the variable of a unit, or one of a share's clause, is out of balance.
+fn is_out_of_balance(f: &Formula, occurring: &VarSet, table: &[List<i128>], unit: &Unit) -> bool
+    requires first { 0 < unit.now.var }
+    requires last { unit.now.var ≤ f.now.vars }
+    requires unit { IsTrue (is_unit (length f.now.clauses) unit.now) }
+    requires occurring { length occurring.now ≡ f.now.vars }
+    requires table { length table.now ≡ f.now.vars }
+    ensures { result ≡ (is_unbalanced occurring.now table.now unit.now.var || is_unbalanced_share f.now occurring.now table.now unit.now.shares) }
+{
+    is_unbalanced(occurring, table, unit.var)
+        || is_unbalanced_share(f, occurring, table, unit.shares.as_slice())
+}
+
+/// Whether a share is of a clause that is not kept.
+fn names_removed(kept: &[bool], shares: &[Share]) -> bool
+    ensures { result ≡ list_any (λ (s : Share). not (is_flagged kept.now s.pos)) shares.now }
+{
+    shares.iter().any(|s| !is_flagged(kept, s.pos))
+}
+
+/// The flag of a position.
+fn is_flagged(kept: &[bool], p: u32) -> bool
+    ensures { result ≡ is_flagged kept.now p }
+{
+    match kept.get((p as usize).saturating_sub(1)) {
+        Some(flag) => *flag,
+        None => false,
+    }
+}
+
+/// Gives each variable its numbers by shares.
+fn fill(f: &Formula, shares: &[Share], numbers: &mut Vec<List<i128>>) -> Result<(), OutOfMemory>
+    requires rising { IsTrue (rises_within 0 (length f.now.clauses) (map (λ (s : Share). s.pos) shares.now)) }
+    requires weights { IsTrue (list_all (λ (s : Share). is_weight s.z) shares.now) }
+    requires none { AreNone f.now.vars numbers.old.items }
+    ensures filled { OnOk result (AreNumbers f.now (numbers_by shares.now) numbers.new.items) }
+    ensures formula { IsTrue (is_formula f.now) }
+{
+    let n = f.vars();
+    for i in 0..shares.len() {
+        let share = shares[i];
+        add_numbers(numbers, n, f.clause(share.pos), share.z)?;
+    }
+    Ok(())
+}
+
+/// Whether a variable of a share's clause is out of balance.
+fn is_unbalanced_share(
+    f: &Formula,
+    occurring: &VarSet,
+    table: &[List<i128>],
+    shares: &[Share],
+) -> bool
+    requires rising { IsTrue (rises_within 0 (length f.now.clauses) (map (λ (s : Share). s.pos) shares.now)) }
+    requires occurring { length occurring.now ≡ f.now.vars }
+    requires table { length table.now ≡ f.now.vars }
+    ensures { result ≡ is_unbalanced_share f.now occurring.now table.now shares.now }
+{
+    for i in 0..shares.len() {
+        if is_unbalanced_clause(f.vars(), occurring, table, f.clause(shares[i].pos)) {
+            return true;
+        }
+    }
+    false
+}
+
+/// Whether a variable of a clause is out of balance.
+fn is_unbalanced_clause(n: u32, occurring: &VarSet, table: &[List<i128>], clause: &[Lit]) -> bool
+    requires clause { IsTrue (list_all (is_literal n) clause.now) }
+    requires occurring { length occurring.now ≡ n }
+    requires table { length table.now ≡ n }
+    ensures { result ≡ is_unbalanced_clause occurring.now table.now clause.now }
+{
+    clause
+        .iter()
+        .any(|l| is_unbalanced_literal(n, occurring, table, *l))
+}
+
+/// Whether the variable of a literal is out of balance.
+fn is_unbalanced_literal(n: u32, occurring: &VarSet, table: &[List<i128>], l: Lit) -> bool
+    requires literal { IsTrue (is_literal n l) }
+    requires occurring { length occurring.now ≡ n }
+    requires table { length table.now ≡ n }
+    ensures { result ≡ is_unbalanced occurring.now table.now (variable l) }
+{
+    is_unbalanced(occurring, table, l.var())
+}
+
+/// Takes the numbers of the variables of shares' clauses away.
+fn clear(alloc: Global, f: &Formula, shares: &[Share], numbers: &mut Vec<List<i128>>)
+    requires rising { IsTrue (rises_within 0 (length f.now.clauses) (map (λ (s : Share). s.pos) shares.now)) }
+    requires size { length numbers.old.items ≡ f.now.vars }
+    ensures { ClearsShares f.now shares.now numbers.old.items numbers.new.items }
+{
+    for i in 0..shares.len() {
+        clear_clause(alloc, f.vars(), f.clause(shares[i].pos), numbers);
+    }
+}
+
+/// Takes the numbers of the variables of a clause away.
+fn clear_clause(alloc: Global, n: u32, clause: &[Lit], numbers: &mut Vec<List<i128>>)
+    requires clause { IsTrue (list_all (is_literal n) clause.now) }
+    requires size { length numbers.old.items ≡ n }
+    ensures { ClearsNumbers n clause.now numbers.old.items numbers.new.items }
+{
+    for l in clause {
+        numbers[l.var() as usize - 1] = List::new(alloc);
+    }
+}
