@@ -1,10 +1,11 @@
 -- The table of the rounds that block the variables, and what is blocked before a round.
-use Rattle.std.proofs.Common.{◌≡◌, ◌∙◌, ℕ, zero, suc, ◌+◌, ◌-◌, ◌<◌, ◌≤◌, Bool, true, false, cond, not, ◌&&◌, ◌||◌, ◌==◌, nat_lt, List, [], ◌∷◌, length, get_or, map, take, drop, refl, sym, ap, subst, arith, ℤ, inl, inr, slice_index, slice_index_or}
-use Rattle.std.specs.Prelude.{find, replicate}
+use Rattle.std.proofs.Common.{◌≡◌, ◌≢◌, ◌∙◌, ℕ, zero, suc, ◌+◌, ◌-◌, ◌<◌, ◌≤◌, Bool, true, false, cond, not, ◌&&◌, ◌||◌, ◌==◌, nat_lt, List, [], ◌∷◌, length, get_or, map, take, drop, refl, sym, ap, subst, arith, ℤ, inl, inr, slice_index, slice_index_or, get_or-set_same, get_or-set_other}
+use Rattle.std.specs.Prelude.{find, replicate, slice_set}
+use Rattle.std.proofs.Math.Bool.{or-false}
 use Rattle.std.specs.List.{list_any, flat_map}
-use Rattle.std.proofs.lemmas.Bool.{cases_Bool, eqb-true, lt-ltb, le-ltb, ltb-true, ltb-false}
-use Rattle.std.proofs.lemmas.List.{get_or-replicate, length-replicate, drop_more, drop_all, take_all, get_or_default, get_or_past}
-use Rattle.std.proofs.lemmas.List.Folds.{list_any-append}
+use Rattle.std.proofs.lemmas.Bool.{cases_Bool, cases_eq, cond-true, eq-eqb, ne_eqb, eqb-true, lt-ltb, le-ltb, ltb-true, ltb-false}
+use Rattle.std.proofs.lemmas.List.{get_or-replicate, length-replicate, length-set, drop_more, drop_all, take_all, get_or_default, get_or_past}
+use Rattle.std.proofs.lemmas.List.Folds.{list_any-append, list_any_more}
 use Rattle.std.proofs.lemmas.Map.Views.{any-filter_same}
 use Rattle.lk_model.specs.Lists.{among}
 use Rattle.lk_model.specs.Formulas.Literal.{variable, mentions}
@@ -14,10 +15,10 @@ use Rattle.lk_model.specs.Chains.Rounds.{is_refutation, used_positions, blocked_
 use Rattle.lk_model.specs.Checks.RoundChecks.{not_blocked}
 use Rattle.lk_model.specs.declared.document.Round.{Round}
 use Rattle.lk_model.specs.declared.document.DoneDocument.{DoneDocument}
-use Rattle.lk_model.proofs.Booleans.{and_true}
+use Rattle.lk_model.proofs.Booleans.{and_true, or_right}
 use Rattle.lk_model.proofs.Variables.{variable_bound, position_with}
 use Rattle.check_tables.specs.Occurring.{AreOccurring}
-use Rattle.check_rounds.specs.Blocking.{blocks, first_block, AreBlocks, is_before, is_unblocked, BlocksRound}
+use Rattle.check_rounds.specs.Blocking.{blocks, first_block, AreBlocks, is_before, is_unblocked, BlocksClause, BlocksRound}
 use Rattle.check_tables.proofs.KeptFlags.{find_to}
 
 -- WHAT IS BLOCKED AFTER ROUNDS
@@ -136,6 +137,26 @@ blocks_none F rounds table e = rw (drop_all (length rounds) rounds (omega arith)
   size = ap length e ∙ length-replicate F.vars (length rounds);
   told = λ v low high. ap (λ (ns : List ℕ). get_or ns (v - 1) 0) e ∙ get_or-replicate F.vars (v - 1) (length rounds) 0 (omega (arith, low, high));
 })
+
+-- the variable of one literal more of a clause
+pub literal_blocked : (n k : ℕ) (clause : List ℤ) (i : ℕ) (l : ℤ) (before mid : List ℕ) → i < length clause → l ≡ get_or clause i l → 1 ≤ variable l → variable l ≤ length mid
+    → BlocksClause n k (take i clause) before mid → BlocksClause n k (take (i + 1) clause) before (slice_set mid (variable l - 1) k)
+literal_blocked n k clause i l before mid inside is low high h = record {
+  size = length-set mid (variable l - 1) k ∙ h.size;
+  told = λ v first last.
+      let more : mentions (take (i + 1) clause) v ≡ (mentions (take i clause) v || variable l == v) =
+      list_any_more (λ (m : ℤ). variable m == v) clause i l inside ∙ ap (λ (m : ℤ). mentions (take i clause) v || variable m == v) (sym is) in
+      elim (cases_eq (variable l) v) [
+        | inl same ↦
+            ap (λ (m : ℕ). get_or (slice_set mid (variable l - 1) k) (m - 1) 0) (sym same)
+            ∙ get_or-set_same mid (variable l - 1) k 0 (omega (arith, low, high))
+            ∙ sym (cond-true (mentions (take (i + 1) clause) v) k (get_or before (v - 1) 0) (more ∙ or_right (mentions (take i clause) v) (variable l == v) (eq-eqb (variable l) v same)))
+        | inr other ↦
+            let apart : v - 1 ≢ variable l - 1 = λ e. other (omega (arith, e, low, first)) in
+            get_or-set_other mid (variable l - 1) (v - 1) k 0 apart ∙ h.told v first last
+            ∙ sym (ap (λ (b : Bool). cond b k (get_or before (v - 1) 0)) (more ∙ ap (λ (b : Bool). mentions (take i clause) v || b) (ne_eqb (variable l) v other) ∙ or-false (mentions (take i clause) v)))
+      ];
+}
 
 -- one round more before the others
 pub blocks_more : (F : Cnf) (rounds : List Round) (i j : ℕ) (r : Round) (before after : List ℕ) → j ≡ i + 1 → i < length rounds → r ≡ get_or rounds i r → BlocksRound F i r before after

@@ -184,6 +184,10 @@ unstated_is from s e = rw e refl
 pub one_step : (steps : List Step) (i : ℕ) (s t : Step) → i < length steps → s ≡ get_or steps i s → t ≡ get_or steps i t → s ≡ t
 one_step steps i s t lt is it = is ∙ get_or_default steps i s t lt ∙ sym it
 
+-- a turn with a number that stands for nothing
+pub turn_unnamed : (n : ℕ) (c : List ℤ) (t : ℤ) (o : Option (List ℤ)) (w : Work) → o ≡ None → IsWork n c w → IsMade n (option_and_then (resolvent t c) o) false w
+turn_unnamed n c t o w is h = rw is (refl, (c, h))
+
 -- a turn that can be made
 pub turn_made : (n : ℕ) (c d : List ℤ) (t : ℤ) (o : Option (List ℤ)) (w : Work) → o ≡ Some d → contains c t ≡ true → contains d (complement t) ≡ true
     → IsWork n (without c t ++ without d (complement t)) w → IsMade n (option_and_then (resolvent t c) o) true w

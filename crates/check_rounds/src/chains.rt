@@ -112,9 +112,23 @@ fn bad_step_in(
     ensures { IfOk result (λ place. place ≡ first_step misstates over.now places.now) }
 {
     let mut work = Work::new(alloc, over.formula.vars())?;
+    first_misstated(over, places, &mut work)
+}
+
+/// The same, by a work that is empty before.
+fn first_misstated(
+    over: &Rounds,
+    places: &[StepPlace],
+    work: &mut Work,
+) -> Result<Option<u64>, OutOfMemory>
+    requires rounds { AreRounds over.now }
+    requires places { IsTrue (list_all (is_step_place over.now.rounds.now) places.now) }
+    requires work { IsWork over.now.formula.now.vars [] work.old }
+    ensures { IfOk result (λ place. place ≡ first_step misstates over.now places.now) }
+{
     for j in 0..places.len() {
         let at = places[j];
-        if !states_its_clause(&round_at(over, at.round), at.index, &mut work)? {
+        if !states_its_clause(&round_at(over, at.round), at.index, work)? {
             return Ok(Some(number_of(over, at)));
         }
     }

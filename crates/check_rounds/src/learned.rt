@@ -16,7 +16,7 @@ ghost use Rattle.lk_model.specs.declared.document.Step.{Step as AStep};
 ghost use Rattle.lk_model.specs.declared.document.Round.{Round as ARound};
 ghost use Rattle.check_rounds.specs.Blocking.{AreBlocks, is_before};
 ghost use Rattle.check_rounds.specs.Chains.{IsRoundAt, is_unlearned, step_behind};
-ghost use Rattle.check_rounds.specs.Index.{list_of};
+ghost use Rattle.check_rounds.specs.Index.{list_of, AreClausesFound, AreRoundsFound};
 ghost use Rattle.check_rounds.specs.Learned.{AreKnown, IsKnown, are_open_but_last, is_clause_within, is_step_within};
 ghost use Rattle.check_tables.specs.LiteralSets.{IsSetOf, has_literal};
 ghost use Rattle.check_rounds.specs.Steps.{AreRounds, first_step, is_step_place};
@@ -38,6 +38,28 @@ struct Known {
     steps: Index,
 }
 
+impl Known {
+    /// The clauses of a formula, and those of the steps of rounds.
+    fn of(
+        alloc: Global,
+        f: &Formula,
+        rounds: &[Round],
+        blocks: &[usize],
+    ) -> Result<Known, OutOfMemory>
+        requires blocks { length blocks.now ≡ f.now.vars }
+        requires steps { IsTrue (are_steps f.now.vars (length f.now.clauses) (steps_of rounds.now)) }
+        ensures clauses_size { IfOk result (λ known. length known.clauses ≡ 2 * f.now.vars + 2) }
+        ensures clauses { IfOk result (λ known. AreClausesFound blocks.now known.clauses f.now (length f.now.clauses)) }
+        ensures steps_size { IfOk result (λ known. length known.steps ≡ 2 * f.now.vars + 2) }
+        ensures steps { IfOk result (λ known. AreRoundsFound blocks.now known.steps rounds.now) }
+    {
+        Ok(Known {
+            clauses: Index::of_formula(alloc, f, blocks)?,
+            steps: Index::of_rounds(alloc, f, rounds, blocks)?,
+        })
+    }
+}
+
 /// The number of the first step whose clause is not empty and not learned: it holds two complementary
 /// literals, or contains a clause of the formula of which a literal is left, or one of an earlier step of
 /// its round; or none. What is blocked before a round is in the table of `blocks_of`. The error says that
@@ -57,11 +79,8 @@ pub fn not_learned<'a, R: Threads + Sync, G: Gate>(
     ensures { IfOk result (λ place. place ≡ (not_learned no_variable f.now part.now rounds.now).place) }
 {
     let flags = kept_flags(alloc, f.len(), part)?;
-    let known = Known {
-        clauses: Index::of_formula(alloc, f, blocks)?,
-        steps: Index::of_rounds(alloc, f, rounds, blocks)?,
-    };
     let places = step_places(alloc, rounds)?;
+    let known = Known::of(alloc, f, rounds, blocks)?;
     let over = Rounds {
         formula: f,
         part,

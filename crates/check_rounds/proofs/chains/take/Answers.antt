@@ -4,7 +4,7 @@ use Rattle.lk_model.specs.Formulas.Crossed.{crossed_out}
 use Rattle.lk_model.specs.Chains.Chain.{clause_named, without}
 use Rattle.check_rounds.specs.Blocking.{is_before}
 use Rattle.check_rounds.specs.Chains.{IsWork, premises_at, round_of}
-use Rattle.check_rounds.proofs.ChainChecks.{turn_made}
+use Rattle.check_rounds.proofs.ChainChecks.{turn_made, turn_unnamed}
 use Rattle.check_rounds.proofs.chains.take.Goals as goal
 
 pub returns : goal.returns
@@ -27,3 +27,7 @@ returns c clause h =
     (subst (λ (l : ℤ). IsWork c.vars.result (without clause t ++ without other l) c.add_others.new.self) c.negated-against.ensures
     (subst (λ j. IsWork c.vars.result (without clause t ++ without (crossed_out (is_before j over.blocked_at.now) c.in-Some.clause.now) c.negated-against.result) c.add_others.new.self) c.round_of-k.ensures added)) in
     turn_made n clause other t (clause_named (premises_at over c.args.i) k) c.add_others.new.self c.in-Some.ensures.some held against there
+
+pub returns-in_default : goal.returns-in_default
+returns-in_default c = λ clause h.
+    turn_unnamed c.args.over.now.formula.now.vars clause c.args.turn.lit (clause_named (premises_at c.args.over.now c.args.i) c.args.turn.with) c.args.work.now (c.named.ensures.none c.in_default.is) h

@@ -20,7 +20,7 @@ first_found-requires-after_bounds g c κs within = λ part inside _ _ _ _ _.
     let places = part_places c.args.rounds.now part.now c.as_slice-2.result.now (c.as_slice-2.ensures.value ∙ c.in_ok-places.ensures) inside in (
       h,
       (
-        record { part = c.requires.part; rounds_open = c.requires.rounds; clauses_size = c.in_ok-of_formula.ensures.size; steps_size = c.in_ok-of_rounds.ensures.size; clauses = c.in_ok-of_formula.ensures.found; steps = c.in_ok-of_rounds.ensures.found },
+        record { part = c.requires.part; rounds_open = c.requires.rounds; clauses_size = c.in_ok-known.ensures.clauses_size; steps_size = c.in_ok-known.ensures.steps_size; clauses = c.in_ok-known.ensures.clauses; steps = c.in_ok-known.ensures.steps },
         places,
       ),
     )

@@ -1,10 +1,12 @@
 use Rattle.std.proofs.Common.{◌≡◌, ◌∙◌, ◌<◌, [], ap, sym, subst, arith, Some, take, length, not, false, true}
+use Rattle.std.proofs.lemmas.List.{drop_all}
 use Rattle.lk_model.specs.Formulas.Formula.{Cnf}
 use Rattle.lk_model.specs.Chains.Chain.{states_its_clause}
 use Rattle.check_rounds.specs.Chains.{IsWork, premises_at, step_behind, misstates}
-use Rattle.check_rounds.specs.Steps.{step_at}
+use Rattle.check_rounds.specs.Steps.{first_step, is_step_place, step_at}
+use Rattle.lk_model.proofs.ListTests.{all_at}
 use Rattle.check_rounds.proofs.StepPlaces.{place_at, place_of, place_first, place_later, round_is, step_in, step_reads, step_is}
-use Rattle.check_rounds.proofs.chains.bad_step_in.Goals as goal
+use Rattle.check_rounds.proofs.chains.first_misstated.Goals as goal
 
 pub states_its_clause-requires-clause-round : goal.states_its_clause-requires-clause-round
 states_its_clause-requires-clause-round c =
@@ -42,3 +44,20 @@ loop-j-preserved c =
       work = subst (λ (G : Cnf). IsWork G.vars [] c.states_its_clause.new.work) c.round_at.ensures.formula c.in_ok-states_its_clause.ensures.work;
       rest = sym (place_later misstates over places j at (omega arith) w.is (ap misstates (sym same) ∙ ap not good)) ∙ c.loop-j.invariant.rest;
     }
+
+pub states_its_clause-requires-clause-place : goal.states_its_clause-requires-clause-place
+states_its_clause-requires-clause-place c =
+    let w = place_of c.args.over.now.rounds.now c.args.places.now c.loop-j.j c.requires.places (omega arith) in
+    omega (arith, w.index, ap length c.round_at.ensures.steps)
+
+pub states_its_clause-requires-clause-work : goal.states_its_clause-requires-clause-work
+states_its_clause-requires-clause-work c = subst (λ (G : Cnf). IsWork G.vars [] c.loop-j.work) (sym c.round_at.ensures.formula) c.loop-j.invariant.work
+
+pub round_at-requires : goal.round_at-requires
+round_at-requires c = (place_of c.args.over.now.rounds.now c.args.places.now c.loop-j.j c.requires.places (omega arith)).round
+
+pub number_of-requires : goal.number_of-requires
+number_of-requires c = all_at (is_step_place c.args.over.now.rounds.now) c.args.places.now c.loop-j.j _ c.requires.places c.loop-j-test.true
+
+pub returns : goal.returns
+returns c = sym (ap (first_step misstates c.args.over.now) (drop_all c.loop-j.j c.args.places.now (omega arith))) ∙ c.loop-j.invariant.rest

@@ -1,7 +1,7 @@
 use Rattle.std.proofs.Common.{◌≡◌, [], drop}
 use Rattle.check_rounds.specs.Chains.{IsWork, misstates}
 use Rattle.check_rounds.specs.Steps.{first_step}
-use Rattle.check_rounds.proofs.chains.bad_step_in.Given as goal
+use Rattle.check_rounds.proofs.chains.first_misstated.Given as goal
 
 -- the first bad step is one of those that are left
 abbrev pub invariant-loop-j : goal.invariant-loop-j
