@@ -1,8 +1,8 @@
 //! Reading documents.
-ghost use Rattle.std.specs.Prelude.{◌≡◌, ◌<◌, IfOk, IfErr, false, length};
+ghost use Rattle.std.specs.Prelude.{◌≡◌, ◌<◌, ◌==◌, ◌&&◌, IfOk, IfErr, false, length};
 ghost use Rattle.lk_model.specs.declared.document.Document.TheVariants.{Done, Unfinished};
 ghost use Rattle.cert_text.specs.Parts.{is_finished};
-ghost use Rattle.cert_text.specs.Drafts.{done_by, open_by, finished, fresh_draft, lines_read};
+ghost use Rattle.cert_text.specs.Drafts.{clause_count, document_by, done_by, open_by, finished, fresh_draft, is_at_clauses, lines_read};
 ghost use Rattle.cert_text.specs.Completing.{IsCompletedBy, IsRead};
 ghost use Rattle.lk_model.specs.Documents.Reading.{IsTextOf};
 ghost use Rattle.cert_text.specs.ReadTexts.{IsStopAt};
@@ -51,8 +51,8 @@ pub fn read(alloc: Global, bytes: &[u8]) -> Result<Document, ReadStop>
     ensures stop { IfErr result (IsStopAt bytes.now) }
 {
     let reader = DocumentReader {
-        draft: fresh(alloc)?,
         growing: OpenClause::new(alloc, 0)?,
+        draft: fresh(alloc)?,
     };
     read_lines(alloc, reader, bytes)
 }
@@ -61,16 +61,28 @@ pub fn read(alloc: Global, bytes: &[u8]) -> Result<Document, ReadStop>
 fn finish(draft: Draft) -> Result<Option<Document>, OutOfMemory>
     ensures { IfOk result (λ document. document ≡ finished draft) }
 {
-    if draft.due != LineDue::Clauses {
-        return Ok(None);
-    }
-    if draft.texts.len() as usize != clause_count(&draft) {
-        return Ok(None);
-    }
-    if is_finished(&draft.part) {
-        Ok(Some(done_document(draft)?))
+    if has_ended(&draft) {
+        Ok(Some(document_of(draft)?))
     } else {
-        Ok(Some(open_document(draft)?))
+        Ok(None)
+    }
+}
+
+/// Whether all lines of a draft were read.
+fn has_ended(draft: &Draft) -> bool
+    ensures { result ≡ (is_at_clauses draft.now.due && length draft.now.texts.clauses == clause_count draft.now) }
+{
+    draft.due == LineDue::Clauses && draft.texts.len() as usize == clause_count(draft)
+}
+
+/// The document of a draft whose lines were all read.
+fn document_of(draft: Draft) -> Result<Document, OutOfMemory>
+    ensures { IfOk result (λ document. document ≡ document_by draft) }
+{
+    if is_finished(&draft.part) {
+        done_document(draft)
+    } else {
+        open_document(draft)
     }
 }
 
