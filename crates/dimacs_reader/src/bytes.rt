@@ -4,7 +4,7 @@ ghost use Rattle.std.specs.Char.{is_ascii_digit};
 ghost use Rattle.dimacs_reader.specs.Bytes.{IsOfKind};
 
 /// What a byte is in a text.
-#[derive(Clone, Copy, PartialEq, Eq, Debug)]
+#[derive(Clone, Copy)]
 pub(crate) enum ByteKind {
     /// The end of a line.
     Newline,

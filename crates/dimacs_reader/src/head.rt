@@ -13,7 +13,7 @@ use crate::stop::fault_at;
 use lk_model::{Fault, FaultKind};
 
 /// Where in a line a text stands before the numbers.
-#[derive(Clone, Copy, PartialEq, Eq, Debug)]
+#[derive(Clone, Copy)]
 pub(crate) enum HeadLine {
     /// The line has only blanks so far.
     Start,
@@ -22,7 +22,7 @@ pub(crate) enum HeadLine {
 }
 
 /// Where a text stands behind one more byte.
-#[derive(Clone, Copy, PartialEq, Eq, Debug)]
+#[derive(Clone, Copy)]
 pub(crate) enum HeadStep {
     In(HeadLine),
     /// The problem line has ended, and states these numbers.

@@ -12,7 +12,7 @@ use crate::word::{WordSoFar, word_of, word_with};
 use lk_model::{Fault, FaultKind};
 
 /// Where in a line a text stands behind the problem line.
-#[derive(Clone, Copy, PartialEq, Eq, Debug)]
+#[derive(Clone, Copy)]
 pub(crate) enum NumberLine {
     /// The line has only blanks so far.
     Start,

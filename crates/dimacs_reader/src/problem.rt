@@ -11,7 +11,7 @@ use lk_model::{FaultKind, MAX_CLAUSES, MAX_VARS};
 
 /// A problem line, as far as it was read: up to a byte within a word, or behind a word. A number is
 /// kept as it stands, or as 2^32 - 1 where it is more.
-#[derive(Clone, Copy, PartialEq, Eq, Debug)]
+#[derive(Clone, Copy)]
 pub(crate) enum ProblemLine {
     P,
     BehindP,

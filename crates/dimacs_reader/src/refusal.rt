@@ -8,7 +8,7 @@ use lk_model::{FaultKind, OutOfMemory};
 use std::alloc::{AllocError, AllocFailed};
 
 /// Why a text is no formula, with the line of its first fault, counted from 1; or want of memory.
-#[derive(Clone, Copy, Debug, PartialEq, Eq)]
+#[derive(Clone, Copy, Debug)]
 pub enum Refused {
     /// The first line that is neither blank nor a comment does not begin with `p`, or there is none before
     /// the end mark or the end of the text.

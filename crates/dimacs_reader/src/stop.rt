@@ -5,7 +5,7 @@ ghost use Rattle.std.specs.Prelude.{◌≡◌};
 use lk_model::{Fault, FaultKind, OutOfMemory};
 
 /// Why reading ends without a formula.
-#[derive(Clone, Copy, PartialEq, Eq, Debug)]
+#[derive(Clone, Copy)]
 pub(crate) enum Stop {
     /// The text has this fault.
     Fault(Fault),

@@ -8,7 +8,7 @@ use crate::bytes::{digit_of, with_digit};
 use lk_model::Lit;
 
 /// A word behind the problem line, as far as it was read.
-#[derive(Clone, Copy, PartialEq, Eq, Debug)]
+#[derive(Clone, Copy)]
 pub(crate) enum WordSoFar {
     /// A minus sign alone.
     Minus,
