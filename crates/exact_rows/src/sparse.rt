@@ -11,7 +11,7 @@ use std::alloc::{AllocError, AllocFailed, Global};
 use std::marker::Model;
 
 /// A number of a row that is not 0.
-#[derive(Clone, Copy, PartialEq, Eq, Debug)]
+#[derive(Clone, Copy)]
 pub struct Entry {
     /// Its column, counted from 1.
     pub column: usize,
@@ -20,7 +20,7 @@ pub struct Entry {
 }
 
 /// Why rows have no combination.
-#[derive(Clone, Copy, PartialEq, Eq, Debug)]
+#[derive(Clone, Copy)]
 pub enum SparseStop {
     /// The operands of the first result that lies outside ±(2^127 - 1).
     Wide(Wide),
