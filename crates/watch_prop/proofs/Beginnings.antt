@@ -1,6 +1,7 @@
 -- What a propagator holds at the start.
-use Rattle.std.proofs.Common.{◌≡◌, ℕ, ◌<◌, ◌≤◌, Bool, true, false, not, cond, ◌&&◌, ◌==◌, List, [], ◌∷◌, ◌++◌, ◌∙◌, sym, refl, arith, length, map, filter, nat_le, nat_lt, ap, subst}
+use Rattle.std.proofs.Common.{◌≡◌, ℕ, ◌+◌, ◌<◌, ◌≤◌, take, drop, get_or, append_assoc, Bool, true, false, not, cond, ◌&&◌, ◌==◌, List, [], ◌∷◌, ◌++◌, ◌∙◌, sym, refl, arith, length, map, filter, nat_le, nat_lt, ap, subst}
 use Rattle.std.specs.List.{list_all}
+use Rattle.std.proofs.lemmas.List.{take-append-drop, take_more}
 use Rattle.std.proofs.lemmas.Bool.{le-leb, leb-true, eqb-true, eq-eqb, ltb-true, false_from_ne_true, not-true}
 use Rattle.lk_model.specs.Lists.{among, is_empty, rises_within}
 use Rattle.lk_model.specs.Formulas.Literal.{is_clause}
@@ -96,9 +97,10 @@ held_as_seen p vars clauses v c t h = subst IsPropagation (sym same) h
 
 -- ONE CLAUSE AFTER ANOTHER
 
-pub all_middle : {X : Type 0} (p : X → Bool) (xs : List X) (x : X) (ys : List X) → list_all p (xs ++ x ∷ ys) ≡ true → p x ≡ true
-all_middle p [] x ys h = (and_true (p x) (list_all p ys) h).0
-all_middle p (y ∷ xs) x ys h = all_middle p xs x ys (and_true (p y) (list_all p (xs ++ x ∷ ys)) h).1
+pub split_at : {X : Type 0} (xs : List X) (i : ℕ) (x : X) → i < length xs → x ≡ get_or xs i x → xs ≡ take i xs ++ x ∷ drop (i + 1) xs
+split_at xs i x lt is =
+    sym (take-append-drop (i + 1) xs) ∙ ap (λ ys. ys ++ drop (i + 1) xs) (take_more xs i x lt ∙ ap (λ y. take i xs ++ y ∷ []) (sym is))
+    ∙ append_assoc (take i xs) (x ∷ []) (drop (i + 1) xs)
 
 -- the number of a later clause is not among those before
 pub distinct_middle : (xs : List NumberedClause) (x : NumberedClause) (ys : List NumberedClause) → are_distinct (numbers_of (xs ++ x ∷ ys)) ≡ true → not (among (numbers_of xs) x.number) ≡ true

@@ -3,7 +3,7 @@ use lk_model::{List, Lit};
 
 /// A literal of the trail, the level at which it came, and the number of the clause that forced it; none where
 /// it was assigned.
-#[derive(Clone, Copy, PartialEq, Eq, Debug)]
+#[derive(Clone, Copy)]
 pub struct Entry {
     pub lit: Lit,
     pub level: u32,
@@ -18,7 +18,7 @@ pub struct NumberedClause {
 }
 
 /// How a propagation ends: nothing more is forced, or the clause of this number is false.
-#[derive(Clone, Copy, PartialEq, Eq, Debug)]
+#[derive(Clone, Copy)]
 pub enum Propagated {
     Quiet,
     Conflict(u64),

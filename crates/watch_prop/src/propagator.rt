@@ -52,9 +52,7 @@ impl Propagator {
     {
         let clauses = clauses_of(alloc, over)?;
         let mut propagator = Propagator::without_clauses(alloc, over.formula.vars())?;
-        for clause in clauses {
-            propagator.hold(clause.number, clause.lits.as_slice())?;
-        }
+        propagator.hold_all(&clauses)?;
         Ok(propagator)
     }
 
@@ -166,18 +164,32 @@ impl Propagator {
         ensures clauses { IfOk result (λ p. p.clauses ≡ []) }
         ensures trail { IfOk result (λ p. p.trail ≡ []) }
     {
+        let marks = Vec::with_capacity(alloc, n as usize)?;
+        let lists = WatcherLists::new(alloc, n)?;
         Ok(Propagator {
-            clauses: Clauses::new(alloc),
             trail: Trail::new(alloc, n)?,
+            clauses: Clauses::new(alloc),
             state: State {
                 watches: Vec::new(alloc),
-                lists: WatcherLists::new(alloc, n)?,
+                lists,
                 waiting: Vec::new(alloc),
                 satisfied: 0,
                 head: 0,
-                marks: Vec::with_capacity(alloc, n as usize)?,
+                marks,
             },
         })
+    }
+
+    // Holds the first clauses.
+    fn hold_all(&mut self, clauses: &[NumberedClause]) -> Result<(), OutOfMemory>
+        requires none { self.old.clauses ≡ [] }
+        requires held { IsPropagation (record self.old { clauses = clauses.now }) }
+        ensures { OnOk result (self.new ≡ record self.old { clauses = clauses.now }) }
+    {
+        for clause in clauses {
+            self.hold(clause.number, clause.lits.as_slice())?;
+        }
+        Ok(())
     }
 
     // Holds one more clause. Where there is no room for it in the lists, it is taken back.

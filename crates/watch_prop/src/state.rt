@@ -77,7 +77,7 @@ impl State {
 }
 
 // Whether a clause still watches the literal, or is false.
-#[derive(Clone, Copy, PartialEq, Eq, Debug)]
+#[derive(Clone, Copy)]
 enum Settled {
     Stays,
     Moves,

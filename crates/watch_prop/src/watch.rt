@@ -11,7 +11,7 @@ use crate::trail::Trail;
 use lk_model::Lit;
 
 /// Two literals of a clause.
-#[derive(Clone, Copy, PartialEq, Eq, Debug)]
+#[derive(Clone, Copy)]
 pub(crate) struct Watch {
     pub first: Lit,
     pub second: Lit,
@@ -28,7 +28,7 @@ impl Watch {
 }
 
 /// Which literals of a clause are not false.
-#[derive(Clone, Copy, PartialEq, Eq, Debug)]
+#[derive(Clone, Copy)]
 pub(crate) enum Found {
     /// None.
     AllFalse,
@@ -57,7 +57,7 @@ pub(crate) fn find(trail: &Trail, lits: &[Lit]) -> Found
 }
 
 /// What a clause asks for when a literal that it watches is false and the other one is not true.
-#[derive(Clone, Copy, PartialEq, Eq, Debug)]
+#[derive(Clone, Copy)]
 pub(crate) enum Demand {
     /// To watch another literal instead of the false one.
     Move(Lit),

@@ -7,7 +7,7 @@ invariant_of-result c =
     let path = c.in_ok-new.field-0 in
     let vars = c.in_ok-new.ensures.vars in
     let few : path.vars ≤ 1000000 = omega (arith, vars, c.requires) in
-    let room : path.vars ≤ vec_capacity c.in_ok-with_capacity.field-0 = omega (arith, vars, c.in_ok-with_capacity.ensures.exact) in
-    empty_state path _ c.new.result few c.in_ok-new.ensures.entries c.new.ensures c.new-3.ensures.items c.new-5.ensures.items
-    (c.in_ok-new-2.ensures.lists ∙ ap (λ (n : ℕ). replicate (2 * n + 2) []) (sym vars)) (c.in_ok-new-2.ensures.counts ∙ ap (λ (n : ℕ). replicate (2 * n + 2) 0) (sym vars))
-    refl refl c.in_ok-with_capacity.ensures.items room
+    let room : path.vars ≤ vec_capacity c.in_ok-marks.marks = omega (arith, vars, c.in_ok-marks.ensures.exact) in
+    empty_state path _ c.new-3.result few c.in_ok-new.ensures.entries c.new-3.ensures c.new-4.ensures.items c.new-5.ensures.items
+    (c.in_ok-lists.ensures.lists ∙ ap (λ (n : ℕ). replicate (2 * n + 2) []) (sym vars)) (c.in_ok-lists.ensures.counts ∙ ap (λ (n : ℕ). replicate (2 * n + 2) 0) (sym vars))
+    refl refl c.in_ok-marks.ensures.items room
