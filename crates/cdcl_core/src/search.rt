@@ -40,11 +40,14 @@ impl Search {
         ensures first { IfOk result (λ s. s.log.first ≡ next) }
         ensures steps { IfOk result (λ s. s.log.steps ≡ []) }
     {
+        // The propagator comes last: what is larger to drop is better not held where the others fail.
+        let marks = Marks::new(alloc, over.formula.vars())?;
+        let order = Order::new(alloc, over)?;
         Ok(Search {
             propagator: Propagator::new(alloc, over)?,
             log: Log::new(alloc, next),
-            order: Order::new(alloc, over)?,
-            marks: Marks::new(alloc, over.formula.vars())?,
+            order,
+            marks,
         })
     }
 
@@ -91,28 +94,34 @@ impl Search {
         Ok(())
     }
 
-    /// The log with the empty clause, from a clause that is false at level 0.
-    pub fn refute(self, alloc: Global, over: &Crossed, conflict: u64) -> Result<Log, OutOfMemory>
+    /// Learns the empty clause from one that is false at level 0.
+    pub fn refute(
+        &mut self,
+        alloc: Global,
+        over: &Crossed,
+        conflict: u64,
+    ) -> Result<(), OutOfMemory>
         requires crossed { IsCrossed over.now }
-        requires search { IsSearch over.now self }
-        requires conflict { IsAnswered self.propagator (Conflict conflict) }
-        requires level { present_level self.propagator.trail ≡ 0 }
-        requires room { next_number self.log < 2 ^ 64 - 1 }
-        ensures round { IfOk result (IsRoundOver over.now) }
-        ensures refutes { IfOk result (λ log. IsTrue (is_refutation log.steps)) }
-        ensures filled { IfOk result (λ log. IsTrue (are_filled_before_last log.steps)) }
-        ensures first { IfOk result (λ log. log.first ≡ self.log.first) }
-        ensures steps { IfOk result (λ log. length log.steps ≡ length self.log.steps + 1) }
+        requires search { IsSearch over.now self.old }
+        requires conflict { IsAnswered self.old.propagator (Conflict conflict) }
+        requires level { present_level self.old.propagator.trail ≡ 0 }
+        requires room { next_number self.old.log < 2 ^ 64 - 1 }
+        ensures round { OnOk result (IsRoundOver over.now self.new.log) }
+        ensures refutes { OnOk result (IsTrue (is_refutation self.new.log.steps)) }
+        ensures filled { OnOk result (IsTrue (are_filled_before_last self.new.log.steps)) }
+        ensures first { OnOk result (self.new.log.first ≡ self.old.log.first) }
+        ensures steps { OnOk result (length self.new.log.steps ≡ length self.old.log.steps + 1) }
     {
-        let Search {
-            propagator,
-            mut log,
-            mut marks,
-            ..
-        } = self;
-        let turns = turns_back(alloc, &propagator, conflict, &mut marks)?;
-        log.push_chain(over, conflict, &turns)?;
-        Ok(log)
+        let turns = turns_back(alloc, &self.propagator, conflict, &mut self.marks)?;
+        self.log.push_chain(over, conflict, &turns)?;
+        Ok(())
+    }
+
+    /// The steps that learned clauses.
+    pub fn into_log(self) -> Log
+        ensures { result ≡ self.log }
+    {
+        self.log
     }
 
     /// The assignment of the trail.

@@ -4,7 +4,7 @@ use Rattle.watch_prop.specs.declared.entry.Propagated.{Propagated}
 use Rattle.watch_prop.specs.Propagation.{IsAnswered}
 use Rattle.learning_laws.proofs.Solving.{solve_law}
 use Rattle.cdcl_core.proofs.Searches.{search_forced, less_assigned}
-use Rattle.cdcl_core.proofs.decided.decide.Goals as goal
+use Rattle.cdcl_core.proofs.decided.run.Goals as goal
 
 pub assign_least-requires-clause-search : goal.assign_least-requires-clause-search
 assign_least-requires-clause-search c = search_forced c.args.over.now c.turns.search c.propagate.new.self c.turns.invariant.search c.propagate.ensures.goes_on c.propagate.ensures.held
