@@ -7,7 +7,6 @@ ghost use Rattle.lk_model.specs.Formulas.PureRun.{IsPureRun, untouched, least_pa
 ghost use Rattle.lk_model.specs.Reduction.{ReducesBy};
 ghost use Rattle.lk_model.specs.declared.class.Class.TheVariants.{Pure};
 
-use crate::counts::Counts;
 use crate::pairs::{live_positions, pairs_of};
 use crate::run::pure_order;
 use lk_model::{Formula, OutOfMemory, PureResult};
@@ -33,9 +32,7 @@ pub fn pure_kernel(alloc: Global, f: &Formula) -> Result<PureResult, OutOfMemory
 {
     let holders = OccurrenceLists::new(alloc, f)?;
     let mut live = vec![in alloc; true; f.len() as usize]?;
-    let lengths = holders.counts(alloc)?;
-    let mut counts = Counts::new(alloc, f.vars(), lengths);
-    let order = pure_order(alloc, f, &holders, &mut live, &mut counts)?;
+    let order = pure_order(alloc, f, &holders, &mut live)?;
     let kept = live_positions(alloc, live.as_slice())?;
     let pairs = pairs_of(alloc, f, &holders, live.as_slice())?;
     Ok(PureResult { kept, order, pairs })

@@ -6,7 +6,7 @@
 //! Here the least variable is taken each time, so the order is determined. Each clause knows whether it was touched,
 //! each literal how many untouched clauses hold it. The variables are gone through once, and one that is left in one
 //! sign after it was passed waits in a heap (`counts`): no step goes through the formula.
-ghost use Rattle.std.specs.Prelude.{◌≡◌, ◌<◌, ◌≤◌, [], length, slice_set, false, IfOk, OnOk, IsTrue, All, ◌-◌, ◌+◌, ◌*◌};
+ghost use Rattle.std.specs.Prelude.{◌≡◌, ◌<◌, ◌≤◌, [], length, replicate, slice_set, true, false, IfOk, OnOk, IsTrue, All, ◌-◌, ◌+◌, ◌*◌};
 ghost use Rattle.lk_model.specs.Formulas.Literal.{is_clause};
 ghost use Rattle.lk_model.specs.Formulas.PureRun.{IsPureRun};
 ghost use Rattle.occurrence_lists.specs.Occurrences.{AreOccurrences};
@@ -18,9 +18,26 @@ use lk_model::{Formula, List, Lit, OutOfMemory};
 use occurrence_lists::OccurrenceLists;
 use std::alloc::Global;
 
-/// The order of the pure run. The flags that are up in the end are those of the clauses that no
+/// The order of the pure run. The flags, which are all up at first, end as those of the clauses that no
 /// literal of the order touches.
 pub(crate) fn pure_order(
+    alloc: Global,
+    f: &Formula,
+    holders: &OccurrenceLists,
+    live: &mut Vec<bool>,
+) -> Result<List<Lit>, OutOfMemory>
+    requires holders { AreOccurrences f.now holders.now }
+    requires live { live.old.items ≡ replicate (length f.now.clauses) true }
+    ensures run { IfOk result (IsPureRun f.now) }
+    ensures untouched { IfOk result (λ order. AreUntouched f.now order live.new.items) }
+{
+    let lengths = holders.counts(alloc)?;
+    let mut counts = Counts::new(alloc, f.vars(), lengths);
+    order_by(alloc, f, holders, live, &mut counts)
+}
+
+/// The order by the counts of the clauses whose flags are up.
+fn order_by(
     alloc: Global,
     f: &Formula,
     holders: &OccurrenceLists,

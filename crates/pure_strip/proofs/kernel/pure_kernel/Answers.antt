@@ -9,21 +9,14 @@ use Rattle.lk_model.specs.Formulas.PureRun.{least_pure}
 use Rattle.lk_model.specs.Reduction.{ReducesBy}
 use Rattle.lk_model.specs.declared.class.Class.TheVariants.{Pure}
 use Rattle.pure_strip.specs.Live.{is_live}
-use Rattle.pure_strip.proofs.Starts.{Counted-start, Untouched-start, kept_is}
+use Rattle.pure_strip.proofs.Starts.{kept_is}
 use Rattle.pure_strip.proofs.Runs.{live_is_untouched}
 use Rattle.kernel_laws.proofs.Pure.PureLaws.{pure_law}
 use Rattle.kernel_laws.proofs.Pure.Runs.{run_leaves, untouched_rise}
 use Rattle.pure_strip.proofs.kernel.pure_kernel.Goals as goal
 
-pub pure_order-requires-clause-counted : goal.pure_order-requires-clause-counted
-pure_order-requires-clause-counted c =
-    let up = c.in_ok-live.ensures.items_if_clones_equal (λ y e. e) ∙ ap (λ (m : ℕ). replicate m true) c.len.ensures.value in
-    let counts = c.new-counts.ensures ∙ (λ i. record { vars = c.vars.ensures.value i; counts = c.in_ok-lengths.ensures i }) in
-    Counted-start c.args.f.now _ _ _ up c.in_ok-holders.ensures counts
-
-pub pure_order-requires-clause-untouched : goal.pure_order-requires-clause-untouched
-pure_order-requires-clause-untouched c =
-    Untouched-start c.args.f.now _ (c.in_ok-live.ensures.items_if_clones_equal (λ y e. e) ∙ ap (λ (m : ℕ). replicate m true) c.len.ensures.value)
+pub pure_order-requires-clause-live : goal.pure_order-requires-clause-live
+pure_order-requires-clause-live c = c.in_ok-live.ensures.items_if_clones_equal (λ y e. e) ∙ ap (λ (m : ℕ). replicate m true) c.len.ensures.value
 
 pub pairs_of-requires-clause-lean : goal.pairs_of-requires-clause-lean
 pairs_of-requires-clause-lean c =

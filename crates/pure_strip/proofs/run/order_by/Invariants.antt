@@ -1,7 +1,7 @@
 use Rattle.std.proofs.Common.{length, List, [], ◌++◌, ℤ}
 use Rattle.lk_model.specs.Formulas.PureRun.{RunsOn, untouched}
 use Rattle.pure_strip.specs.Live.{AreCounted, AreUntouched}
-use Rattle.pure_strip.proofs.run.pure_order.Given as goal
+use Rattle.pure_strip.proofs.run.order_by.Given as goal
 
 -- the order so far goes on as the run does
 abbrev pub invariant-loop-l : goal.invariant-loop-l
