@@ -11,6 +11,7 @@ ghost use Rattle.lk_model.specs.Formulas.Lean.{are_positions};
 ghost use Rattle.lk_model.specs.Formulas.Formula.{variable_occurs};
 ghost use Rattle.lk_model.specs.Held.PartialValues.{assignment_by};
 ghost use Rattle.kernel_laws.specs.General.Found.{IsFound};
+ghost use Rattle.general_kernel.specs.Ends.{IsBegun, EndsRounds};
 ghost use Rattle.general_kernel.specs.SetLiterals.{literals_on};
 
 use crate::blocking::{add_variables, covered};
@@ -37,19 +38,42 @@ pub fn general_kernel(
     ensures { IfOk result (IsFound f.now part.now conflicts) }
 {
     let mut rounds = Rounds::new(alloc, f, conflicts)?;
+    match run(alloc, f, part, &mut rounds)? {
+        End::Kernel { kept, set } => Ok(General::Done(GeneralResult {
+            kept,
+            set,
+            rounds: rounds.trimmed(alloc)?,
+        })),
+        End::Open(round) => Ok(General::Unfinished(rounds.with_open(round)?)),
+    }
+}
+
+/// How the rounds end.
+#[derive(Drop)]
+pub(crate) enum End {
+    /// With what is covered of the part, and literals that satisfy the rest.
+    Kernel { kept: List<u32>, set: List<Lit> },
+    /// With an open round behind them.
+    Open(Round),
+}
+
+// Round after round, to the end.
+fn run(alloc: Global, f: &Formula, part: &[u32], rounds: &mut Rounds) -> Result<End, OutOfMemory>
+    requires part { IsTrue (are_positions f.now part.now) }
+    requires begun { IsBegun f.now rounds.old }
+    requires some { 0 < rounds.old.left }
+    requires most { rounds.old.left < 2 ^ 63 }
+    ensures { IfOk result (EndsRounds f.now part.now rounds.old.left rounds.new) }
+{
     'rounds: loop {
         let kept = covered(alloc, f, part, &rounds.blocked)?;
         if kept.len() == part.len() {
-            return Ok(General::Done(GeneralResult {
-                kept,
-                set: List::new(alloc),
-                rounds: rounds.trimmed(alloc)?,
-            }));
+            let set = List::new(alloc);
+            return Ok(End::Kernel { kept, set });
         }
         if rounds.left == 0 {
-            return Ok(General::Unfinished(rounds.with_open(Round {
-                steps: List::new(alloc),
-            })?));
+            let steps = List::new(alloc);
+            return Ok(End::Open(Round { steps }));
         }
         let over = Crossed {
             formula: f,
@@ -58,20 +82,15 @@ pub fn general_kernel(
         };
         match decide(alloc, &over, rounds.next, rounds.left)? {
             Decided::Sat(values) => {
-                return Ok(General::Done(GeneralResult {
-                    kept,
-                    set: set_of(alloc, f, part, &values)?,
-                    rounds: rounds.trimmed(alloc)?,
-                }));
+                let set = set_of(alloc, f, part, &values)?;
+                return Ok(End::Kernel { kept, set });
             }
             Decided::Refuted(log) => {
                 let used = log.used(&over)?;
                 rounds.push(log)?;
                 add_variables(f, used.as_slice(), &mut rounds.blocked);
             }
-            Decided::Stopped(log) => {
-                return Ok(General::Unfinished(rounds.with_open(log.into_round())?));
-            }
+            Decided::Stopped(log) => return Ok(End::Open(log.into_round())),
         }
     }
 }

@@ -7,21 +7,21 @@ use Rattle.refutation_log.specs.Trimmed.{trimmed, names_positions_below}
 use Rattle.general_kernel.specs.TrimmedRounds.{AreRefuting, trimmed_rounds}
 use Rattle.general_kernel.proofs.Names.{trimmed_shorter}
 use Rattle.general_kernel.proofs.Needed.{round_of, names_above, trimmed_rounds_more, count_more}
-use Rattle.general_kernel.proofs.rounds.Rounds.trimmed.Goals as goal
+use Rattle.general_kernel.proofs.rounds.trim_all.Goals as goal
 
 pub trim-requires-clause-positions : goal.trim-requires-clause-positions
 trim-requires-clause-positions c =
     let i = c.loop-round.invariant in
-    let one = subst (λ (rs : List Round). AreRefuting c.args.self.first c.loop-round.first rs) c.in-Some.ensures.steps.0 i.logs in
+    let one = subst (λ (rs : List Round). AreRefuting c.args.low c.loop-round.first rs) c.in-Some.ensures.steps.0 i.logs in
     let log = c.from_round-log.ensures in
     subst (λ (k : ℕ). names_positions_below c.loop-round.next k c.from_round-log.result.steps ≡ true) (sym log.first)
     (subst (λ (us : List Step). names_positions_below c.loop-round.next c.loop-round.first us ≡ true) (sym log.steps)
-    (names_above c.args.self.first c.loop-round.next c.loop-round.first c.in-Some.round.steps i.above one.0.positions))
+    (names_above c.args.low c.loop-round.next c.loop-round.first c.in-Some.round.steps i.above one.0.positions))
 
 pub overflow_add-next : goal.overflow_add-next
 overflow_add-next c =
     let i = c.loop-round.invariant in
-    let one = subst (λ (rs : List Round). AreRefuting c.args.self.first c.loop-round.first rs) c.in-Some.ensures.steps.0 i.logs in
+    let one = subst (λ (rs : List Round). AreRefuting c.args.low c.loop-round.first rs) c.in-Some.ensures.steps.0 i.logs in
     let order = i.order in
     let room = one.0.log.room in
     let shorter = trimmed_shorter c.loop-round.next c.in-Some.round.steps in
@@ -31,7 +31,7 @@ overflow_add-next c =
 pub loop-round-preserved : goal.loop-round-preserved
 loop-round-preserved c =
     let i = c.loop-round.invariant in
-    let low = c.args.self.first in
+    let low = c.args.low in
     let r = c.in-Some.round in
     let before = c.loop-round.yielded in
     let one = subst (λ (rs : List Round). AreRefuting low c.loop-round.first rs) c.in-Some.ensures.steps.0 i.logs in

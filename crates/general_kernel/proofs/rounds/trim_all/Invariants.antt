@@ -2,14 +2,14 @@ use Rattle.std.proofs.Common.{◌≡◌, ◌+◌, ◌≤◌, length}
 use Rattle.std.specs.Vec.Iter.{into_iter_items}
 use Rattle.lk_model.specs.Documents.Documents.{steps_of}
 use Rattle.general_kernel.specs.TrimmedRounds.{AreRefuting, trimmed_rounds}
-use Rattle.general_kernel.proofs.rounds.Rounds.trimmed.Given as goal
+use Rattle.general_kernel.proofs.rounds.trim_all.Given as goal
 
 -- the needed steps of the rounds so far, and the refutations that are left
 abbrev pub invariant-loop-round : goal.invariant-loop-round
 invariant-loop-round l = record {
-  trimmed : l.trimmed ≡ trimmed_rounds l.fn.self.first l.yielded;
-  next : l.next ≡ l.fn.self.first + length (steps_of l.trimmed);
-  above : l.fn.self.first ≤ l.next;
+  trimmed : l.trimmed ≡ trimmed_rounds l.low l.yielded;
+  next : l.next ≡ l.low + length (steps_of l.trimmed);
+  above : l.low ≤ l.next;
   order : l.next ≤ l.first;
-  logs : AreRefuting l.fn.self.first l.first (into_iter_items l.round-iterator);
+  logs : AreRefuting l.low l.first (into_iter_items l.round-iterator);
 }
