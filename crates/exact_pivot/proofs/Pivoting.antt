@@ -1,5 +1,6 @@
 -- The rows after a pivot, by the calls that make them.
 use Rattle.std.proofs.Common.{◌≡◌, ℕ, zero, suc, ◌+◌, ◌-◌, ◌<◌, not, cond, ◌==◌, List, [], ◌∷◌, ◌++◌, map, filter, take, drop, length, get_or, ℤ, None, Err, refl, sym, ap, ◌∙◌, arith}
+use Rattle.std.specs.Prelude.{⊤}
 use Rattle.std.specs.List.{All, range_with_len, insert, remove, flat_map}
 use Rattle.std.specs.Option.{option_or}
 use Rattle.std.proofs.lemmas.List.{get_or_read}
@@ -13,6 +14,8 @@ use Rattle.exact_rows.proofs.Wides.{first_wide-append}
 use Rattle.exact_rows.specs.Sparse.{IsStop}
 use Rattle.exact_rows.specs.declared.sparse.SparseStop.{SparseStop}
 use Rattle.exact_rows.specs.declared.sparse.SparseStop.TheVariants as stops
+use Rattle.exact_pivot.specs.declared.stop.PivotStop.{PivotStop}
+use Rattle.exact_pivot.specs.declared.stop.PivotStop.TheVariants as pivot_stops
 use Rattle.exact_pivot.specs.Reached.{IsPivot}
 use Rattle.exact_pivot.specs.Shape.{IsTableau}
 use Rattle.exact_pivot.specs.Moves.{Gives, cleared_row, made_to_clear_all, turned_on}
@@ -34,6 +37,11 @@ all_remove P [] zero a = a
 all_remove P [] (suc i) a = a
 all_remove P (x ∷ xs) zero a = λ k d h. a (suc k) d (omega (arith, h))
 all_remove P (x ∷ xs) (suc i) a = All-cons P x (remove xs i) (a 0 x (omega arith)) (all_remove P xs i (λ k d h. a (suc k) d (omega (arith, h))))
+
+-- a stop is the same whatever the call gives
+pub stops_for : {Y : Type 0} (made : List Wide) (y : Y) (stop : PivotStop) → Gives {X = ⊤} made tt (Err stop) → Gives made y (Err stop)
+stops_for made y (pivot_stops.Wide w) h = h
+stops_for made y pivot_stops.OutOfMemory h = h
 
 module _ (t : TableauRows) (i k : ℕ) (shape : IsTableau t) (p : IsPivot t i k) where
   abbrev none : Row
@@ -86,16 +94,16 @@ module _ (t : TableauRows) (i k : ℕ) (shape : IsTableau t) (p : IsPivot t i k)
   abbrev last : List Wide
   last = cond (in_first_phase t) (made_to_clear (turned t i k) k t.cost) []
 
-  pub first_stops : (x : TableauRows) (stop : SparseStop) → IsStop others stop → Gives (made_in_pivot t i k) x (Err (stop_of stop))
-  first_stops x (stops.Wide w) h = made_is ∙ ap (λ o. option_or o (first_wide last)) h
-  first_stops x stops.OutOfMemory h = h
+  pub first_stops : (stop : SparseStop) → IsStop others stop → Gives {X = ⊤} (made_in_pivot t i k) tt (Err (stop_of stop))
+  first_stops (stops.Wide w) h = made_is ∙ ap (λ o. option_or o (first_wide last)) h
+  first_stops stops.OutOfMemory h = h
 
   pub second_is : first_wide others ≡ None → first_wide (made_in_pivot t i k) ≡ first_wide last
   second_is e = made_is ∙ ap (λ o. option_or o (first_wide last)) e
 
-  pub second_stops : (x : TableauRows) (stop : SparseStop) → first_wide others ≡ None → IsStop last stop → Gives (made_in_pivot t i k) x (Err (stop_of stop))
-  second_stops x (stops.Wide w) e h = second_is e ∙ h
-  second_stops x stops.OutOfMemory e h = h
+  pub second_stops : (stop : SparseStop) → first_wide others ≡ None → IsStop last stop → Gives {X = ⊤} (made_in_pivot t i k) tt (Err (stop_of stop))
+  second_stops (stops.Wide w) e h = second_is e ∙ h
+  second_stops stops.OutOfMemory e h = h
 
   pub pivoted_is : (rows : List Row) (cost : List ℤ) → rows ≡ insert (map (cleared_row (turned t i k) k) (remove t.rows (i - 1))) (i - 1) (record { entries = turned t i k; basic = k })
       → cost ≡ cond (in_first_phase t) (cleared (turned t i k) k t.cost) t.cost → record t { rows = rows; cost = cost } ≡ pivoted t i k

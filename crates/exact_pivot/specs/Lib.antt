@@ -1,3 +1,4 @@
+pub mod AtPivots
 pub mod Reached
 pub mod Best
 pub mod Moves

@@ -36,12 +36,31 @@ pub fn start_rows(
     let right = kept.len() + vars.len() + 2;
     for (j, v) in vars.iter().enumerate() {
         let entries = incidences[*v as usize].as_slice();
-        let basic = kept.len() + j + 1;
-        let numbers = start_numbers(alloc, entries, basic, right)?;
-        signs.push(sign_for(lack(entries)))?;
-        rows.push(Equation::of(numbers, basic as u32))?;
+        let artificial = kept.len() + j + 1;
+        push_row(&mut signs, &mut rows, alloc, entries, artificial, right)?;
     }
     Ok((signs, rows))
+}
+
+// Appends the sign and the row of a variable with these entries in the columns of the clauses.
+fn push_row(
+    signs: &mut Vec<i128>,
+    rows: &mut Vec<Equation>,
+    alloc: Global,
+    entries: &[Entry],
+    artificial: usize,
+    right: usize,
+) -> Result<(), OutOfMemory>
+    requires small { AreSmallEntries entries.now }
+    requires fit { AreEntries right (start_entries entries.now artificial right) }
+    requires column { artificial < 2 ^ 32 }
+    ensures signs { OnOk result (signs.new.items ≡ signs.old.items ++ sign_at (lack_of entries.now) ∷ []) }
+    ensures rows { OnOk result (rows.new.items ≡ rows.old.items ++ record { entries = row_of right (start_entries entries.now artificial right); basic = artificial } ∷ []) }
+{
+    let numbers = start_numbers(alloc, entries, artificial, right)?;
+    signs.push(sign_for(lack(entries)))?;
+    rows.push(Equation::of(numbers, artificial as u32))?;
+    Ok(())
 }
 
 // The row of a variable with these entries in the columns of the clauses.

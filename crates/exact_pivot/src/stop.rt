@@ -4,7 +4,7 @@ use lk_model::Wide;
 use std::alloc::{AllocError, AllocFailed};
 
 /// What the linear run does next.
-#[derive(Clone, Copy, PartialEq, Eq, Debug)]
+#[derive(Clone, Copy)]
 pub enum Next {
     /// It pivots on this row and column, which both count from 1.
     Pivot { row: u32, col: u32 },
@@ -15,7 +15,7 @@ pub enum Next {
 }
 
 /// Why a call on a tableau has no result.
-#[derive(Clone, Copy, PartialEq, Eq, Debug)]
+#[derive(Clone, Copy)]
 pub enum PivotStop {
     /// The operands of the first result that lies outside ±(2^127 - 1).
     Wide(Wide),

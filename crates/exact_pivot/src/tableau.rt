@@ -7,13 +7,14 @@
 //! Here all numbers are whole: a row is multiplied, not divided by the pivot, and then divided by its content. The
 //! cost row has a column of its own for the factor by which it was multiplied, the cost unit. A result that does not
 //! fit ends the call with its operands, and nothing is rounded.
-ghost use Rattle.std.specs.Prelude.{◌≡◌, ℕ, pos, ◌+◌, ◌<◌, ◌≤◌, ◌^◌, ◌≤ℤ◌, length, IsTrue, IfOk};
+ghost use Rattle.std.specs.Prelude.{◌≡◌, ℕ, pos, ◌+◌, ◌<◌, ◌≤◌, ◌^◌, ◌≤ℤ◌, length, IsTrue, IfOk, OnOk};
 ghost use Rattle.lk_model.specs.Lists.{rises_within};
-ghost use Rattle.lk_model.specs.Linear.Rows.{start_of, entry, row_at, m_of, r_of, right_column};
+ghost use Rattle.lk_model.specs.Linear.Rows.{TableauRows, start_of, entry, row_at, m_of, r_of, right_column};
 ghost use Rattle.lk_model.specs.Linear.Pivot.{in_first_phase, pivoted, made_in_pivot};
 ghost use Rattle.lk_model.specs.Linear.Ends.{dual_at_end, units_at_end, made_in_dual, made_in_units};
 ghost use Rattle.lk_model.specs.Linear.Phases.{next, PivotOn, StageStands, EndsLean, stage_of, made_in_stage, entering, may_leave, leaves_before, leaving, artificial_row, replacing};
 ghost use Rattle.exact_pivot.specs.Moves.{move_of, Gives};
+ghost use Rattle.exact_pivot.specs.AtPivots.{IsAtPivot};
 ghost use Rattle.exact_pivot.specs.Shape.{IsTableau};
 ghost use Rattle.exact_pivot.specs.Best.{IsBest, order_of_quotients};
 
@@ -249,11 +250,7 @@ impl Tableau {
         let first_phase = self.is_in_first_phase();
         let mut rows = self.rows;
         let mut cost = self.cost;
-        let mut by = rows.remove(row as usize - 1);
-        by.enter(col);
-        clear_all(self.alloc, &mut rows, by.entries(), col)?;
-        cost.clear_if(first_phase, self.alloc, by.entries(), col)?;
-        rows.insert(row as usize - 1, by)?;
+        pivot_rows(&mut rows, &mut cost, self.alloc, first_phase, row, col)?;
         Ok(Tableau {
             alloc: self.alloc,
             positions: self.positions,
@@ -300,4 +297,26 @@ impl Tableau {
             &self.rows,
         )
     }
+}
+
+// Pivots the rows, and in the first phase the cost row.
+fn pivot_rows(
+    rows: &mut Vec<Equation>,
+    cost: &mut Numbers,
+    alloc: Global,
+    first_phase: bool,
+    row: u32,
+    col: u32,
+) -> Result<(), PivotStop>
+    requires { (t : TableauRows) × IsAtPivot t row col rows.old.items cost.old first_phase }
+    ensures made { (t : TableauRows) → IsAtPivot t row col rows.old.items cost.old first_phase → Gives (made_in_pivot t row col) tt result }
+    ensures rows { (t : TableauRows) → IsAtPivot t row col rows.old.items cost.old first_phase
+        → OnOk result (record t { rows = rows.new.items; cost = cost.new } ≡ pivoted t row col) }
+{
+    let mut by = rows.remove(row as usize - 1);
+    by.enter(col);
+    clear_all(alloc, rows, by.entries(), col)?;
+    cost.clear_if(first_phase, alloc, by.entries(), col)?;
+    rows.insert(row as usize - 1, by)?;
+    Ok(())
 }

@@ -1,10 +1,7 @@
-use Rattle.std.proofs.Common.{◌≡◌, ℕ, ◌+◌, ◌<◌, ◌≤◌, [], List, get_or, length, zip, map, arith, sym, ap, ◌∙◌, subst, subst₂, rules}
-use Rattle.std.specs.Int.RustNames.{FitsSigned}
-use mir.Syntax.{w128}
-use Rattle.std.proofs.lemmas.Int.{to_z-of_z}
+use Rattle.std.proofs.Common.{◌≡◌, ℕ, ◌+◌, ◌<◌, ◌≤◌, [], List, get_or, length, zip, map, arith, sym, ap, ◌∙◌, subst, subst₂}
 use Rattle.std.proofs.lemmas.List.{get_or_read, take_all}
 use Rattle.lk_model.specs.Lists.{up_to}
-use Rattle.lk_model.specs.Linear.Rows.{start_row, sign_of}
+use Rattle.lk_model.specs.Linear.Rows.{Row, start_row, sign_of}
 use Rattle.lk_model.proofs.Rising.{rising_count}
 use Rattle.exact_rows.specs.Sparse.{AreEntries, row_of}
 use Rattle.exact_rows.specs.declared.sparse.Entry.{Entry}
@@ -24,8 +21,8 @@ index-requires c =
     let least = variable_least F S j (get_or c.args.vars.now j 0) (omega (arith, count)) (ap (λ (vs : List ℕ). get_or vs j 0) c.requires.vars) in
     omega (arith, least, c.in_ok-incidences.ensures.size)
 
-pub start_numbers-requires-clause-small : goal.start_numbers-requires-clause-small
-start_numbers-requires-clause-small c =
+pub push_row-requires-clause-small : goal.push_row-requires-clause-small
+push_row-requires-clause-small c =
     let F = c.args.f.now in
     let S = c.args.kept.now in
     let j = c.loop-j.j in
@@ -37,8 +34,8 @@ start_numbers-requires-clause-small c =
     let few : length S ≤ 4000000 = (let most = rising_count 0 (length F.clauses) S c.requires.kept (omega arith) in omega (arith, most, c.requires.limits.clauses)) in
     subst AreSmallEntries (sym found) (small_entries F S v few)
 
-pub start_numbers-requires-clause-fit : goal.start_numbers-requires-clause-fit
-start_numbers-requires-clause-fit c =
+pub push_row-requires-clause-fit : goal.push_row-requires-clause-fit
+push_row-requires-clause-fit c =
     let F = c.args.f.now in
     let S = c.args.kept.now in
     let j = c.loop-j.j in
@@ -52,26 +49,13 @@ start_numbers-requires-clause-fit c =
     subst₂ (λ (n : ℕ) (es : List Entry). AreEntries (length S + n + 2) (start_entries es (length S + j + 1) (length S + n + 2))) (sym count) (sym found)
     (entries_fit F S j v (omega (arith, count)) at few)
 
-pub lack-requires : goal.lack-requires
-lack-requires c =
-    let F = c.args.f.now in
-    let S = c.args.kept.now in
-    let j = c.loop-j.j in
-    let v = get_or c.args.vars.now j 0 in
-    let count = ap (λ (vs : List ℕ). length vs) c.requires.vars in
-    let least = variable_least F S j v (omega (arith, count)) (ap (λ (vs : List ℕ). get_or vs j 0) c.requires.vars) in
-    let within : v < length c.in_ok-incidences.incidences.items = omega (arith, least, c.in_ok-incidences.ensures.size) in
-    let found : c.as_slice-entries.result.now ≡ entries_in F S v = c.as_slice-entries.ensures ∙ get_or_read c.in_ok-incidences.incidences.items v c.index.result.now within c.index.ensures [] ∙ c.in_ok-incidences.ensures.each v within in
-    let few : length S ≤ 4000000 = (let most = rising_count 0 (length F.clauses) S c.requires.kept (omega arith) in omega (arith, most, c.requires.limits.clauses)) in
-    subst AreSmallEntries (sym found) (small_entries F S v few)
-
-pub overflow_cast-basic : goal.overflow_cast-basic
-overflow_cast-basic c =
+pub push_row-requires-clause-column : goal.push_row-requires-clause-column
+push_row-requires-clause-column c =
     let F = c.args.f.now in
     let S = c.args.kept.now in
     let count = ap (λ (vs : List ℕ). length vs) c.requires.vars in
     let few : length S ≤ 4000000 = (let most = rising_count 0 (length F.clauses) S c.requires.kept (omega arith) in omega (arith, most, c.requires.limits.clauses)) in
-    record { fits = omega (arith, few, count, variables_few F S, c.requires.limits.vars) }
+    omega (arith, few, count, variables_few F S, c.requires.limits.vars)
 
 pub loop-j-preserved : goal.loop-j-preserved
 unfolding start_row
@@ -86,18 +70,17 @@ loop-j-preserved c =
     let least = variable_least F S j v (omega (arith, count)) at in
     let within : v < length c.in_ok-incidences.incidences.items = omega (arith, least, c.in_ok-incidences.ensures.size) in
     let found : c.as_slice-entries.result.now ≡ entries_in F S v = c.as_slice-entries.ensures ∙ get_or_read c.in_ok-incidences.incidences.items v c.index.result.now within c.index.ensures [] ∙ c.in_ok-incidences.ensures.each v within in
-    let l : FitsSigned w128 c.lack.result = search rules in
-    let s : FitsSigned w128 c.sign_for.result = search rules in
-    let sign = simp to_z-of_z at (c.sign_for.ensures.value) in
-    let is_sign : c.sign_for.result ≡ sign_of F S v = sign ∙ ap sign_at (c.lack.ensures.value ∙ ap lack_of found ∙ lack_is F S v) in
-    let signs = simp to_z-of_z at (c.in_ok-push.ensures.items) in
-    let numbers : c.of.result.entries ≡ (start_row F S (1 + j, v)).entries = c.of.ensures.entries ∙ c.in_ok-numbers.ensures
-    ∙ (λ i. row_of (length S + count i + 2) (start_entries (found i) (length S + j + 1) (length S + count i + 2))) ∙ row_is F S j v (omega (arith, count)) at in
-    let basic : c.of.result.basic ≡ length S + (1 + j) = omega (arith, c.of.ensures.basic) in
-    let item : c.of.result ≡ start_row F S (1 + j, v) = λ i. record { entries = numbers i; basic = basic i } in
+    let es = c.as_slice-entries.result.now in
+    let right = length S + length vars + 2 in
+    let sign : sign_at (lack_of es) ≡ sign_of F S v = ap sign_at (ap lack_of found ∙ lack_is F S v) in
+    let numbers : row_of right (start_entries es (length S + j + 1) right) ≡ (start_row F S (1 + j, v)).entries =
+    (λ i. row_of (length S + count i + 2) (start_entries (found i) (length S + j + 1) (length S + count i + 2))) ∙ row_is F S j v (omega (arith, count)) at in
+    let basic : length S + j + 1 ≡ length S + (1 + j) = omega arith in
+    let row : Row = record { entries = row_of right (start_entries es (length S + j + 1) right); basic = length S + j + 1 } in
+    let item : row ≡ start_row F S (1 + j, v) = λ i. record { entries = numbers i; basic = basic i } in
     record {
-      signs = signs ∙ push_step (sign_of F S) vars [] c.loop-j.signs.items j c.sign_for.result 0 (omega arith) c.loop-j.invariant.signs is_sign;
-      rows = c.in_ok-push-2.ensures.items ∙ push_step (start_row F S) (zip (up_to (length vars)) vars) [] c.loop-j.rows.items j c.of.result (0, 0)
+      signs = c.in_ok-push_row.ensures.signs ∙ push_step (sign_of F S) vars [] c.loop-j.signs.items j (sign_at (lack_of es)) 0 (omega arith) c.loop-j.invariant.signs sign;
+      rows = c.in_ok-push_row.ensures.rows ∙ push_step (start_row F S) (zip (up_to (length vars)) vars) [] c.loop-j.rows.items j row (0, 0)
           (omega (arith, zip_count vars 1)) c.loop-j.invariant.rows (item ∙ ap (start_row F S) (sym (zip_get vars 1 j (omega arith))));
     }
 
