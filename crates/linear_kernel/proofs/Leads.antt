@@ -1,9 +1,10 @@
 -- Where the calls of a run lead.
-use Rattle.std.proofs.Common.{◌≡◌, ◌≢◌, ℕ, Bool, true, false, List, ◌==◌, refl, sym, ap, ◌∙◌, Option, Ok, Err}
+use Rattle.std.proofs.Common.{◌≡◌, ◌≢◌, ℕ, Bool, true, false, List, ◌++◌, ◌==◌, refl, sym, ap, ◌∙◌, Option, Ok, Err}
 use Rattle.std.specs.Option.{option_or, option_map_or}
 use Rattle.std.proofs.lemmas.Bool.{eq-eqb, eqb-true}
 use Rattle.lk_model.specs.Formulas.Formula.{Cnf}
 use Rattle.lk_model.specs.Linear.Arithmetic.{first_wide}
+use Rattle.lk_model.specs.Linear.Rows.{TableauRows}
 use Rattle.lk_model.specs.Linear.Phases.{NextMove, PivotOn, StageStands, EndsLean, next}
 use Rattle.lk_model.specs.Linear.Ends.{dual_at_end, units_at_end, made_in_dual, made_in_units}
 use Rattle.lk_model.specs.Linear.LinearRun.{RunDone, RunWide, RunBudget, Moment, Moved, Ended, after_pivot, after_stage, at_end, moved}
@@ -65,31 +66,48 @@ stops_out budget made here there OutOfMemory same h = tt
 
 -- THE END
 
--- by the first result of both lists that is too wide
-abbrev ends_by : (m : Moment) → Option Wide → Option Wide → Moved
-ends_by m o p = option_map_or (λ w. Ended (RunWide m.pivots w)) (option_or o p) (Ended (RunDone m.rows.positions m.stages (dual_at_end m.rows) (units_at_end m.rows) m.pivots))
+abbrev both_at : TableauRows → List Dual × List Unit
+both_at t = (dual_at_end t, units_at_end t)
 
-at_end_is : (m : Moment) → at_end m ≡ ends_by m (first_wide (made_in_dual m.rows)) (first_wide (made_in_units m.rows))
-at_end_is m = ap (λ o. option_map_or (λ w. Ended (RunWide m.pivots w)) o (Ended (RunDone m.rows.positions m.stages (dual_at_end m.rows) (units_at_end m.rows) m.pivots)))
-    (first_wide-append (made_in_dual m.rows) (made_in_units m.rows))
+abbrev made_in_both : TableauRows → List Wide
+made_in_both t = made_in_dual t ++ made_in_units t
 
--- a dual stops it
-pub out_dual : (m : Moment) (e : LinearStop) → GivesAfter m.pivots (made_in_dual m.rows) (dual_at_end m.rows) (Err e) → LeadsOut m.pivots (at_end m) (Err e)
-out_dual m (TooLarge vars clauses) h = absurd h
-out_dual m (TooWide n w) h = at_end_is m ∙ (λ i. ends_by m (h.1 i) (first_wide (made_in_units m.rows))) ∙ (λ i. Ended (RunWide (sym h.0 i) w))
-out_dual m (Budget n) h = absurd h
-out_dual m OutOfMemory h = tt
+-- a dual stops the call of both
+pub both_dual : (made : ℕ) (t : TableauRows) (e : LinearStop) → GivesAfter made (made_in_dual t) (dual_at_end t) (Err e)
+    → GivesAfter made (made_in_both t) (both_at t) (Err e)
+both_dual made t (TooLarge vars clauses) h = absurd h
+both_dual made t (TooWide n w) h =
+    (h.0, first_wide-append (made_in_dual t) (made_in_units t) ∙ ap (λ o. option_or o (first_wide (made_in_units t))) h.1)
+both_dual made t (Budget n) h = absurd h
+both_dual made t OutOfMemory h = tt
 
 -- a unit does
-pub out_units : (m : Moment) (dual : List Dual) (e : LinearStop) → GivesAfter m.pivots (made_in_dual m.rows) (dual_at_end m.rows) (Ok dual)
-    → GivesAfter m.pivots (made_in_units m.rows) (units_at_end m.rows) (Err e) → LeadsOut m.pivots (at_end m) (Err e)
-out_units m dual (TooLarge vars clauses) g h = absurd h
-out_units m dual (TooWide n w) g h = at_end_is m ∙ (λ i. ends_by m (g.0 i) (h.1 i)) ∙ (λ i. Ended (RunWide (sym h.0 i) w))
-out_units m dual (Budget n) g h = absurd h
-out_units m dual OutOfMemory g h = tt
+pub both_units : (made : ℕ) (t : TableauRows) (dual : List Dual) (e : LinearStop) → GivesAfter made (made_in_dual t) (dual_at_end t) (Ok dual)
+    → GivesAfter made (made_in_units t) (units_at_end t) (Err e) → GivesAfter made (made_in_both t) (both_at t) (Err e)
+both_units made t dual (TooLarge vars clauses) g h = absurd h
+both_units made t dual (TooWide n w) g h = (h.0, first_wide-append (made_in_dual t) (made_in_units t) ∙ (λ i. option_or (g.0 i) (h.1 i)))
+both_units made t dual (Budget n) g h = absurd h
+both_units made t dual OutOfMemory g h = tt
 
 -- nothing does
-pub out_ok : (m : Moment) (kept : List ℕ) (dual : List Dual) (units : List Unit) → kept ≡ m.rows.positions → GivesAfter m.pivots (made_in_dual m.rows) (dual_at_end m.rows) (Ok dual)
-    → GivesAfter m.pivots (made_in_units m.rows) (units_at_end m.rows) (Ok units) → at_end m ≡ Ended (RunDone kept m.stages dual units m.pivots)
-out_ok m kept dual units same g h =
-    at_end_is m ∙ (λ i. ends_by m (g.0 i) (h.0 i)) ∙ (λ i. Ended (RunDone (sym same i) m.stages (sym g.1 i) (sym h.1 i) m.pivots))
+pub both_ok : (made : ℕ) (t : TableauRows) (dual : List Dual) (units : List Unit) → GivesAfter made (made_in_dual t) (dual_at_end t) (Ok dual)
+    → GivesAfter made (made_in_units t) (units_at_end t) (Ok units) → GivesAfter made (made_in_both t) (both_at t) (Ok (dual, units))
+both_ok made t dual units g h = (first_wide-append (made_in_dual t) (made_in_units t) ∙ (λ i. option_or (g.0 i) (h.0 i)), λ i. (g.1 i, h.1 i))
+
+-- by the first result that is too wide
+abbrev ends_by : (m : Moment) → Option Wide → Moved
+ends_by m o = option_map_or (λ w. Ended (RunWide m.pivots w)) o (Ended (RunDone m.rows.positions m.stages (dual_at_end m.rows) (units_at_end m.rows) m.pivots))
+
+-- the run stops with that call
+pub out_stops : (m : Moment) (e : LinearStop) → GivesAfter m.pivots (made_in_both m.rows) (both_at m.rows) (Err e)
+    → LeadsOut m.pivots (at_end m) (Err e)
+out_stops m (TooLarge vars clauses) h = absurd h
+out_stops m (TooWide n w) h = ap (ends_by m) h.1 ∙ (λ i. Ended (RunWide (sym h.0 i) w))
+out_stops m (Budget n) h = absurd h
+out_stops m OutOfMemory h = tt
+
+-- it ends with what that call gives
+pub out_ok : (m : Moment) (kept : List ℕ) (both : List Dual × List Unit) → kept ≡ m.rows.positions
+    → GivesAfter m.pivots (made_in_both m.rows) (both_at m.rows) (Ok both)
+    → at_end m ≡ Ended (RunDone kept m.stages both.0 both.1 m.pivots)
+out_ok m kept both same h = ap (ends_by m) h.0 ∙ (λ i. Ended (RunDone (sym same i) m.stages (sym h.1 i).0 (sym h.1 i).1 m.pivots))

@@ -1,5 +1,5 @@
 //! The calls of a tableau, which stop with how many pivots were made.
-ghost use Rattle.std.specs.Prelude.{◌≡◌};
+ghost use Rattle.std.specs.Prelude.{◌≡◌, ◌++◌};
 ghost use Rattle.lk_model.specs.Linear.Pivot.{pivoted, made_in_pivot};
 ghost use Rattle.lk_model.specs.Linear.Phases.{next, PivotOn, StageStands, EndsLean, stage_of, made_in_stage};
 ghost use Rattle.lk_model.specs.Linear.Ends.{dual_at_end, made_in_dual, units_at_end, made_in_units};
@@ -26,16 +26,26 @@ pub(crate) fn stage_of(pivots: u64, rows: Tableau) -> Result<Stage, LinearStop>
     rows.stage().map_err(|stop| LinearStop::after(pivots, stop))
 }
 
-/// A dual for each clause, where the run ends lean.
-pub(crate) fn dual_of(pivots: u64, rows: &Tableau) -> Result<List<Dual>, LinearStop>
+/// A dual for each clause and a unit for each variable, where the run ends lean.
+pub(crate) fn end_of(pivots: u64, rows: &Tableau) -> Result<(List<Dual>, List<Unit>), LinearStop>
+    requires { next rows.now ≡ EndsLean }
+    ensures { GivesAfter pivots (made_in_dual rows.now ++ made_in_units rows.now) (dual_at_end rows.now, units_at_end rows.now) result }
+{
+    let dual = dual_of(pivots, rows)?;
+    let units = units_of(pivots, rows)?;
+    Ok((dual, units))
+}
+
+// A dual for each clause.
+fn dual_of(pivots: u64, rows: &Tableau) -> Result<List<Dual>, LinearStop>
     requires { next rows.now ≡ EndsLean }
     ensures { GivesAfter pivots (made_in_dual rows.now) (dual_at_end rows.now) result }
 {
     rows.dual().map_err(|stop| LinearStop::after(pivots, stop))
 }
 
-/// A unit for each variable, where the run ends lean.
-pub(crate) fn units_of(pivots: u64, rows: &Tableau) -> Result<List<Unit>, LinearStop>
+// A unit for each variable.
+fn units_of(pivots: u64, rows: &Tableau) -> Result<List<Unit>, LinearStop>
     requires { next rows.now ≡ EndsLean }
     ensures { GivesAfter pivots (made_in_units rows.now) (units_at_end rows.now) result }
 {

@@ -1,14 +1,14 @@
 //! A linear run at one moment, and its moves.
-ghost use Rattle.std.specs.Prelude.{◌≡◌, ℕ, ◌<◌, ◌^◌, ◌-◌, List, IfOk, IsTrue};
+ghost use Rattle.std.specs.Prelude.{◌≡◌, ℕ, ◌<◌, ◌^◌, ◌-◌, ◌++◌, ◌∷◌, [], List, IfOk, OnOk, IsTrue};
 ghost use Rattle.lk_model.specs.Formulas.Formula.{positions_of};
 ghost use Rattle.lk_model.specs.Formulas.Lean.{are_positions};
-ghost use Rattle.lk_model.specs.Linear.Phases.{next, PivotOn, StageStands, EndsLean};
+ghost use Rattle.lk_model.specs.Linear.Phases.{next, PivotOn, StageStands, EndsLean, stage_of, made_in_stage, unweighted};
 ghost use Rattle.lk_model.specs.Linear.LinearRun.{moved, after_pivot, after_stage, at_end};
 ghost use Rattle.exact_pivot.specs.Reached.{IsReached};
 ghost use Rattle.linear_laws.specs.MovesLaw.{first_moment, IsWithin};
-ghost use Rattle.linear_kernel.specs.Moves.{LeadsTo, LeadsOn, LeadsOut};
+ghost use Rattle.linear_kernel.specs.Moves.{GivesAfter, LeadsTo, LeadsOn, LeadsOut};
 
-use crate::counted::{dual_of, pivoted, stage_of, units_of};
+use crate::counted::{end_of, pivoted, stage_of};
 use crate::stop::LinearStop;
 use crate::weighted::unweighted;
 use exact_pivot::{Next, Tableau};
@@ -104,11 +104,16 @@ impl Run {
         requires next { next self.rows ≡ StageStands }
         ensures { LeadsOn (after_stage f.now self) result }
     {
-        let stage = stage_of(self.pivots, self.rows)?;
-        let kept = unweighted(self.alloc, f, &stage, self.kept.as_slice())?;
-        let rows = Tableau::of(self.alloc, f, kept.as_slice())?;
         let mut stages = self.stages;
-        stages.push(stage)?;
+        let kept = push_stage(
+            &mut stages,
+            self.alloc,
+            self.pivots,
+            f,
+            self.rows,
+            self.kept.as_slice(),
+        )?;
+        let rows = Tableau::of(self.alloc, f, kept.as_slice())?;
         Ok(Run {
             alloc: self.alloc,
             pivots: self.pivots,
@@ -123,8 +128,7 @@ impl Run {
         requires { next self.rows ≡ EndsLean }
         ensures { LeadsOut self.pivots (at_end self) result }
     {
-        let dual = dual_of(self.pivots, &self.rows)?;
-        let units = units_of(self.pivots, &self.rows)?;
+        let (dual, units) = end_of(self.pivots, &self.rows)?;
         Ok(LinearResult {
             kept: self.kept,
             stages: self.stages,
@@ -132,4 +136,25 @@ impl Run {
             units,
         })
     }
+}
+
+// Appends the stage that stands, and answers which of the positions it leaves.
+fn push_stage(
+    stages: &mut List<Stage>,
+    alloc: Global,
+    pivots: u64,
+    f: &Formula,
+    rows: Tableau,
+    kept: &[u32],
+) -> Result<List<u32>, LinearStop>
+    requires reached { (at : List ℕ) × IsReached f.now at rows }
+    requires positions { IsTrue (are_positions f.now kept.now) }
+    requires next { next rows ≡ StageStands }
+    ensures left { GivesAfter pivots (made_in_stage rows) (unweighted f.now (stage_of rows) kept.now) result }
+    ensures stages { OnOk result (stages.new ≡ stages.old ++ stage_of rows ∷ []) }
+{
+    let stage = stage_of(pivots, rows)?;
+    let left = unweighted(alloc, f, &stage, kept)?;
+    stages.push(stage)?;
+    Ok(left)
 }

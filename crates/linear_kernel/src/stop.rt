@@ -7,7 +7,7 @@ use lk_model::OutOfMemory;
 use std::alloc::{AllocError, AllocFailed};
 
 /// Why there is no linear kernel.
-#[derive(Clone, Copy, PartialEq, Eq, Debug)]
+#[derive(Clone, Copy)]
 pub enum LinearStop {
     /// The rows would have more than 2^24 entries: a row for each of these variables, those that
     /// occur, and the cost row, with an entry for each clause, for each of the variables, for the cost
