@@ -1,7 +1,8 @@
 -- What a propagator holds at the start.
-use Rattle.std.proofs.Common.{◌≡◌, ℕ, ◌+◌, ◌<◌, ◌≤◌, take, drop, get_or, append_assoc, Bool, true, false, not, cond, ◌&&◌, ◌==◌, List, [], ◌∷◌, ◌++◌, ◌∙◌, sym, refl, arith, length, map, filter, nat_le, nat_lt, ap, subst}
+use Rattle.std.proofs.Common.{◌≡◌, ℕ, ◌+◌, ◌<◌, ◌≤◌, take, drop, get_or, append_assoc, Bool, true, false, not, cond, ◌&&◌, ◌==◌, List, [], ◌∷◌, ◌++◌, ◌∙◌, sym, refl, arith, length, map, filter, ℤ, nat_le, nat_lt, ap, subst}
 use Rattle.std.specs.List.{list_all}
-use Rattle.std.proofs.lemmas.List.{take-append-drop, take_more}
+use Rattle.std.proofs.lemmas.List.{take-append-drop, take_more, map-append}
+use Rattle.std.proofs.lemmas.List.Elements.{filter-append}
 use Rattle.std.proofs.lemmas.Bool.{le-leb, leb-true, eqb-true, eq-eqb, ltb-true, false_from_ne_true, not-true}
 use Rattle.lk_model.specs.Lists.{among, is_empty, rises_within}
 use Rattle.lk_model.specs.Formulas.Literal.{is_clause}
@@ -21,6 +22,30 @@ use Rattle.watch_prop.specs.Trail.{is_trail}
 -- the crossed clauses at these positions that are not empty
 abbrev pub crossed_at : Cnf → Variables → List ℕ → List NumberedClause
 crossed_at F blocked ps = filter (λ (c : NumberedClause). not (is_empty c.lits)) (map (λ p. record { number = p; lits = crossed_out blocked (clause_at F p) }) ps)
+
+-- those at one position more
+pub crossed_more : (F : Cnf) (blocked : Variables) (ps : List ℕ) (i : ℕ) → i < length ps
+    → crossed_at F blocked (take (i + 1) ps) ≡ crossed_at F blocked (take i ps) ++ crossed_at F blocked (get_or ps i 0 ∷ [])
+crossed_more F blocked ps i lt =
+    ap (crossed_at F blocked) (take_more ps i 0 lt) ∙ ap (filter filled) (map-append crossed (take i ps) (get_or ps i 0 ∷ []))
+    ∙ filter-append filled (map crossed (take i ps)) (crossed (get_or ps i 0) ∷ [])
+  where
+    filled : NumberedClause → Bool
+    filled c = not (is_empty c.lits)
+
+    crossed : ℕ → NumberedClause
+    crossed p = record { number = p; lits = crossed_out blocked (clause_at F p) }
+
+-- one that is not empty, and one that is
+pub crossed_kept : (F : Cnf) (blocked : Variables) (p : ℕ) (lits : List ℤ) → lits ≡ crossed_out blocked (clause_at F p) → 0 < length lits
+    → crossed_at F blocked (p ∷ []) ≡ record { number = p; lits = lits } ∷ []
+crossed_kept F blocked p [] is some = absurd (omega (arith, some))
+crossed_kept F blocked p (l ∷ lits) is some = ap (λ (c : List ℤ). filter (λ (c : NumberedClause). not (is_empty c.lits)) (record { number = p; lits = c } ∷ [])) (sym is)
+
+pub crossed_left : (F : Cnf) (blocked : Variables) (p : ℕ) (lits : List ℤ) → lits ≡ crossed_out blocked (clause_at F p) → length lits ≤ 0
+    → crossed_at F blocked (p ∷ []) ≡ []
+crossed_left F blocked p [] is none = ap (λ (c : List ℤ). filter (λ (c : NumberedClause). not (is_empty c.lits)) (record { number = p; lits = c } ∷ [])) (sym is)
+crossed_left F blocked p (l ∷ lits) is none = absurd (omega (arith, none))
 
 pub crossed_are_clauses : (F : Cnf) (blocked : Variables) (ps : List ℕ) → is_formula F ≡ true
     → list_all (λ (c : NumberedClause). not (is_empty c.lits) && is_clause F.vars c.lits) (crossed_at F blocked ps) ≡ true
