@@ -91,3 +91,23 @@ returns-clause-rows c =
     let vars = c.args.vars.now in
     c.loop-j.invariant.rows ∙ ap (map (start_row F S)) (take_all c.loop-j.j (zip (up_to (length vars)) vars) (omega (arith, zip_count vars 1)))
     ∙ (λ i. map (start_row F S) (zip (up_to (length (c.requires.vars i))) (c.requires.vars i)))
+
+pub overflow_add-right : goal.overflow_add-right
+overflow_add-right c =
+    let F = c.args.f.now in
+    let S = c.args.kept.now in
+    let count = ap (λ (vs : List ℕ). length vs) c.requires.vars in
+    let few : length S ≤ 4000000 = (let most = rising_count 0 (length F.clauses) S c.requires.kept (omega arith) in omega (arith, most, c.requires.limits.clauses)) in
+    record { fits = omega (arith, few, count, variables_few F S, c.requires.limits.vars) }
+
+pub overflow_add-artificial : goal.overflow_add-artificial
+overflow_add-artificial c =
+    let F = c.args.f.now in
+    let S = c.args.kept.now in
+    let count = ap (λ (vs : List ℕ). length vs) c.requires.vars in
+    let few : length S ≤ 4000000 = (let most = rising_count 0 (length F.clauses) S c.requires.kept (omega arith) in omega (arith, most, c.requires.limits.clauses)) in
+    record { fits = omega (arith, few, count, variables_few F S, c.requires.limits.vars) }
+
+pub returns-clause-signs : goal.returns-clause-signs
+returns-clause-signs c =
+    c.loop-j.invariant.signs ∙ ap (map (sign_of c.args.f.now c.args.kept.now)) (take_all c.loop-j.j c.args.vars.now (omega arith))
