@@ -1,8 +1,8 @@
-use Rattle.std.proofs.Common.{◌≡◌, ◌∙◌, ◌+◌, ◌<◌, ◌-◌, ◌^◌, ◌++◌, ◌∷◌, [], length, IsSome, subst, sym, arith}
+use Rattle.std.proofs.Common.{◌≡◌, ◌∙◌, ◌+◌, ◌<◌, ◌-◌, ◌^◌, ◌++◌, ◌∷◌, [], length, IsSome, ap, subst, sym, arith}
 use Rattle.std.proofs.lemmas.List.{length_push}
 use Rattle.lk_model.specs.Held.VariableSets.{premises_of}
 use Rattle.lk_model.specs.Chains.Chain.{chain_clause}
-use Rattle.refutation_log.specs.Derivation.{Derivation, IsDerivation, IsLog, Extends, step_of}
+use Rattle.refutation_log.specs.Derivation.{Derivation, IsDerivation, IsLog, Extends, next_number, step_of}
 use Rattle.refutation_log.proofs.Chains.{pushed}
 use Rattle.refutation_log.proofs.log.Log.push_chain.Goals as goal
 
@@ -40,3 +40,31 @@ returns-clause-ok c = rw (c.in_ok-push.ensures.items) (both c).1
 
 pub returns-clause-log : goal.returns-clause-log
 returns-clause-log c = kept c
+
+pub clause_of_chain-clause-requires-clause-past : goal.clause_of_chain-clause-requires-clause-past
+clause_of_chain-clause-requires-clause-past c = subst (λ (v : Derivation). length c.args.over.now.formula.now.clauses < v.first) (sym c.self.view_is) c.requires.past
+
+pub clause_of_chain-clause-requires-clause-chain : goal.clause_of_chain-clause-requires-clause-chain
+clause_of_chain-clause-requires-clause-chain c =
+    subst (λ (v : Derivation). IsSome (chain_clause (premises_of c.args.over.now v.steps) c.args.first c.args.turns.now)) (sym c.self.view_is) c.requires.chain
+
+pub overflow_add-number : goal.overflow_add-number
+overflow_add-number c =
+    let room : c.self.inside.first + length c.self.inside.steps.items < 2 ^ 64 - 1 = subst (λ (v : Derivation). v.first + length v.steps < 2 ^ 64 - 1) (sym c.self.view_is) c.requires.room in
+    record { fits = omega (arith, room, c.len.ensures) }
+
+pub invariant_of-self : goal.invariant_of-self
+invariant_of-self c = c.self.invariant
+
+pub invariant_of-self-2 : goal.invariant_of-self-2
+invariant_of-self-2 c = c.self.invariant
+
+pub invariant_of-self-3 : goal.invariant_of-self-3
+invariant_of-self-3 c = c.self.invariant
+
+pub returns-clause-number : goal.returns-clause-number
+returns-clause-number c =
+    let at = ap next_number c.self.view_is in
+    let len = c.len.ensures in
+    let held = c.self.inside.steps.ok in
+    omega (arith, at, len, held)
