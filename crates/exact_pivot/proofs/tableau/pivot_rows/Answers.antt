@@ -5,7 +5,7 @@ use Rattle.std.proofs.lemmas.Result.{err_from_is_err_and}
 use Rattle.std.proofs.lemmas.Grind.{common_steps}
 use Rattle.lk_model.specs.Linear.Arithmetic.{first_wide}
 use Rattle.lk_model.specs.Linear.Pivot.{in_first_phase, turned, cleared, made_to_clear}
-use Rattle.lk_model.specs.Linear.Rows.{Row, TableauRows, entry}
+use Rattle.lk_model.specs.Linear.Rows.{Row, entry}
 use Rattle.exact_rows.specs.Sparse.{IsStop}
 use Rattle.exact_pivot.specs.Moves.{cleared_row, made_to_clear_all}
 use Rattle.exact_pivot.proofs.Pivoting.{by_is, others_width, cost_width, first_stops, second_is, second_stops, turned_is, pivoted_is, written_back}
