@@ -52,21 +52,3 @@ loop-l-preserved c =
             (subst (λ (x : Vec ℕ Global). get_or H r 0 < vec_capacity x) (sym (get_or-set_same L r v' d lt)) fits)
       ];
     }
-
-pub index-requires : goal.index-requires
-index-requires c =
-    let low = rank_at c.args.lits.now c.loop-l.l-index (length c.args.lists.now) c.l-item.result c.requires.ranks (omega (arith, c.loop-l-test.true)) c.l-item.is in
-    omega (arith, low, c.requires.same)
-
-pub overflow_sub-more : goal.overflow_sub-more
-overflow_sub-more c =
-    let L = c.loop-l.lists in
-    let H = c.args.counts.now in
-    let r = rank_of c.l-item.result in
-    let a = c.index-in-loop-l.result.now in
-    let long = same_length L c.args.lists.now c.loop-l.invariant.items in
-    let low = rank_at c.args.lits.now c.loop-l.l-index (length c.args.lists.now) c.l-item.result c.requires.ranks (omega (arith, c.loop-l-test.true)) c.l-item.is in
-    let held = get_or_read H r c.index.result.now (omega (arith, low, c.requires.same)) c.index.ensures 0 in
-    let len = ap (λ (x : Vec ℕ Global). vec_len x) c.index-in-loop-l.ensures in
-    let room = c.loop-l.invariant.room r a (omega (arith, low, long)) in
-    omega (arith, c.len.ensures, len, room.0, held)

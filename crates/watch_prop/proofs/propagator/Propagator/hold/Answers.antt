@@ -6,7 +6,7 @@ use Rattle.watch_prop.specs.declared.watch.Watch.{Watch}
 use Rattle.lk_model.proofs.Booleans.{and_true}
 use Rattle.watch_prop.specs.declared.entry.NumberedClause.{NumberedClause}
 use Rattle.watch_prop.specs.KeptPropagator.{propagator_seen}
-use Rattle.watch_prop.specs.Propagation.{Propagation, numbers_of, with_held}
+use Rattle.watch_prop.specs.Propagation.{Propagation, numbers_of}
 use Rattle.watch_prop.proofs.Holding.{ranks_within, held_state}
 use Rattle.watch_prop.proofs.propagator.Propagator.hold.Goals as goal
 
@@ -42,14 +42,3 @@ invariant_of-self-2 c =
       head = refl;
       marks = refl;
     })
-
-pub count-requires-clause-distinct : goal.count-requires-clause-distinct
-count-requires-clause-distinct c =
-    let n = c.args.self.now.vars in
-    let both = and_true (not (is_empty c.args.lits.now)) (is_clause n c.args.lits.now) c.requires.clause in
-    (and_true (list_all (is_literal n) c.args.lits.now) (is_distinct c.args.lits.now) both.1).1
-
-pub returns-clause-ok : goal.returns-clause-ok
-returns-clause-ok c =
-    ap (λ (cs : List NumberedClause). record (propagator_seen c.self.inside) { clauses = cs }) c.in_ok-push.ensures.ok
-    ∙ ap (λ (p : Propagation). with_held p c.args.number c.args.lits.now) c.self.view_is
