@@ -15,7 +15,7 @@ pub enum Next {
 }
 
 /// Why a call on a tableau has no result.
-#[derive(Clone, Copy)]
+#[derive(Clone, Copy, Debug)]
 pub enum PivotStop {
     /// The operands of the first result that lies outside ±(2^127 - 1).
     Wide(Wide),

@@ -11,7 +11,7 @@ use std::alloc::{AllocError, AllocFailed, Global};
 use std::marker::Model;
 
 /// A number of a row that is not 0.
-#[derive(Clone, Copy)]
+#[derive(Clone, Copy, PartialEq, Eq)]
 pub struct Entry {
     /// Its column, counted from 1.
     pub column: usize,

@@ -196,8 +196,8 @@ fn is_too_wide(t: Tableau, row: u32, col: u32, wide: Wide) -> bool
     requires { next t ≡ PivotOn row col }
 {
     match t.pivot(row, col) {
-        Err(stop) => stop == PivotStop::Wide(wide),
-        Ok(_) => false,
+        Err(PivotStop::Wide(met)) => met == wide,
+        _ => false,
     }
 }
 
