@@ -2,7 +2,9 @@
 #![tactic(auto)]
 
 mod kernel;
+mod laws;
 mod set_line;
 
 pub use kernel::matching_kernel;
+pub use laws::reached_law;
 pub use set_line::set_of_own;
