@@ -1,0 +1,2 @@
+pub mod Deficiency
+pub mod DeficiencyLaw
