@@ -1,5 +1,5 @@
 -- What is said of the answers of each command.
-use Rattle.std.proofs.Common.{◌≡◌, ℕ, List, [], true, refl, sym, ◌∙◌, ap, subst}
+use Rattle.std.proofs.Common.{◌≡◌, ℕ, List, [], true, refl, sym, ◌∙◌, subst}
 use Rattle.lk_model.specs.Formulas.Assignment.{assignment_of}
 use Rattle.lk_model.specs.Formulas.Crossed.{formula_without}
 use Rattle.lk_model.specs.Linear.LinearRun.{linear_run_under, is_too_large_under}
@@ -21,7 +21,7 @@ use Rattle.command_endings.specs.declared.status.Status.{Status}
 use Rattle.command_endings.specs.Statuses.{is_silent}
 use Rattle.command_endings.specs.declared.status.Status.TheVariants.{Done, Words, Input, ReadFault, WriteFault, Budget, TooWide, TooLarge, Refused, Memory, Satisfiable, Unsatisfiable}
 use Rattle.command_words.specs.declared.command.Command.{Command}
-use Rattle.command_words.specs.declared.command.Command.TheVariants.{ReducePure, ReduceMatching, ReduceLinear, ReduceGeneral, Check, Extend, Report, Demo, Solve, Verify}
+use Rattle.command_words.specs.declared.command.Command.TheVariants.{ReducePure, ReduceMatching, ReduceLinear, ReduceGeneral, Check, Extend, Report, Demo, Solve, Verify, Deficiency}
 use Rattle.command_endings.proofs.LinearEndings.{run_silent}
 use Rattle.command_endings.proofs.SolveEndings.{solve_status}
 
@@ -37,6 +37,7 @@ one_status Report options values decided status written said d a = a.status_is �
 one_status Demo options values decided status written said d a = absurd d
 one_status Solve options values decided status written said d a = solve_status options values.0 decided status written said d a
 one_status Verify options values decided status written said d a = a.status_is ∙ sym d
+one_status Deficiency options values decided status written said d a = a.status_is ∙ sym d
 
 -- WHERE ALL IS TOLD
 
@@ -77,6 +78,7 @@ result_silent Report options values status written said is a = a.silent
 result_silent Demo options values status written said is a = of_silent (λ s. demo.Answers options.number s written said) said (λ w. w.1) (λ w. absurd w) (λ w. absurd w) status is a
 result_silent Solve options values status written said is a = of_silent (λ s. solve.Answers options values.0 s written said) said (λ w. absurd w) (λ w. w.1) (λ w. w.1) status is a
 result_silent Verify options values status written said is a = a.silent
+result_silent Deficiency options values status written said is a = a.silent
 
 -- WHERE NOTHING IS WRITTEN
 
@@ -113,6 +115,7 @@ wide_unwritten Report options values written said a = let is = a.status_is in ab
 wide_unwritten Demo options values written said a = absurd a
 wide_unwritten Solve options values written said a = absurd a
 wide_unwritten Verify options values written said a = absurd (wide_verdict (verify.verdict_of values.0 values.1.0) a.status_is)
+wide_unwritten Deficiency options values written said a = let is = a.status_is in absurd (let f : ⊥ = cc is in f)
 
 pub large_unwritten : (command : Command) (options : Options) (values : Values (inputs_of command)) (written said : List ℕ) → Answers command options values TooLarge written said → written ≡ []
 large_unwritten ReducePure options values written said a = let is = a.status_is in absurd (let f : ⊥ = cc is in f)
@@ -125,3 +128,4 @@ large_unwritten Report options values written said a = let is = a.status_is in a
 large_unwritten Demo options values written said a = absurd a
 large_unwritten Solve options values written said a = absurd a
 large_unwritten Verify options values written said a = absurd (large_verdict (verify.verdict_of values.0 values.1.0) a.status_is)
+large_unwritten Deficiency options values written said a = let is = a.status_is in absurd (let f : ⊥ = cc is in f)

@@ -10,3 +10,4 @@ pub mod DemoEndings
 pub mod Extensions
 pub mod SolveEndings
 pub mod VerifiedAnswers
+pub mod MeasuredLines

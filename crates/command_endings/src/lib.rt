@@ -7,6 +7,7 @@ pub mod demo;
 mod ending;
 pub mod extend;
 mod lines;
+pub mod measure;
 mod protect;
 pub mod reduce;
 pub mod reduce_general;

@@ -23,10 +23,12 @@ pub enum Command {
     Solve,
     /// Writes what the checks say of a formula and an answer.
     Verify,
+    /// Writes the maximal deficiency of a formula, with what shows it.
+    Deficiency,
 }
 
 /// The commands, in the order in which their words are looked for.
-pub(crate) const COMMANDS: [Command; 10] = [
+pub(crate) const COMMANDS: [Command; 11] = [
     Command::ReducePure,
     Command::ReduceMatching,
     Command::ReduceLinear,
@@ -37,4 +39,5 @@ pub(crate) const COMMANDS: [Command; 10] = [
     Command::Demo,
     Command::Solve,
     Command::Verify,
+    Command::Deficiency,
 ];

@@ -82,6 +82,12 @@ impl Command {
                 inputs: &[Grammar::Formula, Grammar::Answer],
                 keys: &[],
             },
+            Command::Deficiency => Shape {
+                words: &["deficiency"],
+                numbers: None,
+                inputs: &[Grammar::Formula],
+                keys: &[],
+            },
         }
     }
 }

@@ -10,6 +10,7 @@ pub mod SpelledFormulas
 pub mod ModelOrNone
 pub mod SolveOutcomes
 pub mod VerifyOutcomes
+pub mod DeficiencyOutcomes
 pub mod QuietEndings
 pub mod KeptClauses
 pub mod WrittenChecks

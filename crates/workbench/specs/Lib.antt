@@ -7,6 +7,7 @@ pub mod GeneralOutcomes
 pub mod DemoOutcomes
 pub mod SolveOutcomes
 pub mod VerifyOutcomes
+pub mod DeficiencyOutcomes
 pub mod KeptClauses
 pub mod WrittenChecks
 pub mod WrittenAnswers

@@ -7,6 +7,7 @@ ghost use Rattle.workbench.specs.Performing.{Performs};
 
 mod check;
 mod extend;
+mod measure;
 mod reduce;
 mod reduce_general;
 mod report;
@@ -51,5 +52,6 @@ pub(crate) fn perform<R: Threads + Sync, H: Shelf, G: Gate>(
         Command::Demo => Ok(demo::answer(rt, alloc, gate, options.number)?),
         Command::Solve => solve::perform(rt, alloc, gate, shelf, names, options),
         Command::Verify => verify::perform(alloc, shelf, names, options),
+        Command::Deficiency => measure::perform(alloc, shelf, names, options),
     }
 }

@@ -2,6 +2,7 @@
 ghost use Rattle.lk_model.specs.declared.class.Class.TheVariants.{Pure, Matching};
 ghost use Rattle.workbench.specs.Agreement.{WrittenIsAccepted, StoppedIsUnfinished};
 ghost use Rattle.command_words.specs.declared.command.Command.TheVariants.{ReducePure, ReduceMatching};
+ghost use Rattle.workbench.specs.DeficiencyOutcomes.{DeficiencyOutcomes};
 ghost use Rattle.workbench.specs.DemoOutcomes.{DemoOutcomes};
 ghost use Rattle.workbench.specs.GeneralOutcomes.{GeneralOutcomes};
 ghost use Rattle.workbench.specs.KeptClauses.{KeptLaw};
@@ -83,6 +84,13 @@ pub fn solve_law()
 /// a check of it fails. Told texts decide between these and 2, unless a call or memory fails.
 pub fn verify_law()
     ensures { VerifyOutcomes }
+{}
+
+/// Of `deficiency`: with status 0 the greatest number of clauses less occurring variables over all sets of clauses of the formula
+/// stands on `out`, with a set that has it, the matching kernel, and different variables for all clauses but so many. Each text
+/// without a fault is answered so, and each other one refused, unless a call or memory fails.
+pub fn deficiency_law()
+    ensures { DeficiencyOutcomes }
 {}
 
 /// What `solve` writes of a text with status 10 or 20 is an answer for that text of which no check fails, and of what it writes

@@ -28,7 +28,8 @@ use std::thread::Threads;
 ///   exactly the clauses of F outside K; a model of K, overridden by φ, is one of F; the checks accept the document.
 ///   Of `check` the document is accepted, and so all this holds of it, whoever made it. Of `extend` it is the line of
 ///   a model of the formula; of `report` nine numbers of the formula; of `demo` six lines on the formula of a number.
-///   Of `verify` the answer is accepted: its literals satisfy the formula, or this has no model.
+///   Of `verify` the answer is accepted: its literals satisfy the formula, or this has no model. Of `deficiency` it is the
+///   greatest number of clauses less occurring variables, with what shows it.
 /// - 1: the command line is not valid. `say` has the number of the refused word.
 /// - 2: an input is outside its grammar, and those before it are within theirs. `say` has the line of its first
 ///   fault, and of a formula the kind.

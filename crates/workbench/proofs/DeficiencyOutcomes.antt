@@ -1,0 +1,37 @@
+-- What the clauses of a run come to for the command `deficiency`.
+use Rattle.std.proofs.Common.{◌≡◌, ℕ, List, [], ◌∷◌, Option, Some, None, refl, sym, subst, inl}
+use Rattle.std.specs.Prelude.{IfSome, IsTrue, nat_eq}
+use Rattle.std.specs.List.{list_any}
+use Rattle.lk_model.specs.Formulas.Formula.{Cnf}
+use Rattle.lk_model.specs.Texts.Dimacs.{Spells}
+use Rattle.command_endings.specs.Commands.Measuring.{WritesDeficiency}
+use Rattle.command_endings.specs.Statuses.{code}
+use Rattle.command_endings.specs.declared.status.Status.{Status}
+use Rattle.command_endings.specs.declared.status.Status.TheVariants.{Done, Input}
+use Rattle.command_words.specs.Lawful.{Request}
+use Rattle.workbench.specs.DeficiencyOutcomes.{DeficiencyOutcomes, Measures}
+use Rattle.workbench.specs.Endings.{IsDecided}
+use Rattle.workbench.proofs.Outcomes.{not_spelled, only, result_of, spelled}
+
+measures : (told : Option (List ℕ)) (F : Cnf) (text : List ℕ) → IfSome told (λ bytes. Spells bytes F) → WritesDeficiency F text → IfSome told (λ bytes. Measures bytes text)
+measures None F text s w = tt
+measures (Some bytes) F text s w = record { formula = F; spells = s; writes = w }
+
+pub deficiency_outcomes : DeficiencyOutcomes
+deficiency_outcomes words shelf out say name options asked = record {
+  done = λ e.
+      let r = result_of words shelf out say _ 0 e asked refl in (
+        e.written,
+        measures (shelf.told name) r.values.0 e.written r.read.0 r.answers.writes,
+        e.taken.0,
+        e.taken.1.same r.answers.silent,
+      );
+  statuses = λ answer e.
+      subst (λ (n : ℕ). IsTrue (list_any (nat_eq n) (0 ∷ 2 ∷ 3 ∷ 9 ∷ []))) (sym e.answer_is)
+      (only words shelf _ e.status e.written e.said (0 ∷ 2 ∷ 3 ∷ 9 ∷ []) asked e.allowed
+      (λ is r. subst (λ (s : Status). IsTrue (list_any (nat_eq (code s)) (0 ∷ 2 ∷ 3 ∷ 9 ∷ []))) (sym r.answers.status_is) refl) refl refl refl);
+  complete = λ h.
+      let s = spelled (shelf.told name) h in
+      subst (λ (o : Option Request). IsDecided o shelf.told Done) (sym asked) (record { told_all = (s.1, tt); values = (s.0, tt); read = (s.2, tt); decides = refl });
+  refuses = λ h. subst (λ (o : Option Request). IsDecided o shelf.told Input) (sym asked) (inl (not_spelled (shelf.told name) h));
+}
