@@ -13,6 +13,7 @@
 //! - `most`, for the number of pairs of a maximum matching and what alternating walks reach, `matching` for
 //!   its variables and positions, and `walks` for what they reach, and the escapes and ranks of variables.
 //! - `kernel`, for the matching kernel and its numbers of owners and rows, `owners` and `rows` for these.
+//! - `deficiency`, for the maximal deficiency of the formula, the kernel, and the variables of clauses.
 //!
 //! `drawn N` compares the pure kernels of so many drawn formulas with those of the plain program, and `small`
 //! the matchings and kernels of all formulas of at most four clauses over three variables with a search
@@ -22,6 +23,7 @@
 ghost use Rattle.std.specs.Prelude.{IsTrue};
 ghost use Rattle.lk_model.specs.Formulas.Lean.{are_positions};
 
+mod deficiencies;
 mod formulas;
 mod matchings;
 mod plain_matchings;
@@ -29,6 +31,7 @@ mod plain_pure;
 mod pure;
 mod small;
 
+use crate::deficiencies::tell_deficiency;
 use crate::formulas::{formula_of, part_of};
 use crate::matchings::{tell_kernel, tell_matching};
 use crate::pure::{tell_drawn, tell_pure};
@@ -51,6 +54,7 @@ fn tell_of(
         "pure" => tell_pure(alloc, f, true, out),
         "order" => tell_pure(alloc, f, false, out),
         "most" | "matching" | "walks" => tell_matching(alloc, word, f, part, out),
+        "deficiency" => tell_deficiency(alloc, f, out),
         _ => tell_kernel(alloc, word, f, part, out),
     }
 }
