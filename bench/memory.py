@@ -35,6 +35,7 @@ def commands():
     for name in ("square", "model", "parts", "eight", "empty", "wrong"):
         yield f"{name} solve", ["solve", name]
         yield f"{name} report", ["report", name]
+        yield f"{name} deficiency", ["deficiency", name]
         for kind in CLASSES:
             yield f"{name} {kind}", ["reduce", kind, name, "--protect", "1"]
     yield "solve stops", ["solve", "eight", "--conflicts", "1"]
