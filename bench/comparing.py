@@ -5,7 +5,7 @@
     bench/comparing.py LEANK tools [KIND ...]
 
 LEANK is the built program (crates/leank/out holds it after `bin/leank` ran once). Needs python3 and Debian's packages
-minisat, cadical and picosat; `tools` needs cbmc and yosys too. The first compares COUNT drawn formulas (by default 300),
+minisat, cadical and picosat; `tools` needs yosys and berkeley-abc too. The first compares COUNT drawn formulas (by default 300),
 the second those of tool_formulas.py. Of each formula:
 
 - the status is that of the solvers, with one worker and with two, and with a small budget if that is enough;

@@ -4,13 +4,13 @@
     bench/solving.py LEANK [GROUP] [KIND ...]
 
 LEANK is the built program (crates/leank/out holds it after `bin/leank` ran once). GROUP is `families`, `tools` or `parts`;
-without it all three are measured. Needs python3 and Debian's packages minisat and cadical; `tools` needs cbmc and yosys
-too. Prints rows of tables. Each figure is the least of three runs, by turns, or of one run that takes over 20 seconds; a
-run ends after 100 seconds of the processor, and `solve` may learn as many clauses as it wants. Seconds are those of the
+without it all three are measured. Needs python3 and Debian's packages minisat and cadical; `tools` needs yosys and berkeley-abc
+too. Prints rows of tables. Each figure is the least of three runs, by turns, or of one run that takes over 5 seconds; a
+run ends after 30 seconds of the processor, and `solve` may learn as many clauses as it wants. Seconds are those of the
 processor; in `parts`, where two workers are at work, those of the clock.
 
 `reading` is `verify` of the same answer without its last byte: it reads the formula and the whole answer, and refuses the
-last line. The judge of answers.py goes through each answer of at most 100 MB. Nothing fails by time.
+last line. The judge of answers.py goes through each answer of at most 4 MB. Nothing fails by time.
 """
 import multiprocessing
 import os
@@ -29,10 +29,10 @@ from formulas import (adders, counter, machine, parity, pebbles, pigeons, plante
 
 SEED = 1
 RUNS = 3
-MOST_SECONDS = 100
-LONG_SECONDS = 20
+MOST_SECONDS = 30
+LONG_SECONDS = 5
 MOST_BYTES = 10 << 30
-JUDGED_BYTES = 100 << 20
+JUDGED_BYTES = 4 << 20
 BUDGET = str(2**63 - 1)
 
 FAMILIES = {
