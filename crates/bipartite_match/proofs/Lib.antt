@@ -8,3 +8,15 @@ pub mod Begins
 pub mod Maximal
 pub mod Rounds
 pub mod Reaching
+pub mod PartPlaces
+pub mod Unmatched
+pub mod Owning
+pub mod Restoring
+pub mod PathTurns
+pub mod Seeking
+pub mod Marks
+pub mod Rooted
+pub mod Roots
+pub mod Sought
+pub mod Koenig
+pub mod Covering

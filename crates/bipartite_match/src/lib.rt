@@ -2,12 +2,20 @@
 //! reach (Hopcroft and Karp 1973, Kullmann 2003).
 #![tactic(auto)]
 
+mod augmenting;
+mod laws;
 mod matching;
 mod mates;
 mod paths;
 mod rarest;
 mod search;
+mod steps;
+mod turning;
+mod visits;
 mod walk;
 
+pub use augmenting::{Start, augment};
+pub use laws::cover_law;
 pub use matching::{Matching, maximum};
+pub use steps::Steps;
 pub use walk::{Reached, reach};

@@ -14,6 +14,9 @@
 //!   its variables and positions, and `walks` for what they reach, and the escapes and ranks of variables.
 //! - `kernel`, for the matching kernel and its numbers of owners and rows, `owners` and `rows` for these.
 //! - `deficiency`, for the maximal deficiency of the formula, the kernel, and the variables of clauses.
+//! - `augment`, for single searches over the whole formula, where no clause has a variable at first. In place of a part it has
+//!   starts, each the position of a clause, or `v` and a variable. It tells of each whether there is one pair more, and how many
+//!   there are.
 //!
 //! `drawn N` compares the pure kernels of so many drawn formulas with those of the plain program, and `small`
 //! the matchings and kernels of all formulas of at most four clauses over three variables with a search
@@ -23,6 +26,7 @@
 ghost use Rattle.std.specs.Prelude.{IsTrue};
 ghost use Rattle.lk_model.specs.Formulas.Lean.{are_positions};
 
+mod augments;
 mod deficiencies;
 mod formulas;
 mod matchings;
@@ -31,6 +35,7 @@ mod plain_pure;
 mod pure;
 mod small;
 
+use crate::augments::tell_searches;
 use crate::deficiencies::tell_deficiency;
 use crate::formulas::{formula_of, part_of};
 use crate::matchings::{tell_kernel, tell_matching};
@@ -71,12 +76,21 @@ fn tell_part(
     Ok(tell_of(alloc, word, f, part.as_slice(), out)?)
 }
 
+/// Writes what searches from the starts of a text find.
+fn tell_starts(alloc: Global, f: &Formula, starts: &str, out: &mut String) -> Result<(), Fail> {
+    let part = part_of(alloc, f, "")?;
+    tell_searches(alloc, f, part.as_slice(), starts, out)
+}
+
 /// Writes what is found of the formula that a text has.
 fn tell_over(alloc: Global, word: &str, text: &str, out: &mut String) -> Result<(), Fail> {
     let (vars, text) = text.split_once(";").unwrap_or((text, ""));
     let (clauses, part) = text.split_once(";").unwrap_or((text, ""));
     let f = formula_of(alloc, vars.parse().unwrap_or(0), clauses)?;
-    tell_part(alloc, word, &f, part, out)
+    match word {
+        "augment" => tell_starts(alloc, &f, part, out),
+        _ => tell_part(alloc, word, &f, part, out),
+    }
 }
 
 /// Writes what the command of a line answers.

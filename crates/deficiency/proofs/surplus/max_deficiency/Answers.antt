@@ -31,7 +31,7 @@ returns c =
     let is = c.in_ok-own.ensures
     ∙ ap (λ (ps : List ℕ). pairs_of ps c.as_slice-4.result.now) (c.as_slice-3.ensures ∙ all)
     ∙ ap (λ (cl : List ℕ). pairs_of (positions_of f) cl) c.as_slice-4.ensures in
-    let most = subst (λ (ps : List ℕ). IsMaximum f ps m) (c.as_slice.ensures ∙ all) c.in_ok-m.ensures in
+    let most = subst (λ (ps : List ℕ). IsMaximum f ps m) (c.as_slice.ensures ∙ all) c.in_ok-m.ensures.maximum in
     let reached = subst (λ (ps : List ℕ). IsReached f ps m r) (c.as_slice-2.ensures ∙ all) c.in_ok-reached.ensures in
     let count = ap (λ (own : List Own). length own + c.left_of.result) (c.from_vec.ensures ∙ sym c.deref.ensures.value) ∙ c.left_of.ensures ∙ c.len.ensures.value in
     let found : IsFound f r c.from_vec.result c.left_of.result = is_found c.reached_law.ensures f m r c.from_vec.result c.left_of.result c.len.ensures.formula c.len.ensures.limits rise most reached (c.from_vec.ensures ∙ is) count in
