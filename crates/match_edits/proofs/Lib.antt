@@ -1,0 +1,6 @@
+pub mod Rows
+pub mod Grown
+pub mod Shrunk
+pub mod Rooms
+pub mod Edited
+pub mod LiveKernels
