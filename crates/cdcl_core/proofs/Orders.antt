@@ -1,10 +1,11 @@
 -- How far the variables are set, in their order.
-use Rattle.std.proofs.Common.{◌≡◌, ◌≢◌, ◌∙◌, ℕ, zero, suc, ◌+◌, ◌<◌, ◌≤◌, ◌==◌, ◌++◌, ◌∷◌, [], Bool, true, false, cond, filter, not, ◌&&◌, List, ℤ, Option, Some, None, is_some, option_map, length, length-append, take, take_all, get_or, nat_le, refl, sym, ap, subst, arith, inl, inr}
+use Rattle.std.proofs.Common.{◌≡◌, ◌≢◌, ◌∙◌, ℕ, zero, suc, ◌+◌, ◌<◌, ◌≤◌, ◌==◌, ◌++◌, ◌∷◌, [], Bool, true, not, ◌&&◌, List, ℤ, Option, Some, None, is_some, option_map, length, length-append, take, take_all, get_or, nat_le, refl, sym, ap, subst, arith, inl, inr}
 use Rattle.std.specs.Prelude.{nat_lt}
-use Rattle.std.specs.List.{list_all, list_any}
-use Rattle.std.proofs.lemmas.Bool.{cases_Bool, eqb-true, eq-eqb, and_from, not-true, leb-true, ltb-true, le-leb, lt-ltb}
+use Rattle.std.specs.List.{list_all}
+use Rattle.std.proofs.lemmas.Bool.{cases_Bool, eqb-true, eq-eqb, and_from, leb-true, ltb-true, le-leb, lt-ltb}
 use Rattle.std.proofs.lemmas.List.{get_or_append_left, get_or-take, length-take-le}
 use Rattle.std.proofs.lemmas.List.Folds.{list_all_more}
+use Rattle.std.proofs.lemmas.List.Sorted.{list_any-IsPermutation}
 use Rattle.lk_model.specs.Lists.{among, up_to}
 use Rattle.lk_model.specs.Formulas.Literal.{variable, contains, mentions, is_positive}
 use Rattle.lk_model.specs.Formulas.Formula.{is_formula, clause_at}
@@ -12,8 +13,7 @@ use Rattle.lk_model.specs.Held.VariableSets.{is_in}
 use Rattle.lk_model.specs.declared.crossed.Crossed.{Crossed}
 use Rattle.lk_model.proofs.Booleans.{and_true, or_left, or_right}
 use Rattle.lk_model.proofs.ListTests.{passing, passes_among}
-use Rattle.lk_model.proofs.Founds.{in_range}
-use Rattle.lk_model.proofs.Counting.{in_filter, among-range}
+use Rattle.lk_model.proofs.Counting.{in_filter, from_filter, among-range}
 use Rattle.lk_model.proofs.Crossings.{contains_crossed}
 use Rattle.lk_model.proofs.Variables.{literal_passing, variable_bound}
 use Rattle.kernel_laws.proofs.Clauses.{mentions_of}
@@ -21,6 +21,7 @@ use Rattle.kernel_laws.proofs.General.Numbering.{found_before}
 use Rattle.watch_prop.specs.declared.entry.Entry.{Entry}
 use Rattle.watch_prop.specs.Trail.{entry_of, present_level, up_to_level, assignment_along}
 use Rattle.watch_prop.specs.Propagation.{Propagation, IsPropagation, GoesOn, with_assigned, back_at}
+use Rattle.variable_orders.specs.VariableOrders.{IsOrderOver, occurs_over, variables_over}
 use Rattle.learning_laws.specs.ModelLaw.{clause_over}
 use Rattle.learning_laws.proofs.TrailLaws.{trail_law}
 use Rattle.learning_laws.proofs.Tests.{never_both}
@@ -152,45 +153,43 @@ placed_back p level order order' held lt h vars place opened =
 
 -- THE VARIABLES OF A PART
 
--- marked variables are those of the crossed clauses
-pub variables_over : (over : Crossed) (marks : List Bool) → is_formula over.formula.now ≡ true
-    → ((u : ℕ) → is_in marks u ≡ list_any (λ p. mentions (clause_over over p) u) over.part.now)
-    → AreVariablesOver over (filter (is_in marks) (up_to over.formula.now.vars))
-variables_over over marks form h = record {
-  within = all_decided (up_to over.formula.now.vars) (λ v m. m);
+-- what passes at each number of a list
+all_among : (t : ℕ → Bool) (vars : List ℕ) → ((v : ℕ) → among vars v ≡ true → t v ≡ true) → list_all t vars ≡ true
+all_among t [] h = refl
+all_among t (v ∷ vars) h =
+    and_from (t v) (list_all t vars) (h v (or_left (v == v) (among vars v) (eq-eqb v v refl))) (all_among t vars (λ u m. h u (or_right (v == u) (among vars u) m)))
+
+-- a variable that occurs in a crossed clause may be decided
+occurring : (over : Crossed) (v : ℕ) → is_formula over.formula.now ≡ true → occurs_over over v ≡ true → may_decide over v ≡ true
+occurring over v form o =
+    let x = passing (λ p. mentions (clause_over over p) v) over.part.now o in
+    let l = literal_passing (λ k. variable k == v) (clause_over over x.0) x.2 in
+    let here = and_true (not (is_in over.blocked.now (variable l.0))) (contains (clause_at over.formula.now x.0) l.0)
+    (sym (contains_crossed (is_in over.blocked.now) (clause_at over.formula.now x.0) l.0) ∙ l.1) in
+    let bounds = variable_bound over.formula.now x.0 (variable l.0) form (mentions_of (clause_at over.formula.now x.0) l.0 here.1) in
+    let above = bounds.0 in
+    let most = bounds.1 in
+    subst (λ (u : ℕ). may_decide over u ≡ true) (eqb-true (variable l.0) v l.2)
+    (and_from (nat_lt 0 (variable l.0) && nat_le (variable l.0) over.formula.now.vars) (not (is_in over.blocked.now (variable l.0)))
+    (and_from (nat_lt 0 (variable l.0)) (nat_le (variable l.0) over.formula.now.vars) (lt-ltb 0 (variable l.0) (omega (arith, above))) (le-leb (variable l.0) over.formula.now.vars (omega (arith, most)))) here.0)
+
+-- the variables of an order are those of the crossed clauses
+pub order_variables : (over : Crossed) (vars : List ℕ) → is_formula over.formula.now ≡ true → IsOrderOver over vars → AreVariablesOver over vars
+order_variables over vars form order = record {
+  within = all_among (may_decide over) vars (λ v m. occurring over v form (from_filter (occurs_over over) (up_to over.formula.now.vars) v (same v ∙ m)).0);
   all = λ position l part there.
       (let occurs = passes_among (λ p. mentions (clause_over over p) (variable l)) over.part.now position part (mentions_of (clause_over over position) l there) in
-      let here = and_true (not (is_in over.blocked.now (variable l))) (contains (clause_at over.formula.now position) l)
-      (sym (contains_crossed (is_in over.blocked.now) (clause_at over.formula.now position) l) ∙ there) in
-      let bounds = variable_bound over.formula.now position (variable l) form (mentions_of (clause_at over.formula.now position) l here.1) in
-      in_filter (is_in marks) (up_to over.formula.now.vars) (variable l) (h (variable l) ∙ occurs)
-      (among-range 1 over.formula.now.vars (variable l) (omega (arith, bounds.0)) (omega (arith, bounds.1))));
+      let may = occurring over (variable l) form occurs in
+      let range = and_true (nat_lt 0 (variable l)) (nat_le (variable l) over.formula.now.vars)
+      (and_true (nat_lt 0 (variable l) && nat_le (variable l) over.formula.now.vars) (not (is_in over.blocked.now (variable l))) may).0 in
+      let low = ltb-true 0 (variable l) range.0 in
+      let high = leb-true (variable l) over.formula.now.vars range.1 in
+      sym (same (variable l))
+      ∙ in_filter (occurs_over over) (up_to over.formula.now.vars) (variable l) occurs (among-range 1 over.formula.now.vars (variable l) (omega (arith, low)) (omega (arith, high))));
 }
   where
-    -- a marked one is not blocked
-    unblocked : (v : ℕ) → is_in marks v ≡ true → is_in over.blocked.now v ≡ false
-    unblocked v m =
-        let x = passing (λ p. mentions (clause_over over p) v) over.part.now (sym (h v) ∙ m) in
-        let l = literal_passing (λ k. variable k == v) (clause_over over x.0) x.2 in
-        let here = and_true (not (is_in over.blocked.now (variable l.0))) (contains (clause_at over.formula.now x.0) l.0)
-        (sym (contains_crossed (is_in over.blocked.now) (clause_at over.formula.now x.0) l.0) ∙ l.1) in
-        not-true (is_in over.blocked.now v) (subst (λ (n : ℕ). not (is_in over.blocked.now n) ≡ true) (eqb-true (variable l.0) v l.2) here.0)
-
-    all_decided : (vs : List ℕ) → ((v : ℕ) → among vs v ≡ true → among (up_to over.formula.now.vars) v ≡ true)
-        → list_all (may_decide over) (filter (is_in marks) vs) ≡ true
-    all_decided [] inside = refl
-    all_decided (v ∷ vs) inside = at_mark (is_in marks v) refl (all_decided vs (λ u m. inside u (or_right (v == u) (among vs u) m)))
-      where
-        at_mark : (b : Bool) → is_in marks v ≡ b → list_all (may_decide over) (filter (is_in marks) vs) ≡ true
-            → list_all (may_decide over) (cond b (v ∷ filter (is_in marks) vs) (filter (is_in marks) vs)) ≡ true
-        at_mark false f rest = rest
-        at_mark true f rest =
-            let bounds = in_range 1 over.formula.now.vars v (inside v (or_left (v == v) (among vs v) (eq-eqb v v refl))) in
-            let low : nat_lt 0 v ≡ true = lt-ltb 0 v (omega (arith, bounds.0)) in
-            let high : nat_le v over.formula.now.vars ≡ true = le-leb v over.formula.now.vars (omega (arith, bounds.1)) in
-            and_from (may_decide over v) (list_all (may_decide over) (filter (is_in marks) vs))
-            (and_from (nat_lt 0 v && nat_le v over.formula.now.vars) (not (is_in over.blocked.now v)) (and_from (nat_lt 0 v) (nat_le v over.formula.now.vars) low high) (ap not (unblocked v f)))
-            rest
+    same : (v : ℕ) → among (variables_over over) v ≡ among vars v
+    same v = list_any-IsPermutation (λ u. u == v) (variables_over over) vars order
 
 -- the bounds of a variable that is read
 pub variable_read : (n : ℕ) (vars : List ℕ) (i v : ℕ) → are_within n vars ≡ true → i < length vars → v ≡ get_or vars i v → (0 < v) × (v ≤ n)

@@ -1,14 +1,17 @@
 //! Deciding whether clauses have a model.
-ghost use Rattle.std.specs.Prelude.{◌≡◌, ◌+◌, ◌-◌, ◌<◌, ◌^◌, [], length, IfOk};
+ghost use Rattle.std.specs.Prelude.{◌≡◌, ◌+◌, ◌-◌, ◌<◌, ◌≤◌, ◌^◌, length, IfOk};
 ghost use Rattle.lk_model.specs.Held.VariableSets.{IsCrossed};
+ghost use Rattle.variable_orders.specs.VariableOrders.{IsOrderOver};
 ghost use Rattle.cdcl_core.specs.Decision.{IsDecided};
-ghost use Rattle.cdcl_core.specs.Searching.{IsSearch, decided_by};
+ghost use Rattle.cdcl_core.specs.Searching.{IsSearch, GoesOnFrom, decided_by};
 
 use crate::search::Search;
+use crate::signs::Signs;
 use lk_model::{Crossed, OutOfMemory};
 use partial_assign::Partial;
 use refutation_log::Log;
 use std::alloc::Global;
+use variable_orders::ascending;
 use watch_prop::Propagated;
 
 /// What is decided of crossed clauses.
@@ -22,7 +25,8 @@ pub enum Decided {
     Stopped(Log),
 }
 
-/// Looks for a model of the crossed clauses that are not empty, by learning from conflicts. The steps of a log are
+/// Looks for a model of the crossed clauses that are not empty, by learning from conflicts: the least unset variable is
+/// decided, and made true. The steps of a log are
 /// numbered from `next`, which is above the number of the formula's clauses, and at most `left` clauses are learned.
 /// Each holds no complementary pair, and contains no crossed clause that is not empty and no earlier learned one. The
 /// error is that there is no memory.
@@ -33,14 +37,31 @@ pub fn decide(alloc: Global, over: &Crossed, next: u64, left: u64) -> Result<Dec
     requires room { next + left < 2 ^ 64 - 1 }
     ensures { IfOk result (IsDecided over.now next left) }
 {
-    let mut search = Search::new(alloc, over, next)?;
-    let end = run(&mut search, alloc, over, left);
+    let order = ascending(alloc, over)?;
+    decide_by(alloc, over, order, &mut Signs::True, next, left)
+}
+
+/// As `decide`, but the first unset variable of an order is decided, with the value that `signs` has for it. If these are
+/// the last values of the variables, they are kept up to date, for a further call.
+pub fn decide_by(
+    alloc: Global,
+    over: &Crossed,
+    order: Vec<u32>,
+    signs: &mut Signs,
+    next: u64,
+    left: u64,
+) -> Result<Decided, OutOfMemory>
+    requires crossed { IsCrossed over.now }
+    requires order { IsOrderOver over.now order.items }
+    requires past { length over.now.formula.now.clauses < next }
+    requires room { next + left < 2 ^ 64 - 1 }
+    ensures { IfOk result (IsDecided over.now next left) }
+{
+    let mut search = Search::new(alloc, over, order, next)?;
+    let end = run(&mut search, alloc, over, signs, left);
     let log = search.into_log();
-    match end? {
-        End::Model(values) => Ok(Decided::Sat(values)),
-        End::Empty => Ok(Decided::Refuted(log)),
-        End::Full => Ok(Decided::Stopped(log)),
-    }
+    let end = end?;
+    Ok(decided_by(log, end))
 }
 
 /// How a search ends.
@@ -50,22 +71,41 @@ pub(crate) enum End {
     Model(Partial),
     /// With the empty clause in its log.
     Empty,
-    /// With as many clauses in its log as were allowed, and a further conflict.
+    /// With as many clauses in its log as were allowed, and a further conflict: it can go on from there.
     Full,
 }
 
-// Searches to the end.
-fn run(search: &mut Search, alloc: Global, over: &Crossed, left: u64) -> Result<End, OutOfMemory>
+/// What is decided by a search that ends so with this log.
+pub(crate) fn decided_by(log: Log, end: End) -> Decided
+    ensures { result ≡ decided_by log end }
+{
+    match end {
+        End::Model(values) => Decided::Sat(values),
+        End::Empty => Decided::Refuted(log),
+        End::Full => Decided::Stopped(log),
+    }
+}
+
+/// Searches on, until so many clauses are learned in all.
+pub(crate) fn run(
+    search: &mut Search,
+    alloc: Global,
+    over: &Crossed,
+    signs: &mut Signs,
+    left: u64,
+) -> Result<End, OutOfMemory>
     requires crossed { IsCrossed over.now }
     requires search { IsSearch over.now search.old }
-    requires none { search.old.log.steps ≡ [] }
+    requires most { length search.old.log.steps ≤ left }
     requires room { search.old.log.first + left < 2 ^ 64 - 1 }
-    ensures { IfOk result (λ end. IsDecided over.now search.old.log.first left (decided_by search.new.log end)) }
+    ensures decided { IfOk result (λ end. IsDecided over.now search.old.log.first left (decided_by search.new.log end)) }
+    ensures goes_on { IfOk result (GoesOnFrom over.now search.new) }
 {
     'turns: loop {
         match search.propagator.propagate() {
             Propagated::Quiet => {
-                if !search.assign_least(over)? {
+                if !search.assign_next(over, signs)? {
+                    signs.note_all(&search.propagator);
                     return Ok(End::Model(search.model(alloc, over)?));
                 }
             }
@@ -75,9 +115,10 @@ fn run(search: &mut Search, alloc: Global, over: &Crossed, left: u64) -> Result<
                     return Ok(End::Empty);
                 }
                 if search.log.steps().len() as u64 == left {
+                    signs.note_all(&search.propagator);
                     return Ok(End::Full);
                 }
-                search.learn(alloc, over, conflict)?;
+                search.learn(alloc, over, signs, conflict)?;
             }
         }
     }

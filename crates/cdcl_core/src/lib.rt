@@ -6,5 +6,9 @@ mod decided;
 mod marks;
 mod order;
 mod search;
+mod signs;
+mod turns;
 
-pub use decided::{Decided, decide};
+pub use decided::{Decided, decide, decide_by};
+pub use signs::Signs;
+pub use turns::{By, Turns, decide_by_turns};

@@ -1,21 +1,17 @@
 //! The order in which variables are decided.
 //!
-//! It is that of their numbers. A place is kept before which all are set, so that set variables are not gone through at
-//! each decision: a return to a level brings back the place at which the level after it was opened.
-ghost use Rattle.std.specs.Prelude.{◌≡◌, ◌<◌, ◌≤◌, ◌++◌, ◌∷◌, ◌&&◌, ◌||◌, not, ℕ, [], take, filter, length, slice_index_or, IfOk, IfSome, IsNone, OnOk, IsTrue};
-ghost use Rattle.lk_model.specs.Lists.{among, up_to};
-ghost use Rattle.lk_model.specs.Formulas.Literal.{mentions};
-ghost use Rattle.lk_model.specs.Held.VariableSets.{is_in, IsCrossed};
+//! A place is kept before which all are set, so that set variables are not gone through at each decision: a return to a
+//! level brings back the place at which the level after it was opened.
+ghost use Rattle.std.specs.Prelude.{◌≡◌, ◌<◌, ◌≤◌, ◌++◌, ◌∷◌, [], take, length, IfSome, IsNone, OnOk, IsTrue};
+ghost use Rattle.lk_model.specs.Lists.{among};
 ghost use Rattle.watch_prop.specs.Propagation.{assigned};
-ghost use Rattle.learning_laws.specs.ModelLaw.{clause_over};
-ghost use Rattle.cdcl_core.specs.Orders.{AreVariablesOver, IsPlacedAt, are_set, are_within, place_at};
+ghost use Rattle.cdcl_core.specs.Orders.{IsPlacedAt, are_set, are_within, place_at};
 
-use crate::marks::Marks;
-use lk_model::{Crossed, OutOfMemory};
+use lk_model::OutOfMemory;
 use std::alloc::Global;
 use watch_prop::Propagator;
 
-/// The variables of the crossed clauses, ascending, and from which place on an unset one is searched. What
+/// The variables of the crossed clauses in some order, and from which place on an unset one is searched. What
 /// a return to a level makes unset stands from the place on at which the next level was opened.
 #[derive(Drop)]
 pub(crate) struct Order {
@@ -29,24 +25,19 @@ pub(crate) struct Order {
 
 impl Order {
     /// Where nothing is set.
-    pub fn new(alloc: Global, over: &Crossed) -> Result<Order, OutOfMemory>
-        requires { IsCrossed over.now }
-        ensures vars { IfOk result (λ o. AreVariablesOver over.now o.vars.items) }
-        ensures place { IfOk result (λ o. o.place ≡ 0) }
-        ensures opened { IfOk result (λ o. o.opened.items ≡ []) }
+    pub fn new(alloc: Global, vars: Vec<u32>) -> Order
+        ensures vars { result.vars ≡ vars }
+        ensures place { result.place ≡ 0 }
+        ensures opened { result.opened.items ≡ [] }
     {
-        let mut marks = Marks::new(alloc, over.formula.vars())?;
-        for position in over.part {
-            mark_open(over, *position, &mut marks);
-        }
-        Ok(Order {
-            vars: marked(alloc, &marks, over.formula.vars())?,
+        Order {
+            vars,
             place: 0,
             opened: Vec::new(alloc),
-        })
+        }
     }
 
-    /// The least variable that is unset.
+    /// The first variable that is unset.
     pub fn next(&mut self, p: &Propagator) -> Option<u32>
         requires within { IsTrue (are_within p.now.vars self.old.vars.items) }
         requires placed { IsPlacedAt p.now.trail self.old }
@@ -87,35 +78,4 @@ impl Order {
         self.place = self.opened[level];
         self.opened.truncate(level);
     }
-}
-
-// Marks the variables of the crossed clause at a position.
-fn mark_open(over: &Crossed, position: u32, marks: &mut Marks)
-    requires crossed { IsCrossed over.now }
-    requires first { 0 < position }
-    requires last { position ≤ length over.now.formula.now.clauses }
-    requires size { length marks.old ≡ over.now.formula.now.vars }
-    ensures size { length marks.new ≡ length marks.old }
-    ensures marks { (u : ℕ) → is_in marks.new u ≡ (is_in marks.old u || mentions (clause_over over.now position) u) }
-{
-    for l in over.formula.clause(position) {
-        if !over.blocked.has(l.var()) {
-            marks.put(l.var());
-        }
-    }
-}
-
-// The marked variables, ascending.
-fn marked(alloc: Global, marks: &Marks, n: u32) -> Result<Vec<u32>, OutOfMemory>
-    requires size { n ≤ length marks.now }
-    requires small { n ≤ 1000000 }
-    ensures { IfOk result (λ vs. vs.items ≡ filter (is_in marks.now) (up_to n)) }
-{
-    let mut vars = Vec::new(alloc);
-    for v in 1..n + 1 {
-        if marks.has(v) {
-            vars.push(v)?;
-        }
-    }
-    Ok(vars)
 }

@@ -10,11 +10,13 @@ ghost use Rattle.learning_laws.specs.SolveLaw.{IsRoundOver};
 ghost use Rattle.cdcl_core.specs.Decision.{IsModelOver};
 ghost use Rattle.refutation_log.specs.Trimmed.{are_filled_before_last};
 ghost use Rattle.cdcl_core.specs.Orders.{are_set};
+ghost use Rattle.variable_orders.specs.VariableOrders.{IsOrderOver};
 ghost use Rattle.cdcl_core.specs.Searching.{IsSearch};
 
 use crate::analysis::{level_below, turns_back};
 use crate::marks::Marks;
 use crate::order::Order;
+use crate::signs::Signs;
 use lk_model::{Crossed, Lit, OutOfMemory};
 use partial_assign::Partial;
 use refutation_log::Log;
@@ -33,8 +35,14 @@ pub(crate) struct Search {
 
 impl Search {
     /// Where nothing is set and nothing is learned.
-    pub fn new(alloc: Global, over: &Crossed, next: u64) -> Result<Search, OutOfMemory>
+    pub fn new(
+        alloc: Global,
+        over: &Crossed,
+        order: Vec<u32>,
+        next: u64,
+    ) -> Result<Search, OutOfMemory>
         requires crossed { IsCrossed over.now }
+        requires order { IsOrderOver over.now order.items }
         requires past { length over.now.formula.now.clauses < next }
         ensures search { IfOk result (IsSearch over.now) }
         ensures first { IfOk result (λ s. s.log.first ≡ next) }
@@ -42,7 +50,7 @@ impl Search {
     {
         // The propagator comes last: what is larger to drop is better not held where the others fail.
         let marks = Marks::new(alloc, over.formula.vars())?;
-        let order = Order::new(alloc, over)?;
+        let order = Order::new(alloc, order);
         Ok(Search {
             propagator: Propagator::new(alloc, over)?,
             log: Log::new(alloc, next),
@@ -51,8 +59,8 @@ impl Search {
         })
     }
 
-    /// Makes the least unset variable true at a new level, and answers whether there was one.
-    pub fn assign_least(&mut self, over: &Crossed) -> Result<bool, OutOfMemory>
+    /// Sets the first unset variable of the order at a new level, and answers whether there was one.
+    pub fn assign_next(&mut self, over: &Crossed, signs: &Signs) -> Result<bool, OutOfMemory>
         requires search { IsSearch over.now self.old }
         requires quiet { IsTrue (is_quiet (assigned self.old.propagator) self.old.propagator.clauses) }
         ensures search { OnOk result (IsSearch over.now self.new) }
@@ -64,15 +72,22 @@ impl Search {
         match self.order.next(&self.propagator) {
             Some(v) => {
                 self.order.open()?;
-                self.propagator.assign(Lit::from_var(v, true));
+                self.propagator.assign(Lit::from_var(v, signs.of(v)));
                 Ok(true)
             }
             None => Ok(false),
         }
     }
 
-    /// Learns a clause from a false one, and goes back to the highest level of its other literals.
-    pub fn learn(&mut self, alloc: Global, over: &Crossed, conflict: u64) -> Result<(), OutOfMemory>
+    /// Learns a clause from a false one, and goes back to the highest level of its other literals. The values that are taken
+    /// back are noted.
+    pub fn learn(
+        &mut self,
+        alloc: Global,
+        over: &Crossed,
+        signs: &mut Signs,
+        conflict: u64,
+    ) -> Result<(), OutOfMemory>
         requires crossed { IsCrossed over.now }
         requires search { IsSearch over.now self.old }
         requires conflict { IsAnswered self.old.propagator (Conflict conflict) }
@@ -88,6 +103,7 @@ impl Search {
         let clause = self.log.last_clause();
         self.marks.remove_all(clause);
         let level = level_below(&self.propagator, clause);
+        signs.note_above(&self.propagator, level);
         self.propagator.retract(level);
         self.order.back(level);
         self.propagator.add(number, clause)?;

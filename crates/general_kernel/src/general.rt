@@ -4,8 +4,9 @@
 //! of such clauses is an autarky that satisfies the rest (Kullmann, "Investigations on Autark Assignments", 2000). So
 //! refutations in turn, each over the clauses without the variables of those before, end at the largest lean part.
 //!
-//! Here each refutation learns clauses from conflicts, and is kept with what it uses of it, so that the kernel can be
-//! checked without a search.
+//! Here each refutation learns clauses from conflicts, by two orders of the variables that take turns; the one that answered
+//! begins in the next round. A refutation is kept with what it uses of it, so that the kernel can be checked without a
+//! search.
 ghost use Rattle.std.specs.Prelude.{◌≡◌, ◌<◌, ◌^◌, length, IfOk, IsTrue};
 ghost use Rattle.lk_model.specs.Formulas.Lean.{are_positions};
 ghost use Rattle.lk_model.specs.Formulas.Formula.{variable_occurs};
@@ -17,7 +18,7 @@ ghost use Rattle.general_kernel.specs.SetLiterals.{literals_on};
 use crate::blocking::{add_variables, covered};
 use crate::rounds::Rounds;
 use crate::setting::literals_on;
-use cdcl_core::{Decided, decide};
+use cdcl_core::{Decided, Turns, decide_by_turns};
 use lk_model::{
     Budget, Crossed, Formula, General, GeneralResult, List, Lit, OutOfMemory, Round, VarSet,
 };
@@ -65,6 +66,7 @@ fn run(alloc: Global, f: &Formula, part: &[u32], rounds: &mut Rounds) -> Result<
     requires most { rounds.old.left < 2 ^ 63 }
     ensures { IfOk result (EndsRounds f.now part.now rounds.old.left rounds.new) }
 {
+    let mut turns = Turns::new();
     'rounds: loop {
         let kept = covered(alloc, f, part, &rounds.blocked)?;
         if kept.len() == part.len() {
@@ -80,7 +82,7 @@ fn run(alloc: Global, f: &Formula, part: &[u32], rounds: &mut Rounds) -> Result<
             part,
             blocked: &rounds.blocked,
         };
-        match decide(alloc, &over, rounds.next, rounds.left)? {
+        match decide_by_turns(alloc, &over, &mut turns, rounds.next, rounds.left)? {
             Decided::Sat(values) => {
                 let set = set_of(alloc, f, part, &values)?;
                 return Ok(End::Kernel { kept, set });

@@ -4,13 +4,14 @@
 ghost use Rattle.std.specs.Prelude.{◌≡◌, ◌<◌, ◌^◌, length, IsTrue};
 ghost use Rattle.lk_model.specs.Formulas.Lean.{are_positions};
 
-use cdcl_core::{Decided, decide};
+use cdcl_core::{By, Decided, Signs, Turns, decide, decide_by, decide_by_turns};
 use dimacs_reader::Reader;
 use lk_model::{Crossed, Formula, OutOfMemory, Step, VarSet};
 use std::alloc::Global;
 use std::rt::Files;
 use std::test::Fail;
 use std::{env, fs};
+use variable_orders::by_connection;
 
 /// What is answered, how many steps the log has, and how many literals their clauses have.
 #[derive(Clone, Copy)]
@@ -20,37 +21,58 @@ struct Answer {
     literals: usize,
 }
 
-/// Prints the answer for the formula of a file. The words are the budget and the file's name.
+/// By which orders it is decided.
+#[derive(Clone, Copy)]
+enum Way {
+    /// By that of the numbers alone, true first.
+    Number,
+    /// By that of the connection alone, with the last values.
+    Connection,
+    /// By both, in turns of so many learned clauses at first, and so many more in each further one.
+    Turns(u64, u64),
+}
+
+/// Prints the answer for the formula of a file. The words are the way, the budget and the file's name.
 fn main(rt: HostRuntime) -> Result<(), Fail> {
     let words: Vec<String> = env::args(&rt)?.collect(rt.alloc())?;
-    match words.as_slice() {
-        [_, budget, file] => print_answer(&rt, budget.as_str(), file.as_str()),
-        _ => Err(Fail::from("the words are the budget and the file's name")),
+    let mut texts = Vec::new(rt.alloc());
+    for word in words.as_slice() {
+        texts.push(word.as_str())?;
+    }
+    match texts.as_slice() {
+        [_, budget, file] => print_answer(&rt, Way::Number, budget, file),
+        [_, "connection", budget, file] => print_answer(&rt, Way::Connection, budget, file),
+        [_, "turns", first, further, budget, file] => {
+            let way = Way::Turns(first.parse().unwrap_or(0), further.parse().unwrap_or(0));
+            print_answer(&rt, way, budget, file)
+        }
+        _ => Err(Fail::from("no such words")),
     }
 }
 
 fn print_answer<R: Files + AllocGlobal + Print>(
     rt: &R,
+    way: Way,
     budget: &str,
     file: &str,
 ) -> Result<(), Fail> {
     let text = fs::read(rt, file)?;
     let left = budget.parse().unwrap_or(0);
-    match answer_in(rt.alloc(), text.as_slice(), left) {
+    match answer_in(rt.alloc(), way, text.as_slice(), left) {
         Some(answer) => Ok(println!(rt; "{} {} {}", answer.word, answer.steps, answer.literals)?),
         None => Err(Fail::from("no answer")),
     }
 }
 
 /// The answer for the formula that a text spells.
-fn answer_in(alloc: Global, text: &[u8], left: u32) -> Option<Answer> {
+fn answer_in(alloc: Global, way: Way, text: &[u8], left: u32) -> Option<Answer> {
     let f = formula_of(alloc, text)?;
     let part = f.positions(alloc).ok()?;
     let blocked = VarSet::new(alloc, f.vars()).ok()?;
     if left == 0 {
         return None;
     }
-    let decided = decide_over(alloc, &f, part.as_slice(), &blocked, u64::from(left)).ok()?;
+    let decided = decide_over(alloc, way, &f, part.as_slice(), &blocked, u64::from(left)).ok()?;
     Some(answer_of(&decided))
 }
 
@@ -64,6 +86,7 @@ fn formula_of(alloc: Global, text: &[u8]) -> Option<Formula> {
 /// What is decided of a formula.
 fn decide_over(
     alloc: Global,
+    way: Way,
     f: &Formula,
     part: &[u32],
     blocked: &VarSet,
@@ -79,7 +102,23 @@ fn decide_over(
         part,
         blocked,
     };
-    decide(alloc, &over, u64::from(f.len()) + 1, left)
+    let next = u64::from(f.len()) + 1;
+    match way {
+        Way::Number => decide(alloc, &over, next, left),
+        Way::Connection => {
+            let order = by_connection(alloc, &over)?;
+            let mut signs = Signs::last(alloc, f.vars())?;
+            decide_by(alloc, &over, order, &mut signs, next, left)
+        }
+        Way::Turns(first, further) => {
+            let mut turns = Turns {
+                by: By::Number,
+                first,
+                further,
+            };
+            decide_by_turns(alloc, &over, &mut turns, next, left)
+        }
+    }
 }
 
 /// The answer that tells what is decided.

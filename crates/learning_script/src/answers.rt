@@ -1,52 +1,13 @@
-//! Questions, their answers, and whether an answer stands.
-ghost use Rattle.std.specs.Prelude.{◌≡◌, ◌<◌, ◌^◌, length, IsTrue};
-ghost use Rattle.lk_model.specs.Formulas.Lean.{are_positions};
+//! Answers, and whether an answer stands.
+ghost use Rattle.std.specs.Prelude.{◌≡◌, length};
 
+use crate::asking::{Asked, Way, answer};
 use crate::logs::stands;
-use cdcl_core::{Decided, decide};
-use lk_model::{Crossed, Formula, Lit, OutOfMemory, Step, VarSet};
-use lk_samples::has_part;
+use cdcl_core::Decided;
+use lk_model::{Formula, Lit, Step};
 use partial_assign::Partial;
 use std::alloc::{AllocError, Global};
 use std::test::Fail;
-
-/// A part of a formula, and the variables whose literals are crossed out.
-#[derive(Clone, Copy)]
-pub(crate) struct Asked<'a> {
-    pub formula: &'a Formula,
-    pub part: &'a [u32],
-    pub blocked: &'a VarSet,
-}
-
-/// Asks what may be asked.
-fn ask(alloc: Global, asked: &Asked, next: u64, left: u64) -> Result<Decided, OutOfMemory>
-    requires part { IsTrue (are_positions asked.now.formula.now asked.now.part.now) }
-    requires blocked { length asked.now.blocked.now ≡ asked.now.formula.now.vars }
-    requires some { 0 < left }
-    requires past { length asked.now.formula.now.clauses < next }
-    requires next { next < 2 ^ 40 }
-    requires left { left < 2 ^ 40 }
-{
-    let over = Crossed {
-        formula: asked.formula,
-        part: asked.part,
-        blocked: asked.blocked,
-    };
-    decide(alloc, &over, next, left)
-}
-
-/// The answer, where the question may be asked.
-pub(crate) fn answer(alloc: Global, asked: &Asked, next: u64, left: u64) -> Result<Decided, Fail>
-    requires blocked { length asked.now.blocked.now ≡ asked.now.formula.now.vars }
-{
-    if !has_part(asked.formula, asked.part) || left == 0 || left > 1_000_000_000 {
-        return Err(Fail::from("no part, or no budget"));
-    }
-    if next <= u64::from(asked.formula.len()) || next > 1_000_000_000 {
-        return Err(Fail::from("the first number is too small or too large"));
-    }
-    Ok(ask(alloc, asked, next, left)?)
-}
 
 /// Whether a literal is not crossed out.
 pub(crate) fn is_left(asked: &Asked, l: Lit) -> bool
@@ -156,7 +117,7 @@ pub(crate) fn put_answer(
 ) -> Result<(), Fail>
     requires { length asked.now.blocked.now ≡ asked.now.formula.now.vars }
 {
-    match answer(alloc, asked, next, left)? {
+    match answer(alloc, asked, Way::Usual, next, left)? {
         Decided::Sat(values) => {
             write!(out, "sat, {}:", is_model(asked, &values))?;
             put_values(&values, out)?;
@@ -178,10 +139,15 @@ pub(crate) fn put_answer(
 }
 
 /// Whether there is a model, where the answer stands.
-pub(crate) fn has_model(alloc: Global, asked: &Asked, next: u64) -> Result<Option<bool>, Fail>
+pub(crate) fn has_model(
+    alloc: Global,
+    asked: &Asked,
+    way: Way,
+    next: u64,
+) -> Result<Option<bool>, Fail>
     requires { length asked.now.blocked.now ≡ asked.now.formula.now.vars }
 {
-    match answer(alloc, asked, next, 1_000_000)? {
+    match answer(alloc, asked, way, next, 1_000_000)? {
         Decided::Sat(values) => Ok(is_model(asked, &values).then_some(true)),
         Decided::Refuted(log) => {
             Ok(stands(alloc, asked, next, log.steps(), true)?.then_some(false))

@@ -2,7 +2,8 @@
 //! assignments.
 ghost use Rattle.std.specs.Prelude.{◌≡◌, ◌<◌, ◌≤◌, IfOk, length};
 
-use crate::answers::{Asked, clause_at, has_model, is_filled, is_left};
+use crate::answers::{clause_at, has_model, is_filled, is_left};
+use crate::asking::{Asked, Way};
 use lk_model::{Formula, Lit, VarSet};
 use lk_samples::{Numbers, drawn_formula, set_of};
 use std::alloc::{AllocError, Global};
@@ -82,7 +83,7 @@ fn draw_blocked(alloc: Global, numbers: &mut Numbers, n: u32) -> Result<VarSet, 
 }
 
 /// Whether the answer for a formula stands, and is that of the search.
-fn agrees(alloc: Global, numbers: &mut Numbers, f: &Formula) -> Result<bool, Fail> {
+fn agrees(alloc: Global, numbers: &mut Numbers, way: Way, f: &Formula) -> Result<bool, Fail> {
     let part = draw_part(alloc, numbers, f.len())?;
     let blocked = draw_blocked(alloc, numbers, f.vars())?;
     let asked = Asked {
@@ -91,20 +92,21 @@ fn agrees(alloc: Global, numbers: &mut Numbers, f: &Formula) -> Result<bool, Fai
         blocked: &blocked,
     };
     let next = u64::from(f.len()) + 1;
-    Ok(has_model(alloc, &asked, next)? == Some(some_model(&asked)))
+    Ok(has_model(alloc, &asked, way, next)? == Some(some_model(&asked)))
 }
 
 /// Whether the answer for the next drawn formula is right.
-fn next_agrees(alloc: Global, numbers: &mut Numbers) -> Result<bool, Fail> {
+fn next_agrees(alloc: Global, numbers: &mut Numbers, way: Way) -> Result<bool, Fail> {
     let n = numbers.below(12) + 1;
     let seed = numbers.below(60_000);
     let f = drawn_formula(alloc, n, seed, 6 * n)?;
-    agrees(alloc, numbers, &f)
+    agrees(alloc, numbers, way, &f)
 }
 
 /// Prints of how many drawn formulas the answer is right.
 pub(crate) fn put_drawn(
     alloc: Global,
+    way: Way,
     seed: u32,
     count: u32,
     out: &mut String,
@@ -112,7 +114,7 @@ pub(crate) fn put_drawn(
     let mut numbers = Numbers::new(seed);
     let mut right = 0u32;
     for _ in 0..count {
-        if next_agrees(alloc, &mut numbers)? {
+        if next_agrees(alloc, &mut numbers, way)? {
             right = right.saturating_add(1);
         }
     }

@@ -1,7 +1,8 @@
 //! Logs, gone through step by step.
 ghost use Rattle.std.specs.Prelude.{◌≡◌, ◌≤◌, length};
 
-use crate::answers::{Asked, clause_at, is_filled, is_left};
+use crate::answers::{clause_at, is_filled, is_left};
+use crate::asking::Asked;
 use lk_model::{Lit, Step, Turn};
 use std::alloc::{AllocError, Global};
 use std::test::Fail;

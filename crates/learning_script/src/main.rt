@@ -4,21 +4,29 @@
 //!     budgets | NAME | VARS | CLAUSES
 //!     pigeons | HOLES | LEFT
 //!     chain | LENGTH
-//!     drawn | SEED | COUNT
+//!     drawn | SEED | COUNT | WAY
+//!     orders | NAME | VARS | CLAUSES | PART | BLOCKED
+//!     turns | HOLES | FIRST | FURTHER | MOST
 //!
 //! Commas stand between clauses. Of `budgets` each budget from 1 on is tried until one is enough. A chain is one of
-//! implications that cannot all hold. Drawn formulas are compared with a search through all assignments (`drawn`).
-//! Every log is gone through step by step (`logs`).
+//! implications that cannot all hold. Drawn formulas are compared with a search through all assignments (`drawn`), by
+//! `decide` where there is no WAY, and else by `numbers`, `connection`, with `last` behind it for the last values, or by
+//! `turns FIRST FURTHER`. Of `turns` each budget up to one is tried on pigeons (`edges`). Every log is gone through step
+//! by step (`logs`).
 #![tactic(auto)]
 
 mod answers;
+mod asking;
 mod built;
 mod drawn;
+mod edges;
 mod logs;
 
-use crate::answers::{Asked, put_answer};
+use crate::answers::put_answer;
+use crate::asking::{Asked, Way, put_orders};
 use crate::built::{implications, pigeons};
 use crate::drawn::put_drawn;
+use crate::edges::right_budgets;
 use lk_model::Formula;
 use lk_samples::{formula_of_text, positions, set_of};
 use std::alloc::{AllocError, Global};
@@ -111,10 +119,86 @@ fn put_chain(alloc: Global, text: &str, out: &mut String) -> Result<(), Fail> {
     put_whole(alloc, &f, 1, out)
 }
 
-/// Decides drawn formulas: `SEED | COUNT`.
+/// The way that a text has.
+fn way_of(text: &str) -> Way {
+    let (word, text) = text.split_once(" ").unwrap_or((text, ""));
+    match word {
+        "numbers" => Way::One {
+            connected: false,
+            last: text == "last",
+        },
+        "connection" => Way::One {
+            connected: true,
+            last: text == "last",
+        },
+        "turns" => {
+            let (first, further) = text.split_once(" ").unwrap_or((text, ""));
+            Way::Turns {
+                first: u64::from(number_of(first)),
+                further: u64::from(number_of(further)),
+            }
+        }
+        _ => Way::Usual,
+    }
+}
+
+/// Decides drawn formulas: `SEED | COUNT | WAY`.
 fn put_seed(alloc: Global, text: &str, out: &mut String) -> Result<(), Fail> {
-    let (seed, count) = part_of(text);
-    put_drawn(alloc, number_of(seed), number_of(count), out)
+    let (seed, text) = part_of(text);
+    let (count, way) = part_of(text);
+    if !way.trim().is_empty() {
+        writeln!(out, "== by {}", way.trim())?;
+    }
+    put_drawn(
+        alloc,
+        way_of(way.trim()),
+        number_of(seed),
+        number_of(count),
+        out,
+    )
+}
+
+/// Prints the orders of the variables of a part: `NAME | VARS | CLAUSES | PART | BLOCKED`.
+fn put_order(alloc: Global, text: &str, out: &mut String) -> Result<(), Fail> {
+    let (name, text) = part_of(text);
+    let (vars, text) = part_of(text);
+    let (clauses, text) = part_of(text);
+    let (part, blocked) = part_of(text);
+    writeln!(out, "== {}", name.trim())?;
+    let f = formula_of_text(alloc, number_of(vars), clauses)?;
+    let part = numbers_of(alloc, part)?;
+    let blocked = numbers_of(alloc, blocked)?;
+    let blocked = set_of(alloc, f.vars(), blocked.as_slice())?;
+    let asked = Asked {
+        formula: &f,
+        part: part.as_slice(),
+        blocked: &blocked,
+    };
+    put_orders(alloc, &asked, out)
+}
+
+/// Decides pigeons by turns with each budget: `HOLES | FIRST | FURTHER | MOST`.
+fn put_turns(alloc: Global, text: &str, out: &mut String) -> Result<(), Fail> {
+    let (holes, text) = part_of(text);
+    let (first, text) = part_of(text);
+    let (further, most) = part_of(text);
+    let f = pigeons(alloc, number_of(holes))?;
+    let part = positions(alloc, &f)?;
+    let blocked = set_of(alloc, f.vars(), &[])?;
+    let asked = Asked {
+        formula: &f,
+        part: part.as_slice(),
+        blocked: &blocked,
+    };
+    let turn = u64::from(number_of(first));
+    let further = u64::from(number_of(further));
+    let most = number_of(most);
+    let right = right_budgets(alloc, &asked, turn, further, most)?;
+    writeln!(
+        out,
+        "== pigeons by turns of {turn} and {further} more: {right} of {most} budgets right"
+    )?;
+    Ok(())
 }
 
 /// Prints what a line asks for.
@@ -126,6 +210,8 @@ fn put_line(alloc: Global, line: &str, out: &mut String) -> Result<(), Fail> {
         "pigeons" => put_pigeons(alloc, text, out),
         "chain" => put_chain(alloc, text, out),
         "drawn" => put_seed(alloc, text, out),
+        "orders" => put_order(alloc, text, out),
+        "turns" => put_turns(alloc, text, out),
         _ => Err(Fail::from("no such line")),
     }
 }

@@ -14,7 +14,7 @@ ghost use Rattle.part_formula.specs.Decisions.{are_filled, IsDecision};
 use crate::dense::dense_formula;
 use crate::names::names_of;
 use crate::renaming::Renaming;
-use cdcl_core::{Decided, decide};
+use cdcl_core::{Decided, Turns, decide_by_turns};
 use general_kernel::set_of;
 use lk_model::{Budget, Crossed, Formula, List, Lit, OutOfMemory, Round, VarSet};
 use std::alloc::Global;
@@ -72,7 +72,7 @@ fn decide_clauses(alloc: Global, f: &Formula, conflicts: Budget) -> Result<Decis
         part: all.as_slice(),
         blocked: &blocked,
     };
-    match decide(alloc, &over, next, conflicts.get())? {
+    match decide_by_turns(alloc, &over, &mut Turns::new(), next, conflicts.get())? {
         Decided::Sat(values) => Ok(Decision::Model(set_of(alloc, f, all.as_slice(), &values)?)),
         Decided::Refuted(log) => Ok(Decision::Refuted(log.trim(next)?)),
         Decided::Stopped(log) => Ok(Decision::Stopped(log.into_round())),

@@ -1,0 +1,58 @@
+#!/usr/bin/env python3
+"""The orders of variables that clause learning decides by, by their definition, in plain loops.
+
+    bench/connection.py < crates/learning_script/stdin
+
+prints what learning_script is to print for each line `orders` of its input: the variables of the crossed clauses,
+ascending, and by their connection. The next variable has most points, and of those with as many it is the least. When a
+variable comes, each clause with it gives points to its variables that have not come: one if it is the first of them,
+two if two are left, four if one is left.
+"""
+import sys
+
+
+def crossed(clauses, part, blocked):
+    """The clauses at the positions of a part, from 1 on, without the literals of blocked variables."""
+    return [[l for l in clauses[p - 1] if abs(l) not in blocked] for p in part]
+
+
+def ascending(clauses):
+    return sorted({abs(l) for clause in clauses for l in clause})
+
+
+def given(left, whole):
+    """The points that a clause gives where so many of its literals are left."""
+    return {0: 0, 1: 4, 2: 2}.get(left, 1 if left == whole - 1 else 0)
+
+
+def by_connection(clauses):
+    points = dict.fromkeys(ascending(clauses), 0)
+    order = []
+    while points:
+        following = min(points, key=lambda v: (-points[v], v))
+        del points[following]
+        order.append(following)
+        for clause in clauses:
+            if following in map(abs, clause):
+                left = [abs(l) for l in clause if abs(l) in points]
+                for v in left:
+                    points[v] += given(len(left), len(clause))
+    return order
+
+
+def numbers(text):
+    return [int(word) for word in text.split()]
+
+
+def main():
+    for line in sys.stdin:
+        kind, *fields = line.split("|")
+        if kind.strip() == "orders":
+            name, _, clauses, part, blocked = fields
+            clauses = [[l for l in numbers(clause) if l] for clause in clauses.split(",")]
+            left = crossed(clauses, numbers(part), set(numbers(blocked)))
+            print(f"== {name.strip()}\nascending: {ascending(left)}\nby connection: {by_connection(left)}")
+
+
+if __name__ == "__main__":
+    main()

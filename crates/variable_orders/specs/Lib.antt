@@ -1,0 +1,2 @@
+pub mod VariableOrders
+pub mod Arrivals

@@ -1,0 +1,10 @@
+//! Orders of the variables of crossed clauses.
+#![tactic(auto)]
+
+mod coming;
+mod connection;
+mod numbers;
+mod points;
+
+pub use connection::by_connection;
+pub use numbers::ascending;
