@@ -21,7 +21,7 @@ use Rattle.command_endings.specs.declared.status.Status.{Status}
 use Rattle.command_endings.specs.Statuses.{is_silent}
 use Rattle.command_endings.specs.declared.status.Status.TheVariants.{Done, Words, Input, ReadFault, WriteFault, Budget, TooWide, TooLarge, Refused, Memory, Satisfiable, Unsatisfiable}
 use Rattle.command_words.specs.declared.command.Command.{Command}
-use Rattle.command_words.specs.declared.command.Command.TheVariants.{ReducePure, ReduceMatching, ReduceLinear, ReduceGeneral, Check, Extend, Report, Demo, Solve, Verify, Deficiency}
+use Rattle.command_words.specs.declared.command.Command.TheVariants.{ReducePure, ReduceMatching, ReduceLinear, ReduceGeneral, Check, Extend, Report, Demo, Solve, Verify, Deficiency, Edits}
 use Rattle.command_endings.proofs.LinearEndings.{run_silent}
 use Rattle.command_endings.proofs.SolveEndings.{solve_status}
 
@@ -38,6 +38,7 @@ one_status Demo options values decided status written said d a = absurd d
 one_status Solve options values decided status written said d a = solve_status options values.0 decided status written said d a
 one_status Verify options values decided status written said d a = a.status_is ∙ sym d
 one_status Deficiency options values decided status written said d a = a.status_is ∙ sym d
+one_status Edits options values decided status written said d a = a.status_is ∙ sym d
 
 -- WHERE ALL IS TOLD
 
@@ -79,6 +80,7 @@ result_silent Demo options values status written said is a = of_silent (λ s. de
 result_silent Solve options values status written said is a = of_silent (λ s. solve.Answers options values.0 s written said) said (λ w. absurd w) (λ w. w.1) (λ w. w.1) status is a
 result_silent Verify options values status written said is a = a.silent
 result_silent Deficiency options values status written said is a = a.silent
+result_silent Edits options values status written said is a = a.silent
 
 -- WHERE NOTHING IS WRITTEN
 
@@ -116,6 +118,7 @@ wide_unwritten Demo options values written said a = absurd a
 wide_unwritten Solve options values written said a = absurd a
 wide_unwritten Verify options values written said a = absurd (wide_verdict (verify.verdict_of values.0 values.1.0) a.status_is)
 wide_unwritten Deficiency options values written said a = let is = a.status_is in absurd (let f : ⊥ = cc is in f)
+wide_unwritten Edits options values written said a = let is = a.status_is in absurd (let f : ⊥ = cc is in f)
 
 pub large_unwritten : (command : Command) (options : Options) (values : Values (inputs_of command)) (written said : List ℕ) → Answers command options values TooLarge written said → written ≡ []
 large_unwritten ReducePure options values written said a = let is = a.status_is in absurd (let f : ⊥ = cc is in f)
@@ -129,3 +132,4 @@ large_unwritten Demo options values written said a = absurd a
 large_unwritten Solve options values written said a = absurd a
 large_unwritten Verify options values written said a = absurd (large_verdict (verify.verdict_of values.0 values.1.0) a.status_is)
 large_unwritten Deficiency options values written said a = let is = a.status_is in absurd (let f : ⊥ = cc is in f)
+large_unwritten Edits options values written said a = let is = a.status_is in absurd (let f : ⊥ = cc is in f)

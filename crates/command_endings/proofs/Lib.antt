@@ -10,4 +10,5 @@ pub mod DemoEndings
 pub mod Extensions
 pub mod SolveEndings
 pub mod VerifiedAnswers
-pub mod MeasuredLines
+pub mod NumberLines
+pub mod EditedLines

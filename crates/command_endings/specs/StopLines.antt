@@ -2,8 +2,10 @@
 use Rattle.std.specs.Prelude.{◌≡◌, ℕ, List, [], ◌++◌, codes, decimal}
 use Rattle.dimacs_reader.specs.declared.refusal.Refused.{Refused}
 use Rattle.dimacs_reader.specs.declared.refusal.Refused.TheVariants as refused
+use Rattle.edit_text.specs.EditText.{fault_text}
+use Rattle.edit_text.specs.declared.edit.EditFault.{EditFault}
 use Rattle.command_inputs.specs.declared.stop.Stop.{Stop}
-use Rattle.command_inputs.specs.declared.stop.Stop.TheVariants.{Words, Formula, Document, Model, Answer, Read, Memory}
+use Rattle.command_inputs.specs.declared.stop.Stop.TheVariants.{Words, Formula, Document, Model, Answer, Edits, Read, Memory}
 use Rattle.command_endings.specs.declared.status.Status.{Status}
 use Rattle.command_endings.specs.declared.status.Status.TheVariants as status
 
@@ -24,6 +26,10 @@ refusal_line (refused.Limit line) = formula_line line (codes ": past a limit\n")
 refusal_line (refused.TooLong line) = formula_line line (codes ": too long\n")
 refusal_line refused.OutOfMemory = codes "leank: out of memory\n"
 
+-- what the program says of a fault at a line of edits
+abbrev pub edits_line : ℕ → EditFault → List ℕ
+edits_line line fault = codes "leank: edits line " ++ decimal line ++ fault_text fault
+
 -- what the program says of a stop
 abbrev pub line_of : Stop → List ℕ
 line_of (Words i) = codes "leank: word " ++ decimal i ++ codes " refused\n"
@@ -31,6 +37,7 @@ line_of (Formula r) = refusal_line r
 line_of (Document line) = codes "leank: document line " ++ decimal line ++ codes ": not a document\n"
 line_of (Model line) = codes "leank: model line " ++ decimal line ++ codes ": not a model\n"
 line_of (Answer line) = codes "leank: answer line " ++ decimal line ++ codes ": not an answer\n"
+line_of (Edits line fault) = edits_line line fault
 line_of Read = codes "leank: read fault\n"
 line_of Memory = codes "leank: out of memory\n"
 
@@ -41,6 +48,7 @@ status_of (Formula r) = status.Input
 status_of (Document line) = status.Input
 status_of (Model line) = status.Input
 status_of (Answer line) = status.Input
+status_of (Edits line fault) = status.Input
 status_of Read = status.ReadFault
 status_of Memory = status.Memory
 

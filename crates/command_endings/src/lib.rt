@@ -4,10 +4,12 @@
 pub mod check;
 mod counts;
 pub mod demo;
+pub mod edits;
 mod ending;
 pub mod extend;
 mod lines;
 pub mod measure;
+mod numbers;
 mod protect;
 pub mod reduce;
 pub mod reduce_general;

@@ -2,10 +2,12 @@
 ghost use Rattle.std.specs.Prelude.{◌≡◌, ◌++◌, codes, decimal, IfOk, OnOk};
 ghost use Rattle.command_endings.specs.Commands.GeneralReducing.{conflicts_line};
 ghost use Rattle.command_endings.specs.Commands.LinearReducing.{budget_line, op_word, operands, too_large_line, too_wide_line};
-ghost use Rattle.command_endings.specs.StopLines.{line_of, formula_line, refusal_line};
+ghost use Rattle.command_endings.specs.StopLines.{line_of, formula_line, refusal_line, edits_line};
+ghost use Rattle.edit_text.specs.EditText.{fault_text};
 
 use command_inputs::Stop;
 use dimacs_reader::Refused;
+use edit_text::EditFault;
 use lk_model::{Op, OutOfMemory, Wide};
 use lk_text::put_i128;
 use std::alloc::Global;
@@ -25,6 +27,7 @@ pub(crate) fn line_of(alloc: Global, stop: Stop) -> Result<Vec<u8>, OutOfMemory>
         ),
         Stop::Model(line) => { numbered(alloc, b"leank: model line ", line, b": not a model\n") }
         Stop::Answer(line) => numbered(alloc, b"leank: answer line ", line, b": not an answer\n"),
+        Stop::Edits { line, fault } => edits_line(alloc, line, fault),
         Stop::Read => Ok(Vec::from_slice(alloc, b"leank: read fault\n")?),
         Stop::Memory => Ok(Vec::from_slice(alloc, b"leank: out of memory\n")?),
     }
@@ -55,6 +58,29 @@ fn formula_line(alloc: Global, line: u64, text: &[u8]) -> Result<Vec<u8>, OutOfM
     ensures { IfOk result (λ told. told.items ≡ formula_line line text.now) }
 {
     numbered(alloc, b"leank: formula line ", line, text)
+}
+
+/// The line that tells of a fault at a line of edits.
+fn edits_line(alloc: Global, line: u64, fault: EditFault) -> Result<Vec<u8>, OutOfMemory>
+    ensures { IfOk result (λ told. told.items ≡ edits_line line fault) }
+{
+    numbered(
+        alloc,
+        b"leank: edits line ",
+        line,
+        fault_text(fault).as_bytes(),
+    )
+}
+
+/// What is said of a fault behind the number of its line.
+fn fault_text(fault: EditFault) -> &'static str
+    ensures { result.now ≡ fault_text fault }
+{
+    match fault {
+        EditFault::NotAnEdit => ": not an edit\n",
+        EditFault::NoSuchClause => ": no such clause\n",
+        EditFault::PastLimit => ": past a limit\n",
+    }
 }
 
 /// The line that tells that the rows of a linear run are too large, for so many variables and clauses.

@@ -1,17 +1,17 @@
 //! What `deficiency` answers.
-ghost use Rattle.std.specs.Prelude.{◌≡◌, ◌++◌, ◌∷◌, codes, map, IfOk, OnOk};
+ghost use Rattle.std.specs.Prelude.{◌≡◌, ◌++◌, map, IfOk, OnOk};
 ghost use Rattle.std.specs.List.{flat_map};
-ghost use Rattle.lk_model.specs.Texts.PlainText.{line, ended, number_words};
-ghost use Rattle.line_text.specs.Spaced.{spaced};
+ghost use Rattle.lk_model.specs.Texts.PlainText.{line};
 ghost use Rattle.command_words.specs.OptionRows.{values_of};
 ghost use Rattle.command_endings.specs.Answering.{IsAnswer};
 ghost use Rattle.command_endings.specs.Commands.Measuring.{lines_of, own_words};
 
 use crate::ending::Ending;
+use crate::numbers::put_closed;
 use crate::status::Status;
 use command_words::{Command, Options};
 use deficiency::{Deficiency, max_deficiency};
-use line_text::{put, put_closing_zero, put_number};
+use line_text::{put, put_number};
 use lk_model::{Formula, OutOfMemory, Own};
 use std::alloc::Global;
 
@@ -34,29 +34,9 @@ fn text_of(alloc: Global, found: &Deficiency) -> Result<Vec<u8>, OutOfMemory>
     let mut text = Vec::new(alloc);
     put(&mut text, b"deficiency ")?;
     put_number(&mut text, u64::from(found.value), b'\n')?;
-    put_subset(&mut text, found.kept.as_slice())?;
+    put_closed(&mut text, b"subset", found.kept.as_slice())?;
     put_owns(&mut text, found.own.as_slice())?;
     Ok(text)
-}
-
-/// Appends the line of a set of positions.
-#[tactic(auto, using(crate::proofs::MeasuredLines::subset_behind))]
-fn put_subset(text: &mut Vec<u8>, kept: &[u32]) -> Result<(), OutOfMemory>
-    ensures { OnOk result (text.new.items ≡ text.old.items ++ line (codes "subset" ∷ ended (number_words kept.now))) }
-{
-    put(text, b"subset ")?;
-    put_positions(text, kept)?;
-    put_closing_zero(text)
-}
-
-/// Appends positions, each with a space behind it.
-fn put_positions(text: &mut Vec<u8>, positions: &[u32]) -> Result<(), OutOfMemory>
-    ensures { OnOk result (text.new.items ≡ text.old.items ++ spaced (number_words positions.now)) }
-{
-    for pos in positions {
-        put_number(text, u64::from(*pos), b' ')?;
-    }
-    Ok(())
 }
 
 /// Appends a line for each entry.

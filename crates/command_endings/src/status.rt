@@ -62,7 +62,11 @@ pub fn status_of(stop: Stop) -> Status
 {
     match stop {
         Stop::Words(_) => Status::Words,
-        Stop::Formula(_) | Stop::Document(_) | Stop::Model(_) | Stop::Answer(_) => Status::Input,
+        Stop::Formula(_)
+        | Stop::Document(_)
+        | Stop::Model(_)
+        | Stop::Answer(_)
+        | Stop::Edits { .. } => Status::Input,
         Stop::Read => Status::ReadFault,
         Stop::Memory => Status::Memory,
     }

@@ -1,5 +1,5 @@
 -- What told inputs are read as, and that a text is not both read and refused.
-use Rattle.std.proofs.Common.{◌≡◌, ℕ, ◌≤◌, List, [], ◌∷◌, Option, Some, None, refl, ap, subst, inl, inr, arith}
+use Rattle.std.proofs.Common.{◌≡◌, ℕ, ◌≤◌, List, [], ◌∷◌, length, Option, Some, None, refl, ap, subst, inl, inr, arith}
 use Rattle.std.specs.Prelude.{IfSome, IsSome, IsSomeAnd, option_map}
 use Rattle.lk_model.specs.Limits.{max_vars, max_clauses}
 use Rattle.lk_model.specs.Texts.Lines.{Word}
@@ -8,7 +8,7 @@ use Rattle.dimacs_reader.specs.Faults.{refusal_by, refusal_of}
 use Rattle.answer_check.proofs.AnswerReads.{text_law}
 use Rattle.cert_text.specs.ReadTexts.{IsOfOneDocument, StopsNowhere}
 use Rattle.command_words.specs.declared.shape.Grammar.{Grammar}
-use Rattle.command_words.specs.declared.shape.Grammar.TheVariants.{Formula, Document, Model, Answer}
+use Rattle.command_words.specs.declared.shape.Grammar.TheVariants.{Formula, Document, Model, Answer, Edits}
 use Rattle.command_inputs.specs.Inputs.{Told, Known, nothing_known, ValueOf, Values, IsTextOf, known_behind, AreRead, AreTold, IsRefusal, IsFirstBad, HasBad}
 use Rattle.command_inputs.specs.declared.stop.Stop.{Stop}
 use Rattle.command_inputs.specs.declared.stop.Stop.TheVariants as stop
@@ -18,7 +18,7 @@ use Rattle.command_inputs.specs.declared.stop.Stop.TheVariants as stop
 -- the numbers of variables and of clauses are within their limits
 pub record IsSmall (known : Known) : Type 0 where
   pub vars : known.vars ≤ max_vars
-  pub clauses : known.clauses ≤ max_clauses
+  pub clauses : length known.clauses ≤ max_clauses
 
 pub nothing_small : IsSmall nothing_known
 nothing_small = record { vars = omega arith; clauses = omega arith }
@@ -29,6 +29,7 @@ small_behind Formula known bytes v small t = record { vars = t.vars_limit; claus
 small_behind Document known bytes v small t = small
 small_behind Model known bytes v small t = small
 small_behind Answer known bytes v small t = small
+small_behind Edits known bytes v small t = small
 
 told_small : (grammar : Grammar) (known : Known) (told : Option (List ℕ)) (v : ValueOf grammar) → IsSmall known → IsSomeAnd told (IsTextOf grammar known v) → IsSmall (known_behind grammar known v)
 told_small grammar known None v small t = absurd t
@@ -41,7 +42,8 @@ one_value : IsOfOneDocument → (grammar : Grammar) (known : Known) (bytes : Lis
 one_value once Formula known bytes v w small r s = fault_law.one bytes v w r s
 one_value once Document known bytes v w small r s = once bytes v w r s
 one_value once Model known bytes v w small r s = cc (r, s)
-one_value once Answer known bytes v w small r s = text_law.once known.vars known.clauses bytes v w small.vars small.clauses r s
+one_value once Answer known bytes v w small r s = text_law.once known.vars (length known.clauses) bytes v w small.vars small.clauses r s
+one_value once Edits known bytes v w small r s = cc (r, s)
 
 one_told : IsOfOneDocument → (grammar : Grammar) (known : Known) (told : Option (List ℕ)) (v w : ValueOf grammar) → IsSmall known → IfSome told (IsTextOf grammar known v) → IsSomeAnd told (IsTextOf grammar known w) → v ≡ w
 one_told once grammar known None v w small r s = absurd s
@@ -66,6 +68,7 @@ never_refused never Formula known bytes v (stop.Words i) t h = h
 never_refused never Formula known bytes v (stop.Document line) t h = h
 never_refused never Formula known bytes v (stop.Model line) t h = h
 never_refused never Formula known bytes v (stop.Answer line) t h = h
+never_refused never Formula known bytes v (stop.Edits line fault) t h = h
 never_refused never Formula known bytes v stop.Read t h = h
 never_refused never Formula known bytes v stop.Memory t h = h
 never_refused never Document known bytes v (stop.Document line) t h = never bytes v line t h
@@ -73,6 +76,7 @@ never_refused never Document known bytes v (stop.Words i) t h = h
 never_refused never Document known bytes v (stop.Formula r) t h = h
 never_refused never Document known bytes v (stop.Model line) t h = h
 never_refused never Document known bytes v (stop.Answer line) t h = h
+never_refused never Document known bytes v (stop.Edits line fault) t h = h
 never_refused never Document known bytes v stop.Read t h = h
 never_refused never Document known bytes v stop.Memory t h = h
 never_refused never Model known bytes v (stop.Model line) t h = let f : ⊥ = cc (t, h) in f
@@ -80,15 +84,25 @@ never_refused never Model known bytes v (stop.Words i) t h = h
 never_refused never Model known bytes v (stop.Formula r) t h = h
 never_refused never Model known bytes v (stop.Document line) t h = h
 never_refused never Model known bytes v (stop.Answer line) t h = h
+never_refused never Model known bytes v (stop.Edits line fault) t h = h
 never_refused never Model known bytes v stop.Read t h = h
 never_refused never Model known bytes v stop.Memory t h = h
-never_refused never Answer known bytes v (stop.Answer line) t h = text_law.never known.vars known.clauses bytes v line t h
+never_refused never Answer known bytes v (stop.Answer line) t h = text_law.never known.vars (length known.clauses) bytes v line t h
 never_refused never Answer known bytes v (stop.Words i) t h = h
 never_refused never Answer known bytes v (stop.Formula r) t h = h
 never_refused never Answer known bytes v (stop.Document line) t h = h
 never_refused never Answer known bytes v (stop.Model line) t h = h
+never_refused never Answer known bytes v (stop.Edits line fault) t h = h
 never_refused never Answer known bytes v stop.Read t h = h
 never_refused never Answer known bytes v stop.Memory t h = h
+never_refused never Edits known bytes v (stop.Edits line fault) t h = let f : ⊥ = cc (t, h) in f
+never_refused never Edits known bytes v (stop.Words i) t h = h
+never_refused never Edits known bytes v (stop.Formula r) t h = h
+never_refused never Edits known bytes v (stop.Document line) t h = h
+never_refused never Edits known bytes v (stop.Model line) t h = h
+never_refused never Edits known bytes v (stop.Answer line) t h = h
+never_refused never Edits known bytes v stop.Read t h = h
+never_refused never Edits known bytes v stop.Memory t h = h
 
 told_refused : StopsNowhere → (grammar : Grammar) (known : Known) (told : Option (List ℕ)) (v : ValueOf grammar) (s : Stop) → IsSome told → IfSome told (IsTextOf grammar known v) → IsRefusal grammar known told s → ⊥
 told_refused never grammar known None v s some t h = let f : ⊥ = cc some in f

@@ -8,7 +8,7 @@ use Rattle.command_inputs.specs.Inputs.{nothing_known, StopsReading, StopsText}
 use Rattle.command_words.specs.declared.shape.Grammar.TheVariants.{Formula as FormulaText}
 use Rattle.command_inputs.specs.Stops.{stop_of}
 use Rattle.command_inputs.specs.declared.stop.Stop.{Stop}
-use Rattle.command_inputs.specs.declared.stop.Stop.TheVariants.{Words, Formula, Document, Model, Answer, Read, Memory}
+use Rattle.command_inputs.specs.declared.stop.Stop.TheVariants.{Words, Formula, Document, Model, Answer, Edits, Read, Memory}
 use Rattle.command_inputs.proofs.Streams.{all_taken}
 
 -- what stops the bytes of a text stops a formula
@@ -18,6 +18,7 @@ stops_reading told ailing (Formula r) h = absurd h
 stops_reading told ailing (Document line) h = h
 stops_reading told ailing (Model line) h = h
 stops_reading told ailing (Answer line) h = h
+stops_reading told ailing (Edits line fault) h = h
 stops_reading told ailing Read h = h
 stops_reading told ailing Memory h = h
 

@@ -9,7 +9,7 @@ use Rattle.lk_outside.specs.Causes.{TellsTheSame}
 use Rattle.cert_text.specs.ModelTexts.{IsModelRead as IsReadAs}
 use Rattle.command_words.specs.declared.shape.Grammar.{Grammar}
 use Rattle.command_words.specs.declared.shape.Grammar.TheVariants.{Formula, Document, Model}
-use Rattle.command_inputs.specs.Inputs.{Told, Known, nothing_known, known_of, known_behind, AreRead, IsModelRead, IsFirstBad, IsAilingOn, StopsReading, StopsOn}
+use Rattle.command_inputs.specs.Inputs.{Told, Known, nothing_known, known_behind, AreRead, IsModelRead, IsFirstBad, IsAilingOn, StopsReading, StopsOn}
 use Rattle.command_inputs.specs.declared.stop.Stop.{Stop}
 use Rattle.command_inputs.specs.declared.stop.Stop.TheVariants as stop
 
@@ -46,6 +46,7 @@ stops_before told known grammars others names more ailing current (stop.Formula 
 stops_before told known grammars others names more ailing current (stop.Document line) h = bad_before told known grammars others names more (stop.Document line) h
 stops_before told known grammars others names more ailing current (stop.Model line) h = bad_before told known grammars others names more (stop.Model line) h
 stops_before told known grammars others names more ailing current (stop.Answer line) h = bad_before told known grammars others names more (stop.Answer line) h
+stops_before told known grammars others names more ailing current (stop.Edits line fault) h = bad_before told known grammars others names more (stop.Edits line fault) h
 
 -- the bytes that are told later were told before
 told_before : (told now : Told) (name : Word) (P : List ℕ → Type 0) → TellsTheSame told now → IfSome (now name) P → IfSome (told name) P
@@ -57,7 +58,7 @@ model_behind told now name known values same r = subst (λ (o : Option (List ℕ
 
 -- and its stop
 pub stops_behind : (told now : Told) (a b c : Word) (F : Cnf) (d : AnyDocument) (ailing : Bool) (current : Option (List ℕ)) (s : Stop) → TellsTheSame told now
-    → AreRead told nothing_known (Formula ∷ Document ∷ []) (a ∷ b ∷ []) (F, (d, tt)) → StopsReading Model (known_of F) (now c) ailing s → (s ≡ stop.Read → current ≡ Some c)
+    → AreRead told nothing_known (Formula ∷ Document ∷ []) (a ∷ b ∷ []) (F, (d, tt)) → StopsReading Model F (now c) ailing s → (s ≡ stop.Read → current ≡ Some c)
     → StopsOn told nothing_known (Formula ∷ Document ∷ Model ∷ []) (a ∷ b ∷ c ∷ []) ailing current s
 stops_behind told now a b c F d ailing current stop.Read same r h at = inr (F, r.0, inr (d, r.1.0, inl (h, at refl)))
 stops_behind told now a b c F d ailing current stop.Memory same r h at = tt
@@ -65,5 +66,6 @@ stops_behind told now a b c F d ailing current (stop.Words i) same r h at = absu
 stops_behind told now a b c F d ailing current (stop.Formula x) same r h at = absurd h
 stops_behind told now a b c F d ailing current (stop.Document line) same r h at = absurd h
 stops_behind told now a b c F d ailing current (stop.Answer line) same r h at = absurd h
+stops_behind told now a b c F d ailing current (stop.Edits line fault) same r h at = absurd h
 stops_behind told now a b c F d ailing current (stop.Model line) same r h at =
     inr (F, r.0, inr (d, r.1.0, inl (told_before told now c (λ b. model_of b F.vars ≡ Err line) same h)))

@@ -11,9 +11,11 @@ use Rattle.lk_model.specs.declared.document.Document.{Document as AnyDocument}
 use Rattle.dimacs_reader.specs.Faults.{refusal_of}
 use Rattle.lk_model.specs.Documents.Reading as documents
 use Rattle.answer_check.specs.Answers as answers
+use Rattle.edit_text.specs.EditText.{IsEdits, IsFaultyAt}
+use Rattle.edit_text.specs.declared.edit.Edit.{Edit}
 use Rattle.answer_check.specs.declared.answer.Answer.{Answer as AnyAnswer}
 use Rattle.command_words.specs.declared.shape.Grammar.{Grammar}
-use Rattle.command_words.specs.declared.shape.Grammar.TheVariants.{Formula, Document, Model, Answer}
+use Rattle.command_words.specs.declared.shape.Grammar.TheVariants.{Formula, Document, Model, Answer, Edits}
 use Rattle.command_inputs.specs.declared.stop.Stop.{Stop}
 use Rattle.command_inputs.specs.declared.stop.Stop.TheVariants as stop
 
@@ -27,6 +29,7 @@ ValueOf Formula = Cnf
 ValueOf Document = AnyDocument
 ValueOf Model = List ℤ
 ValueOf Answer = AnyAnswer
+ValueOf Edits = List Edit
 
 -- the values of inputs, in their order
 abbrev pub Values : List Grammar → Type 0
@@ -35,33 +38,31 @@ Values (grammar ∷ grammars) = ValueOf grammar × Values grammars
 
 -- WHAT IS KNOWN OF EARLIER INPUTS
 
--- of the formula its numbers of variables and of clauses, 0 where none was read
-pub record Known : Type 0 where
-  pub vars : ℕ
-  pub clauses : ℕ
+-- the formula that was read last
+abbrev pub Known : Type 0
+Known = Cnf
 
--- before the first input
+-- before the first input: one without variables and clauses
 abbrev pub nothing_known : Known
-nothing_known = record { vars = 0; clauses = 0 }
-
-abbrev pub known_of : Cnf → Known
-known_of F = record { vars = F.vars; clauses = length F.clauses }
+nothing_known = record { vars = 0; clauses = [] }
 
 -- behind an input of this value
 abbrev pub known_behind : (grammar : Grammar) → Known → ValueOf grammar → Known
-known_behind Formula known F = known_of F
+known_behind Formula known F = F
 known_behind Document known d = known
 known_behind Model known literals = known
 known_behind Answer known a = known
+known_behind Edits known edits = known
 
 -- WHAT IS READ
 
--- the bytes are a text of the value: a model has the formula's variables, and an answer is in form for it
+-- the bytes are a text of the value: a model has the formula's variables, an answer is in form for it, and edits are of it
 abbrev pub IsTextOf : (grammar : Grammar) → Known → ValueOf grammar → List ℕ → Type 0
 IsTextOf Formula known F bytes = Spells bytes F
 IsTextOf Document known d bytes = documents.IsTextOf bytes d
 IsTextOf Model known literals bytes = model_of bytes known.vars ≡ Ok literals
-IsTextOf Answer known a bytes = answers.IsAnswerText known.vars known.clauses bytes a
+IsTextOf Answer known a bytes = answers.IsAnswerText known.vars (length known.clauses) bytes a
+IsTextOf Edits known edits bytes = IsEdits known edits bytes
 
 -- the texts under these names, where they are told, are those of the values
 abbrev pub AreRead : Told → Known → (grammars : List Grammar) → List Word → Values grammars → Type 0
@@ -88,7 +89,8 @@ abbrev pub IsRefusal : Grammar → Known → Option (List ℕ) → Stop → Type
 IsRefusal Formula known bytes (stop.Formula r) = IfSome bytes (λ b. refusal_of b ≡ Some r)
 IsRefusal Document known bytes (stop.Document line) = IfSome bytes (λ b. documents.StopsAt b line)
 IsRefusal Model known bytes (stop.Model line) = IfSome bytes (λ b. model_of b known.vars ≡ Err line)
-IsRefusal Answer known bytes (stop.Answer line) = IfSome bytes (λ b. documents.StopsAs (answers.IsTextOfAnswer known.vars known.clauses) b line)
+IsRefusal Answer known bytes (stop.Answer line) = IfSome bytes (λ b. documents.StopsAs (answers.IsTextOfAnswer known.vars (length known.clauses)) b line)
+IsRefusal Edits known bytes (stop.Edits line fault) = IfSome bytes (λ b. IsFaultyAt known b line fault)
 IsRefusal _ known bytes _ = ⊥
 
 -- the first input outside its grammar makes this stop; those before it are read

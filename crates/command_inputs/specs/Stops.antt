@@ -5,8 +5,10 @@ use Rattle.lk_model.specs.declared.verdict.ReadStop.{ReadStop}
 use Rattle.lk_model.specs.declared.verdict.ReadStop.TheVariants as read
 use Rattle.dimacs_reader.specs.declared.refusal.Refused.{Refused}
 use Rattle.dimacs_reader.specs.declared.refusal.Refused.TheVariants as refused
+use Rattle.edit_text.specs.declared.refusal.EditsRefused.{EditsRefused}
+use Rattle.edit_text.specs.declared.refusal.EditsRefused.TheVariants as edits
 use Rattle.command_inputs.specs.declared.stop.Stop.{Stop}
-use Rattle.command_inputs.specs.declared.stop.Stop.TheVariants.{Formula, Document, Model, Answer, Read, Memory}
+use Rattle.command_inputs.specs.declared.stop.Stop.TheVariants.{Formula, Document, Model, Answer, Edits, Read, Memory}
 
 -- the stop that a refusal of the reader makes
 abbrev pub stop_of : Refused → Stop
@@ -32,3 +34,8 @@ model_stop_of read.OutOfMemory = Memory
 abbrev pub answer_stop_of : ReadStop → Stop
 answer_stop_of (read.Line line) = Answer line
 answer_stop_of read.OutOfMemory = Memory
+
+-- the stop that a text makes that is none of edits
+abbrev pub edits_stop_of : EditsRefused → Stop
+edits_stop_of (edits.Line line fault) = Edits line fault
+edits_stop_of edits.OutOfMemory = Memory

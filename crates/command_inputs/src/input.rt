@@ -4,16 +4,20 @@ ghost use Rattle.lk_model.specs.Documents.Form.{is_in_form};
 ghost use Rattle.lk_model.specs.Documents.Reading.{IsTextOf};
 ghost use Rattle.lk_model.specs.Texts.Dimacs.{Spells};
 ghost use Rattle.answer_check.specs.Answers.{is_answer, IsAnswerText};
+ghost use Rattle.edit_text.specs.LiveClauses.{live_of};
+ghost use Rattle.edit_text.specs.Edits.{CanBeMade};
+ghost use Rattle.edit_text.specs.EditText.{IsEdits};
 ghost use Rattle.lk_outside.specs.Reads.{ReadTakes};
 ghost use Rattle.lk_outside.specs.Causes.{HasCause, TellsTheSame};
-ghost use Rattle.command_inputs.specs.Inputs.{nothing_known, known_of, AreRead, IsModelRead, StopsReading, StopsText, StopsOn, IsFailure};
-ghost use Rattle.command_words.specs.declared.shape.Grammar.TheVariants.{Formula as FormulaText, Document as DocumentText, Model as ModelText, Answer as AnswerText};
+ghost use Rattle.command_inputs.specs.Inputs.{nothing_known, AreRead, IsModelRead, StopsReading, StopsText, StopsOn, IsFailure};
+ghost use Rattle.command_words.specs.declared.shape.Grammar.TheVariants.{Formula as FormulaText, Document as DocumentText, Model as ModelText, Answer as AnswerText, Edits as EditsText};
 
 use crate::stop::Stop;
 use answer_check::{Answer, read_answer};
 use cert_text::{read, read_model};
 use dimacs_reader::Reader;
-use lk_model::{Document, Formula};
+use edit_text::{Edit, EditsReader};
+use lk_model::{Document, Formula, List};
 use lk_outside::Shelf;
 use partial_assign::Partial;
 use std::alloc::Global;
@@ -138,8 +142,8 @@ pub fn read_values<H: Shelf>(
     formula: &Formula,
 ) -> Result<Partial, Stop>
     ensures told { TellsTheSame (H.told shelf.old) (H.told shelf.new) }
-    ensures model { IfOk result (IsModelRead (H.told shelf.old name.now) (known_of formula.now)) }
-    ensures stop { IfErr result (StopsReading ModelText (known_of formula.now) (H.told shelf.old name.now) (H.ailing shelf.new)) }
+    ensures model { IfOk result (IsModelRead (H.told shelf.old name.now) formula.now) }
+    ensures stop { IfErr result (StopsReading ModelText formula.now (H.told shelf.old name.now) (H.ailing shelf.new)) }
     ensures current { IsErrAnd result (λ s. s ≡ Stop.Read) → H.current shelf.new ≡ Some name.now }
     ensures cause { HasCause (H.faults shelf.old) (H.faults shelf.new) (IsErrAnd result (λ s. s ≡ Stop.Read)) }
     ensures well { IsTrue (H.ailing shelf.new) → IsErrAnd result IsFailure }
@@ -191,7 +195,7 @@ fn read_answer_of<H: Shelf>(
     ensures told { TellsTheSame (H.told shelf.old) (H.told shelf.new) }
     ensures answer { IfOk result (λ a. IfSome (H.told shelf.old name.now) (λ bytes. IsAnswerText formula.now.vars (length formula.now.clauses) bytes a)) }
     ensures form { IfOk result (λ a. IsTrue (is_answer formula.now.vars (length formula.now.clauses) a)) }
-    ensures stop { IfErr result (StopsReading AnswerText (known_of formula.now) (H.told shelf.old name.now) (H.ailing shelf.new)) }
+    ensures stop { IfErr result (StopsReading AnswerText formula.now (H.told shelf.old name.now) (H.ailing shelf.new)) }
     ensures current { IsErrAnd result (λ s. s ≡ Stop.Read) → H.current shelf.new ≡ Some name.now }
     ensures cause { HasCause (H.faults shelf.old) (H.faults shelf.new) (IsErrAnd result (λ s. s ≡ Stop.Read)) }
     ensures well { IsTrue (H.ailing shelf.new) → IsErrAnd result IsFailure }
@@ -201,6 +205,84 @@ fn read_answer_of<H: Shelf>(
         Ok(answer) => Ok(answer),
         Err(stop) => Err(Stop::of_answer(stop)),
     }
+}
+
+/// A formula and edits of its clauses.
+#[derive(Drop)]
+pub struct Edited {
+    /// The formula.
+    pub formula: Formula,
+    /// The edits, in their order, which can be made one after the other.
+    pub edits: List<Edit>,
+}
+
+/// Reads the formula under the first name, and then the edits of its clauses under the second.
+pub fn read_edited<H: Shelf>(
+    alloc: Global,
+    shelf: &mut H,
+    formula_name: &str,
+    edits_name: &str,
+) -> Result<Edited, Stop>
+    ensures told { TellsTheSame (H.told shelf.old) (H.told shelf.new) }
+    ensures read { IfOk result (λ r. AreRead (H.told shelf.old) nothing_known (FormulaText ∷ EditsText ∷ [])
+        (formula_name.now ∷ edits_name.now ∷ []) (r.formula, (r.edits, tt))) }
+    ensures made { IfOk result (λ r. CanBeMade (live_of r.formula) r.edits) }
+    ensures stop { IfErr result (StopsOn (H.told shelf.old) nothing_known (FormulaText ∷ EditsText ∷ [])
+        (formula_name.now ∷ edits_name.now ∷ []) (H.ailing shelf.new) (H.current shelf.new)) }
+    ensures cause { HasCause (H.faults shelf.old) (H.faults shelf.new) (IsErrAnd result (λ s. s ≡ Stop.Read)) }
+    ensures well { IsTrue (H.ailing shelf.new) → IsErrAnd result IsFailure }
+{
+    let formula = read_formula(alloc, shelf, formula_name)?;
+    let edits = read_edits_of(alloc, shelf, edits_name, &formula)?;
+    Ok(Edited { formula, edits })
+}
+
+/// Reads the edits under a name, of the clauses of a formula. They can be made one after the other.
+fn read_edits_of<H: Shelf>(
+    alloc: Global,
+    shelf: &mut H,
+    name: &str,
+    formula: &Formula,
+) -> Result<List<Edit>, Stop>
+    ensures told { TellsTheSame (H.told shelf.old) (H.told shelf.new) }
+    ensures edits { IfOk result (λ edits. IfSome (H.told shelf.old name.now) (IsEdits formula.now edits)) }
+    ensures made { IfOk result (CanBeMade (live_of formula.now)) }
+    ensures stop { IfErr result (StopsReading EditsText formula.now (H.told shelf.old name.now) (H.ailing shelf.new)) }
+    ensures current { IsErrAnd result (λ s. s ≡ Stop.Read) → H.current shelf.new ≡ Some name.now }
+    ensures cause { HasCause (H.faults shelf.old) (H.faults shelf.new) (IsErrAnd result (λ s. s ≡ Stop.Read)) }
+    ensures well { IsTrue (H.ailing shelf.new) → IsErrAnd result IsFailure }
+{
+    let mut piece = vec![in alloc; 0u8; PIECE]?;
+    start_text(shelf, name)?;
+    read_started_edits(alloc, shelf, piece.as_mut_slice(), formula)
+}
+
+/// Reads what is left of the started text, as edits of the clauses of a formula.
+fn read_started_edits<H: Shelf>(
+    alloc: Global,
+    shelf: &mut H,
+    piece: &mut [u8],
+    formula: &Formula,
+) -> Result<List<Edit>, Stop>
+    requires started { IsTrue (H.started shelf.old) }
+    requires room { 0 < length piece.old }
+    ensures told { TellsTheSame (H.told shelf.old) (H.told shelf.new) }
+    ensures edits { IfOk result (λ edits. IfSome (H.left shelf.old) (IsEdits formula.now edits)) }
+    ensures made { IfOk result (CanBeMade (live_of formula.now)) }
+    ensures stop { IfErr result (StopsReading EditsText formula.now (H.left shelf.old) (H.ailing shelf.new)) }
+    ensures current { H.current shelf.new ≡ H.current shelf.old }
+    ensures cause { HasCause (H.faults shelf.old) (H.faults shelf.new) (IsErrAnd result (λ s. s ≡ Stop.Read)) }
+    ensures well { IsTrue (H.ailing shelf.new) → IsErrAnd result IsFailure }
+{
+    let mut reader = EditsReader::new(alloc, formula)?;
+    'pieces: loop {
+        let count = read_piece(shelf, piece)?;
+        if count == 0 {
+            break 'pieces;
+        }
+        reader.feed(&piece[..count])?;
+    }
+    Ok(reader.finish()?)
 }
 
 /// Reads the bytes under a name, up to their end.

@@ -4,5 +4,7 @@
 mod input;
 mod stop;
 
-pub use input::{Answered, Checked, read_answered, read_checked, read_formula, read_values};
+pub use input::{
+    Answered, Checked, Edited, read_answered, read_checked, read_edited, read_formula, read_values,
+};
 pub use stop::Stop;

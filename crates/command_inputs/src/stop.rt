@@ -1,9 +1,10 @@
 //! Why a command ends without its result.
 ghost use Rattle.std.specs.Prelude.{◌≡◌};
 ghost use Rattle.command_inputs.specs.declared.stop.Stop.TheVariants.{Memory as MemoryStop, Read as ReadStop};
-ghost use Rattle.command_inputs.specs.Stops.{stop_of, start_stop_of, read_stop_of, model_stop_of, answer_stop_of};
+ghost use Rattle.command_inputs.specs.Stops.{stop_of, start_stop_of, read_stop_of, model_stop_of, answer_stop_of, edits_stop_of};
 
 use dimacs_reader::Refused;
+use edit_text::{EditFault, EditsRefused};
 use lk_model::{
     OutOfMemory, ReadStop as AnswerStop, ReadStop as DocumentStop, ReadStop as ModelStop,
 };
@@ -23,6 +24,8 @@ pub enum Stop {
     Model(u64),
     /// The text is no answer for the formula; the first line with which none of them goes on, counted from 1.
     Answer(u64),
+    /// The text is none of edits of the formula; its first faulty line, counted from 1, and what is wrong with it.
+    Edits { line: u64, fault: EditFault },
     /// A call on the shelf failed.
     Read,
     /// There was no memory.
@@ -47,6 +50,17 @@ impl From<DocumentStop> for Stop {
         match stop {
             DocumentStop::Line(line) => Stop::Document(line),
             DocumentStop::OutOfMemory => Stop::Memory,
+        }
+    }
+}
+
+impl From<EditsRefused> for Stop {
+    ghost from_gives = { λ r s. s ≡ edits_stop_of r };
+
+    fn from(refused: EditsRefused) -> Stop {
+        match refused {
+            EditsRefused::Line { line, fault } => Stop::Edits { line, fault },
+            EditsRefused::OutOfMemory => Stop::Memory,
         }
     }
 }

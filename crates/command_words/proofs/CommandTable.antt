@@ -8,7 +8,7 @@ use Rattle.command_words.specs.Settings.{every_option}
 use Rattle.command_words.specs.Shapes.{commands, words_of, keys_of}
 use Rattle.command_words.specs.Lawful.{request_of, with_names, with_number}
 use Rattle.command_words.specs.declared.command.Command.{Command}
-use Rattle.command_words.specs.declared.command.Command.TheVariants.{ReducePure, ReduceMatching, ReduceLinear, ReduceGeneral, Check, Extend, Report, Demo, Solve, Verify, Deficiency}
+use Rattle.command_words.specs.declared.command.Command.TheVariants.{ReducePure, ReduceMatching, ReduceLinear, ReduceGeneral, Check, Extend, Report, Demo, Solve, Verify, Deficiency, Edits}
 use Rattle.command_words.proofs.LawfulOptions.{have_samples}
 use Rattle.command_words.proofs.OptionWords.{agrees}
 
@@ -25,6 +25,7 @@ is_of Demo rest = refl
 is_of Solve rest = refl
 is_of Verify rest = refl
 is_of Deficiency rest = refl
+is_of Edits rest = refl
 
 -- a number that it takes, as words
 pub one_number : (command : Command) → (number : List Word) × ((rest : List Word) → with_number command (number ++ rest) ≡ with_names command 0 rest)
@@ -39,6 +40,7 @@ one_number Demo = (codes "0" ∷ [], λ rest. refl)
 one_number Solve = ([], λ rest. refl)
 one_number Verify = ([], λ rest. refl)
 one_number Deficiency = ([], λ rest. refl)
+one_number Edits = ([], λ rest. refl)
 
 -- each of its options takes some word
 pub samples : (command : Command) → have_samples (keys_of command) ≡ true
@@ -54,6 +56,7 @@ samples Demo = refl
 samples Solve = refl
 samples Verify = refl
 samples Deficiency = refl
+samples Edits = refl
 
 -- none of them has the word of another option
 pub apart : (command : Command) → list_all (agrees (keys_of command)) every_option ≡ true
@@ -68,6 +71,7 @@ apart Demo = refl
 apart Solve = refl
 apart Verify = refl
 apart Deficiency = refl
+apart Edits = refl
 
 -- the place of each in the list of commands
 pub stands : (command : Command) → (place : ℕ) × (place < length commands) × (get_or commands place ReducePure ≡ command)
@@ -82,3 +86,4 @@ stands Demo = (7, omega arith, refl)
 stands Solve = (8, omega arith, refl)
 stands Verify = (9, omega arith, refl)
 stands Deficiency = (10, omega arith, refl)
+stands Edits = (11, omega arith, refl)

@@ -25,10 +25,12 @@ pub enum Command {
     Verify,
     /// Writes the maximal deficiency of a formula, with what shows it.
     Deficiency,
+    /// Writes the matching kernel of a formula, and again after each edit of it.
+    Edits,
 }
 
 /// The commands, in the order in which their words are looked for.
-pub(crate) const COMMANDS: [Command; 11] = [
+pub(crate) const COMMANDS: [Command; 12] = [
     Command::ReducePure,
     Command::ReduceMatching,
     Command::ReduceLinear,
@@ -40,4 +42,5 @@ pub(crate) const COMMANDS: [Command; 11] = [
     Command::Solve,
     Command::Verify,
     Command::Deficiency,
+    Command::Edits,
 ];

@@ -18,6 +18,8 @@ pub enum Grammar {
     Model,
     /// An answer for the variables and the clauses of the formula before it: a model of it, or a refutation.
     Answer,
+    /// Edits of the formula before it: clauses that are added and numbers of clauses that are removed.
+    Edits,
 }
 
 /// What the words of a command are made of: the words at its front, the numbers of which one stands behind them for
@@ -86,6 +88,12 @@ impl Command {
                 words: &["deficiency"],
                 numbers: None,
                 inputs: &[Grammar::Formula],
+                keys: &[],
+            },
+            Command::Edits => Shape {
+                words: &["edits"],
+                numbers: None,
+                inputs: &[Grammar::Formula, Grammar::Edits],
                 keys: &[],
             },
         }

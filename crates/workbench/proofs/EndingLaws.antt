@@ -72,6 +72,11 @@ stop_allowed words shelf (stop.Answer line) written said h rose tells = (stop.An
     by : (o : Option Request) → StopsAsRead o shelf.told shelf.ailing shelf.current (stop.Answer line) → DeservesStop o shelf.told (stop.Answer line)
     by None h = h
     by (Some request) h = h
+stop_allowed words shelf (stop.Edits line fault) written said h rose tells = (stop.Edits line fault, by (request_of words) h, tells)
+  where
+    by : (o : Option Request) → StopsAsRead o shelf.told shelf.ailing shelf.current (stop.Edits line fault) → DeservesStop o shelf.told (stop.Edits line fault)
+    by None h = h
+    by (Some request) h = h
 stop_allowed words shelf stop.Read written said h rose tells = (read_fault (request_of words) shelf (rose refl) h, tells)
 stop_allowed words shelf stop.Memory written said h rose tells = tells
 
@@ -136,6 +141,11 @@ stop_decided once never words told ailing current (stop.Answer line) decided h r
     by : (o : Option Request) → StopsAsRead o told ailing current (stop.Answer line) → IsDecided o told decided → decided ≡ status.Input
     by None h d = absurd h
     by (Some request) h d = bad_decided once never request told (stop.Answer line) decided h d
+stop_decided once never words told ailing current (stop.Edits line fault) decided h rose d = inl (ap code (sym (by (request_of words) h d)))
+  where
+    by : (o : Option Request) → StopsAsRead o told ailing current (stop.Edits line fault) → IsDecided o told decided → decided ≡ status.Input
+    by None h d = absurd h
+    by (Some request) h d = bad_decided once never request told (stop.Edits line fault) decided h d
 stop_decided once never words told ailing current stop.Read decided h rose d = inr (inl (refl, rose refl))
 stop_decided once never words told ailing current stop.Memory decided h rose d = inr (inr (inr refl))
 
@@ -184,6 +194,7 @@ stop_well (stop.Formula r) o ailing h = result_well status.Input o ailing h
 stop_well (stop.Document line) o ailing h = result_well status.Input o ailing h
 stop_well (stop.Model line) o ailing h = result_well status.Input o ailing h
 stop_well (stop.Answer line) o ailing h = result_well status.Input o ailing h
+stop_well (stop.Edits line fault) o ailing h = result_well status.Input o ailing h
 
 pub told_well : (s : Stop) (o : Option Request) (ailing : Bool) (r : Result Ending OutOfMemory) → IfOk r (λ e. e.status ≡ status_of s) → (IsTrue ailing → ReadsNothing o ⊎ IsFailure s) → IfOk r (λ e. IsWell e.status o ailing)
 told_well s o ailing (Ok e) is h = subst (λ (t : Status). IsWell t o ailing) (sym is) (stop_well s o ailing h)

@@ -72,6 +72,7 @@ faulty (Some bytes) (stop.Words i) h = absurd h
 faulty (Some bytes) (stop.Document line) h = absurd h
 faulty (Some bytes) (stop.Model line) h = absurd h
 faulty (Some bytes) (stop.Answer line) h = absurd h
+faulty (Some bytes) (stop.Edits line fault) h = absurd h
 faulty (Some bytes) stop.Read h = absurd h
 faulty (Some bytes) stop.Memory h = absurd h
 

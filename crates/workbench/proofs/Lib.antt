@@ -11,6 +11,7 @@ pub mod ModelOrNone
 pub mod SolveOutcomes
 pub mod VerifyOutcomes
 pub mod DeficiencyOutcomes
+pub mod EditsOutcomes
 pub mod QuietEndings
 pub mod KeptClauses
 pub mod WrittenChecks

@@ -24,6 +24,7 @@ formula_stops told name ailing current (stop.Words i) h at = absurd h
 formula_stops told name ailing current (stop.Document line) h at = absurd h
 formula_stops told name ailing current (stop.Model line) h at = absurd h
 formula_stops told name ailing current (stop.Answer line) h at = absurd h
+formula_stops told name ailing current (stop.Edits line fault) h at = absurd h
 
 -- an input is bad, or a call failed
 pub stopped : (request : Request) (shelf : Shelved) (s : Stop) → StopsOn shelf.told nothing_known (inputs_of request.command) request.names shelf.ailing shelf.current s

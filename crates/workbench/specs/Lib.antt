@@ -8,6 +8,7 @@ pub mod DemoOutcomes
 pub mod SolveOutcomes
 pub mod VerifyOutcomes
 pub mod DeficiencyOutcomes
+pub mod EditsOutcomes
 pub mod KeptClauses
 pub mod WrittenChecks
 pub mod WrittenAnswers

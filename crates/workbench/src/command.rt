@@ -6,6 +6,7 @@ ghost use Rattle.workbench.specs.Endings.{shelved};
 ghost use Rattle.workbench.specs.Performing.{Performs};
 
 mod check;
+mod edits;
 mod extend;
 mod measure;
 mod reduce;
@@ -53,5 +54,6 @@ pub(crate) fn perform<R: Threads + Sync, H: Shelf, G: Gate>(
         Command::Solve => solve::perform(rt, alloc, gate, shelf, names, options),
         Command::Verify => verify::perform(alloc, shelf, names, options),
         Command::Deficiency => measure::perform(alloc, shelf, names, options),
+        Command::Edits => edits::perform(alloc, shelf, names, options),
     }
 }

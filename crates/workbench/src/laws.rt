@@ -4,6 +4,7 @@ ghost use Rattle.workbench.specs.Agreement.{WrittenIsAccepted, StoppedIsUnfinish
 ghost use Rattle.command_words.specs.declared.command.Command.TheVariants.{ReducePure, ReduceMatching};
 ghost use Rattle.workbench.specs.DeficiencyOutcomes.{DeficiencyOutcomes};
 ghost use Rattle.workbench.specs.DemoOutcomes.{DemoOutcomes};
+ghost use Rattle.workbench.specs.EditsOutcomes.{EditsOutcomes};
 ghost use Rattle.workbench.specs.GeneralOutcomes.{GeneralOutcomes};
 ghost use Rattle.workbench.specs.KeptClauses.{KeptLaw};
 ghost use Rattle.workbench.specs.LinearOutcomes.{LinearOutcomes};
@@ -91,6 +92,13 @@ pub fn verify_law()
 /// without a fault is answered so, and each other one refused, unless a call or memory fails.
 pub fn deficiency_law()
     ensures { DeficiencyOutcomes }
+{}
+
+/// Of `edits`: with status 0 the matching kernel of the formula stands on `out`, and behind it that of what is live behind each
+/// edit, by the numbers of the clauses. Told texts are refused exactly where the first has a fault, or else the second a faulty
+/// line, and then `say` has that line alone; the others are answered, unless a call or memory fails.
+pub fn edits_law()
+    ensures { EditsOutcomes }
 {}
 
 /// What `solve` writes of a text with status 10 or 20 is an answer for that text of which no check fails, and of what it writes

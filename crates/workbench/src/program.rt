@@ -20,7 +20,7 @@ use std::thread::Threads;
 
 /// Does what the command line asks for, and answers the status with which the program ends. Where the bytes of an
 /// input are visible to contracts (`told`), they are those that this speaks of; else what is said of 0, 5, 6, 7, 8, 10
-/// and 20 holds of some formula, document, model or answer, and of 2 nothing is said.
+/// and 20 holds of some formula, document, model, answer or edits, and of 2 nothing is said.
 ///
 /// - 0: the result stands on `out`, and `say` has nothing. Of `reduce`, the text that was read spells a formula F,
 ///   and `out` has a document with kept clauses K and an assignment φ. K is the largest subset of F that is lean for
@@ -29,10 +29,11 @@ use std::thread::Threads;
 ///   Of `check` the document is accepted, and so all this holds of it, whoever made it. Of `extend` it is the line of
 ///   a model of the formula; of `report` nine numbers of the formula; of `demo` six lines on the formula of a number.
 ///   Of `verify` the answer is accepted: its literals satisfy the formula, or this has no model. Of `deficiency` it is the
-///   greatest number of clauses less occurring variables, with what shows it.
+///   greatest number of clauses less occurring variables, with what shows it. Of `edits` these are the matching kernels
+///   of the formula and of what is live behind each edit.
 /// - 1: the command line is not valid. `say` has the number of the refused word.
 /// - 2: an input is outside its grammar, and those before it are within theirs. `say` has the line of its first
-///   fault, and of a formula the kind.
+///   fault, and of a formula and of edits the kind.
 /// - 3: a call on the shelf failed: its count of faults rose, and it is ailing on an input.
 /// - 4: a call on `out` or `say` failed: its count of faults rose, and it took a proper prefix of its text. If it was
 ///   `out`, `say` is as it was.

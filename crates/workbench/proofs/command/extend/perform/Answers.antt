@@ -4,7 +4,7 @@ use Rattle.lk_model.specs.Formulas.Assignment.{Assignment}
 use Rattle.lk_model.specs.Held.PartialValues.{assignment_by}
 use Rattle.command_words.specs.declared.shape.Grammar.TheVariants.{Formula, Document, Model}
 use Rattle.command_words.proofs.Texts.{text_at}
-use Rattle.command_inputs.specs.Inputs.{nothing_known, known_of}
+use Rattle.command_inputs.specs.Inputs.{nothing_known}
 use Rattle.command_inputs.proofs.ModelReads.{stops_before, stops_behind, model_behind}
 use Rattle.command_inputs.proofs.Streams.{Cause-then}
 use Rattle.command_endings.specs.Commands.Extending.{outcome_of, Tells}
@@ -48,7 +48,7 @@ returns-in_ok-ending-in-Ok g c =
     let e = c.in_ok-ending-in-Ok.field-0 in
     let read = c.in_ok-read.ensures in
     let model = c.in-Ok.ensures in
-    let m = model_behind (shelf.told c.args.shelf.now) (shelf.told c.read_checked.new.shelf) (text_at names 2) (known_of F) c.in-Ok.model read.told model.model in
+    let m = model_behind (shelf.told c.args.shelf.now) (shelf.told c.read_checked.new.shelf) (text_at names 2) F c.in-Ok.model read.told model.model in
     performed _ _ (F, (d, (m.literals, tt))) e (rw (three_names names c.requires.names) (read.read.0, (read.read.1.0, (m.text, tt)))) (record {
       result = outcome_result (outcome_of F d (assignment_by c.in-Ok.model)) e.status c.in_ok-ending-in-Ok.ensures.status_is;
       answers = subst (λ (φ : Assignment). Tells F d φ e.status e.written.items e.said.items) m.values_are c.in_ok-ending-in-Ok.ensures;

@@ -1,0 +1,96 @@
+//! What `edits` answers.
+//!
+//! The matching of the live clauses stays maximum from edit to edit by at most one search for each, so that what an edit costs
+//! besides the kernel that is written is this search. A counter, whose ledger the functions that search do not know, shows it.
+ghost use Rattle.std.specs.Prelude.{◌≡◌, ◌+◌, ◌≤◌, None, length, IfOk, OnOk, IsTrue};
+ghost use Rattle.edit_text.specs.LiveClauses.{live_of};
+ghost use Rattle.edit_text.specs.Edits.{CanBeMade, after, fault_of, is_edit_over, states};
+ghost use Rattle.command_words.specs.OptionRows.{values_of};
+ghost use Rattle.command_endings.specs.Answering.{IsAnswer};
+ghost use Rattle.command_endings.specs.Commands.Editing.{WritesKernels, WritesKernel};
+
+use crate::ending::Ending;
+use crate::numbers::put_closed;
+use crate::status::Status;
+use bipartite_match::Steps;
+use command_inputs::Edited;
+use command_words::{Command, Options};
+use edit_text::Edit;
+use lk_model::OutOfMemory;
+use match_edits::{EditStop, Live};
+use std::alloc::Global;
+
+/// The matching kernel of a formula, and that of what is live behind each of its edits.
+pub fn answer(alloc: Global, read: &Edited, options: &Options<'_>) -> Result<Ending, OutOfMemory>
+    requires made { CanBeMade (live_of read.now.formula) read.now.edits }
+    ensures { IfOk result (IsAnswer Command.Edits (values_of options.now) (read.now.formula, (read.now.edits, tt))) }
+{
+    let mut live = Live::of(alloc, &read.formula)?;
+    let mut steps = Steps::new(());
+    let written = text_of(alloc, &mut live, read.edits.as_slice(), &mut steps)?;
+    Ok(Ending {
+        status: Status::Done,
+        written,
+        said: Vec::new(alloc),
+    })
+}
+
+/// The lines of the matching kernels of what is live: as it stands, and behind each of these edits. For each edit at most one
+/// search is made.
+fn text_of<L>(
+    alloc: Global,
+    live: &mut Live,
+    edits: &[Edit],
+    steps: &mut Steps<L>,
+) -> Result<Vec<u8>, OutOfMemory>
+    requires made { CanBeMade live.old edits.now }
+    ensures kernels { IfOk result (λ text. WritesKernels (states live.old edits.now) text.items) }
+    ensures searches { steps.new ≤ steps.old + length edits.now }
+{
+    let mut text = Vec::new(alloc);
+    put_kernel(alloc, &mut text, live)?;
+    for edit in edits {
+        make(alloc, live, edit, steps)?;
+        put_kernel(alloc, &mut text, live)?;
+    }
+    Ok(text)
+}
+
+/// Makes an edit that can be made, with at most one search.
+fn make<L>(
+    alloc: Global,
+    live: &mut Live,
+    edit: &Edit,
+    steps: &mut Steps<L>,
+) -> Result<(), OutOfMemory>
+    requires over { IsTrue (is_edit_over live.old.held.vars edit.now) }
+    requires made { fault_of live.old edit.now ≡ None }
+    ensures ok { OnOk result (live.new ≡ after live.old edit.now) }
+    ensures search { steps.new ≤ steps.old + 1 }
+{
+    match edit {
+        Edit::Add(clause) => match live.add(alloc, clause.as_slice(), steps) {
+            Ok(_) => Ok(()),
+            Err(stop) => Err(memory_of(stop)),
+        },
+        Edit::Remove(number) => match live.remove(alloc, *number, steps) {
+            Ok(()) => Ok(()),
+            Err(stop) => Err(memory_of(stop)),
+        },
+    }
+}
+
+/// The one error of an edit that can be made.
+fn memory_of(_stop: EditStop) -> OutOfMemory
+    requires memory { _stop ≡ EditStop.OutOfMemory }
+{
+    OutOfMemory
+}
+
+/// Appends the line of the matching kernel of what is live.
+fn put_kernel(alloc: Global, text: &mut Vec<u8>, live: &Live) -> Result<(), OutOfMemory>
+    ensures { OnOk result (WritesKernel live.now text.old.items text.new.items) }
+{
+    let kept = live.kernel(alloc)?;
+    put_closed(text, b"keep", kept.as_slice())
+}

@@ -1,0 +1,29 @@
+//! The command `edits`.
+ghost use Rattle.std.specs.Prelude.{◌≡◌, length, map};
+ghost use Rattle.command_words.specs.Requests.{request_for};
+ghost use Rattle.command_words.specs.Shapes.{inputs_of};
+ghost use Rattle.workbench.specs.Endings.{shelved};
+ghost use Rattle.workbench.specs.Performing.{Performs};
+
+use command_endings::Ending;
+use command_endings::edits::answer;
+use command_inputs::{Stop, read_edited};
+use command_words::{Command, Options};
+use lk_outside::Shelf;
+use std::alloc::Global;
+
+/// Writes the matching kernels of the formula under the first name, and behind each edit under the second.
+pub(crate) fn perform<H: Shelf>(
+    alloc: Global,
+    shelf: &mut H,
+    names: &[&str],
+    options: &Options<'_>,
+) -> Result<Ending, Stop>
+    requires names { length names.now ≡ length (inputs_of Command.Edits) }
+    ensures { Performs (request_for Command.Edits (map (λ w. w.now) names.now) options.now)
+        (shelved (H.told shelf.old) (H.faults shelf.old) (H.faults shelf.new) (H.ailing shelf.new) (H.current shelf.new))
+        result }
+{
+    let read = read_edited(alloc, shelf, names[0], names[1])?;
+    Ok(answer(alloc, &read, options)?)
+}
