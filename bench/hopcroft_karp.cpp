@@ -2,8 +2,10 @@
 // DIMACS file.
 //
 //     hopcroft_karp FILE
+//     hopcroft_karp FILE EDITS COUNT
 //
-// It writes the document that `leank reduce matching` writes, perhaps with another choice of owners.
+// It writes the document that `leank reduce matching` writes, perhaps with another choice of owners. With a text of edits it
+// writes the lines of `leank edits` for the formula and the first COUNT edits, each kernel computed from scratch.
 #include <algorithm>
 #include <charconv>
 #include <cstdint>
@@ -200,8 +202,65 @@ static Text document(const Formula& f, const Kernel& kernel) {
     return text;
 }
 
+// The clauses that are live, under their numbers.
+class Live {
+public:
+    explicit Live(const Formula& formula) : all(formula), numbers(formula.clauses()) {
+        for (Number c = 0; c < formula.clauses(); c++) numbers[c] = c + 1;
+    }
+
+    void remove(Number number) { numbers.erase(std::lower_bound(numbers.begin(), numbers.end(), number)); }
+
+    void add(const std::vector<int>& clause) {
+        for (const int literal : clause) {
+            all.literals.push_back(literal);
+            all.variables.push_back(Number(std::abs(literal)));
+        }
+        all.ends.push_back(Number(all.variables.size()));
+        numbers.push_back(all.clauses());
+    }
+
+    void put_kernel(Text& text) const {
+        Formula formula;
+        formula.vars = all.vars;
+        for (const Number c : numbers) {
+            formula.variables.insert(formula.variables.end(), all.variables.begin() + all.ends[c - 1], all.variables.begin() + all.ends[c]);
+            formula.ends.push_back(Number(formula.variables.size()));
+        }
+        text.word("keep");
+        for (const Number p : Matching(formula).kernel().kept) text.number(numbers[p - 1]);
+        text.number(0).line();
+    }
+
+private:
+    Formula all;
+    std::vector<Number> numbers;
+};
+
+static Text kernels(const Formula& formula, const char* name, long count) {
+    Live live(formula);
+    Text text;
+    live.put_kernel(text);
+    std::ifstream file(name);
+    char kind;
+    while (count-- > 0 && file >> kind) {
+        long number;
+        if (kind == 'd') {
+            file >> number;
+            live.remove(Number(number));
+        } else {
+            std::vector<int> clause;
+            while (file >> number && number != 0) clause.push_back(int(number));
+            live.add(clause);
+        }
+        live.put_kernel(text);
+    }
+    return text;
+}
+
 int main(int count, char** words) {
-    if (count != 2) return 1;
+    if (count != 2 && count != 4) return 1;
     const Formula formula = read(words[1]);
+    if (count == 4) return kernels(formula, words[2], std::strtol(words[3], nullptr, 10)).put() ? 0 : 4;
     return document(formula, Matching(formula).kernel()).put() ? 0 : 4;
 }

@@ -1,6 +1,6 @@
 #!/usr/bin/env python3
 """Measures `reduce matching` beside a plain Hopcroft and Karp in C++ that reads the same formula and
-writes a document of the same kind.
+writes a document of the same kind, and `deficiency` beside `reduce matching`.
 
     bench/matching.py LEANK [KIND ...]
 
@@ -130,6 +130,10 @@ def main():
                 if checked(leank, formula, ours) != kept:
                     sys.exit(f"{kind}: another kernel")
                 print(f"    {workers} worker(s) {seconds:6.2f} s  ratio {seconds / beside:.2f}")
+                if workers == "1":
+                    one = seconds
+            seconds = least_seconds([leank, "deficiency", formula], ours)
+            print(f"    deficiency  {seconds:6.2f} s  ratio {seconds / beside:.2f}, to one worker {seconds / one:.2f}")
 
 
 if __name__ == "__main__":

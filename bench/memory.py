@@ -24,6 +24,7 @@ FILES = {
     "empty": "p cnf 1 2\n1 0\n0\n",
     "wrong": "p cnf 2 1\n1 x 0\n",
     "values": "v 1 2 3 0\n",
+    "edits": "d 1\nc no edit\na -1 0\na 1 0\na -1 1 0\nd 2\nd 5\n" + "a 1 0\n" * 20,
 }
 # How many allocations are refused in turn before some are left out.
 EACH = 500
@@ -36,6 +37,7 @@ def commands():
         yield f"{name} solve", ["solve", name]
         yield f"{name} report", ["report", name]
         yield f"{name} deficiency", ["deficiency", name]
+        yield f"{name} edits", ["edits", name, "edits"]
         for kind in CLASSES:
             yield f"{name} {kind}", ["reduce", kind, name, "--protect", "1"]
     yield "solve stops", ["solve", "eight", "--conflicts", "1"]
@@ -51,6 +53,7 @@ def commands():
     yield "no answer", ["verify", "square", "values"]
     yield "other answer", ["verify", "model", "{square solve}"]
     yield "no document", ["check", "square", "values"]
+    yield "no edits", ["edits", "square", "values"]
     yield "no words", ["reduce", "square"]
     yield "no file", ["solve", "nothing"]
     yield "demo", ["demo", "7"]
