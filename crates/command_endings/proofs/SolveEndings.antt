@@ -1,9 +1,7 @@
 -- How what is found of a formula is answered.
-use Rattle.std.proofs.Common.{◌≡◌, ◌∙◌, ℕ, ◌^◌, ◌<◌, ◌≤◌, List, [], ◌∷◌, None, length, ℤ, Result, Ok, Err, IfOk, refl, sym, ap, subst, arith, inl, inr}
-use Rattle.std.specs.Prelude.{IsTrue}
+use Rattle.std.proofs.Common.{◌≡◌, ◌∙◌, ℕ, List, [], ◌∷◌, None, length, ℤ, refl, sym, ap, subst, arith}
 use Rattle.lk_model.specs.Formulas.Formula.{Cnf}
 use Rattle.lk_model.specs.Formulas.Assignment.{assignment_of}
-use Rattle.lk_model.specs.Checks.RoundChecks.{learned_steps}
 use Rattle.lk_model.specs.Checks.Checks.{IsSound, HasProgress}
 use Rattle.lk_model.specs.Documents.Text.{text_of}
 use Rattle.lk_model.specs.declared.document.Document.TheVariants.{Unfinished}

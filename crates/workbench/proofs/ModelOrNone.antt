@@ -1,5 +1,5 @@
 -- A formula has a model, or it has none.
-use Rattle.std.proofs.Common.{◌≡◌, ℕ, Bool, true, not, refl, ap, Option, Some, None, ◌⊎◌, inl, inr}
+use Rattle.std.proofs.Common.{◌≡◌, ℕ, true, not, refl, ap, Option, Some, None, ◌⊎◌, inl, inr}
 use Rattle.std.specs.Prelude.{IsTrue, find}
 use Rattle.std.proofs.lemmas.Bool.{cases_Bool, both_ways, not-false}
 use Rattle.lk_model.specs.Formulas.Formula.{Cnf, clause_at, is_formula, positions_of}

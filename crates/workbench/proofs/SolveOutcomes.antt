@@ -1,5 +1,5 @@
 -- What the clauses of a run come to for the command `solve`.
-use Rattle.std.proofs.Common.{◌≡◌, ℕ, List, [], ◌∷◌, Option, Some, None, refl, sym, subst, ◌⊎◌, inl, inr}
+use Rattle.std.proofs.Common.{ℕ, List, [], ◌∷◌, Option, Some, None, refl, sym, subst, inl, inr}
 use Rattle.std.specs.Prelude.{IfSome, IsSomeAnd, IsTrue, nat_eq}
 use Rattle.std.specs.List.{list_any}
 use Rattle.lk_model.specs.Formulas.Formula.{Cnf, is_formula}

@@ -1,5 +1,5 @@
 -- What a text spells is a formula over its variables.
-use Rattle.std.proofs.Common.{◌≡◌, ◌∙◌, ℕ, zero, suc, Bool, true, false, cond, not, ◌&&◌, nat_le, List, [], ◌∷◌, map, filter, refl, sym, ap, subst, arith, ℤ, pos, negsuc, unsigned_abs}
+use Rattle.std.proofs.Common.{◌≡◌, ◌∙◌, ℕ, zero, suc, Bool, true, false, cond, not, ◌&&◌, nat_le, List, [], ◌∷◌, map, filter, refl, sym, ap, subst, arith, ℤ, pos, negsuc}
 use Rattle.std.specs.List.{slice_split, list_all, onto_first}
 use Rattle.std.specs.Ordering.{int_eq}
 use Rattle.std.proofs.lemmas.Bool.{and_from, not_from_false, le-leb}

@@ -7,11 +7,8 @@ use Rattle.lk_model.specs.Texts.Dimacs.{Spells}
 use Rattle.lk_model.specs.Texts.PlainText.{line}
 use Rattle.lk_model.specs.declared.verdict.Why.{Why}
 use Rattle.lean_checker.specs.Verdicts.{verdict_words}
-use Rattle.lean_checker.specs.declared.verdict.Verdict.{Verdict}
-use Rattle.lean_checker.specs.declared.verdict.Verdict.TheVariants as verdict
 use Rattle.answer_check.specs.Answers.{is_answer, IsAnswerText}
 use Rattle.answer_check.specs.AnswerChecks.{first_failure_of_answer}
-use Rattle.answer_check.specs.AnswerLaw.{Shows}
 use Rattle.answer_check.specs.declared.answer.Answer.{Answer}
 use Rattle.answer_check.proofs.AnswerLaws.{answer_law}
 use Rattle.command_words.specs.Lawful.{Request}
@@ -24,7 +21,7 @@ use Rattle.command_endings.specs.declared.status.Status.{Status}
 use Rattle.command_endings.specs.declared.status.Status.TheVariants.{Done, Input, Refused}
 use Rattle.workbench.specs.Endings.{Takes, IsDecided}
 use Rattle.workbench.specs.Outcomes.{IsNoFormulaText}
-use Rattle.workbench.specs.VerifyOutcomes.{AreAnsweredRead, IsVerified, IsShown, IsNoAnswerText, VerifyOutcomes}
+use Rattle.workbench.specs.VerifyOutcomes.{IsShown, IsNoAnswerText, VerifyOutcomes}
 use Rattle.workbench.proofs.Outcomes.{result_of, only, not_spelled}
 
 -- WHAT A STATUS TELLS

@@ -1,5 +1,5 @@
 -- What `verify` and `check` come to on what `solve` wrote.
-use Rattle.std.proofs.Common.{◌≡◌, ◌∙◌, ℕ, List, [], Option, Some, None, length, sym, ap, subst, ◌⊎◌, inl, inr, refl}
+use Rattle.std.proofs.Common.{◌≡◌, ◌∙◌, ℕ, List, Option, None, length, sym, ap, subst, ◌⊎◌, inl, inr, refl}
 use Rattle.std.specs.Prelude.{IfSome, IsSome}
 use Rattle.lk_model.specs.Formulas.Formula.{Cnf}
 use Rattle.lk_model.specs.Texts.Dimacs.{Spells}
@@ -8,7 +8,6 @@ use Rattle.lk_model.specs.Texts.PlainText.{line}
 use Rattle.lk_model.specs.declared.verdict.Why.{Why}
 use Rattle.lk_model.proofs.FaultConverse.{fault_law}
 use Rattle.lean_checker.specs.Verdicts.{verdict_words}
-use Rattle.lean_checker.specs.declared.verdict.Verdict.{Verdict}
 use Rattle.lean_checker.specs.declared.verdict.Verdict.TheVariants as verdict
 use Rattle.answer_check.specs.Answers.{IsAnswerText}
 use Rattle.answer_check.specs.AnswerChecks.{first_failure_of_answer}
