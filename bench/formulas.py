@@ -42,6 +42,16 @@ def pigeons(holes, number=None):
     return holes * number, clauses
 
 
+def colouring(draw, points, edges_each, colours=3):
+    """Points of a drawn graph, with so many edges for each, that shall have colours, and other ones at each edge."""
+    shade = lambda point, colour: colours * point + colour + 1
+    clauses = [[shade(point, colour) for colour in range(colours)] for point in range(points)]
+    for _ in range(int(edges_each * points)):
+        one, other = draw.sample(range(points), 2)
+        clauses += [[-shade(one, colour), -shade(other, colour)] for colour in range(colours)]
+    return colours * points, clauses
+
+
 def parity(draw, variables, more=5):
     """Sums of three variables each, drawn, and so many more sums than variables: with more of them, their parities can
     hardly all hold."""

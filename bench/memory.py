@@ -38,17 +38,21 @@ def commands():
         yield f"{name} report", ["report", name]
         yield f"{name} deficiency", ["deficiency", name]
         yield f"{name} edits", ["edits", name, "edits"]
+        yield f"{name} mus", ["mus", name]
         for kind in CLASSES:
             yield f"{name} {kind}", ["reduce", kind, name, "--protect", "1"]
     yield "solve stops", ["solve", "eight", "--conflicts", "1"]
+    yield "mus stops", ["mus", "eight", "--conflicts", "1"]
     yield "general stops", ["reduce", "general", "eight", "--conflicts", "1"]
     yield "linear stops", ["reduce", "linear", "eight", "--pivots", "1"]
     for name in ("square", "model", "parts", "eight", "empty"):
         yield f"{name} verify", ["verify", name, f"{{{name} solve}}"]
+        yield f"{name} core verify", ["verify", name, f"{{{name} mus}}"]
         for kind in CLASSES:
             yield f"{name} {kind} check", ["check", name, f"{{{name} {kind}}}"]
             yield f"{name} {kind} extend", ["extend", name, f"{{{name} {kind}}}", "values"]
     yield "unfinished check", ["check", "eight", "{general stops}"]
+    yield "core check", ["check", "{mus stops}", "{mus stops}"]
     yield "unfinished extend", ["extend", "eight", "{solve stops}", "values"]
     yield "no answer", ["verify", "square", "values"]
     yield "other answer", ["verify", "model", "{square solve}"]

@@ -25,7 +25,8 @@ use Rattle.answer_check.specs.Answers.{is_answer}
 use Rattle.answer_check.specs.AnswerChecks.{model_fails, first_failure_of_answer}
 use Rattle.answer_check.specs.AnswerLaw.{Shows, AnswerLaw}
 use Rattle.answer_check.specs.declared.answer.Answer.{Answer}
-use Rattle.answer_check.specs.declared.answer.Answer.TheVariants.{Model, Refuted}
+use Rattle.answer_check.specs.declared.answer.Answer.TheVariants.{Model, Refuted, Core}
+use Rattle.answer_check.proofs.CoreAnswers.{core_shown, core_passes, core_minimal, core_kernel, core_written}
 use Rattle.answer_check.proofs.TotalLists.{total_variables}
 
 -- one check by itself
@@ -48,12 +49,14 @@ shown F (Refuted r) form e =
       whole = both.1;
       stated = no_place (bad_step no_variable F (positions_of F) (r ∷ [])).kind (bad_step no_variable F (positions_of F) (r ∷ [])).place e;
     }
+shown F (Core a) form e = core_shown F a form e
 
-passes : (F : Cnf) (a : Answer) → Shows F a → first_failure_of_answer F a ≡ None
+passes : (F : Cnf) (a : Answer) → is_answer F.vars (length F.clauses) a ≡ true → Shows F a → first_failure_of_answer F a ≡ None
 unfolding model_fails
-passes F (Model lits) h =
+passes F (Model lits) form h =
     passes_one (model_fails F lits) (none_found (λ p. not (satisfies (assignment_of lits) (clause_at F p))) (positions_of F) (λ p m. ap not (h p (is_position F p m))))
-passes F (Refuted r) h = passes_one (bad_step no_variable F (positions_of F) (r ∷ [])) h.stated
+passes F (Refuted r) form h = passes_one (bad_step no_variable F (positions_of F) (r ∷ [])) h.stated
+passes F (Core a) form h = core_passes F a form h
 
 no_model : (F : Cnf) (r : Round) → Shows F (Refuted r) → IsUnsatisfiable F (all_of F)
 no_model F r h φ model = refutation_law.no_model F (positions_of F) r h φ (λ p m. model p (is_position F p m))
@@ -64,9 +67,12 @@ used F kept r h kernel = used_law.used F kept r h kernel
 -- all of it
 pub answer_law : AnswerLaw
 answer_law = record {
-  shows = λ F a form. (shown F a form, passes F a);
+  shows = λ F a form. (shown F a form, passes F a form);
   no_model = no_model;
   used = used;
+  minimal = core_minimal;
+  kernel = core_kernel;
   total = λ n m lits. total_variables n lits;
   refutes = λ F part r h. and_from (are_steps F.vars (length F.clauses) r.steps) (is_whole r) h.steps h.whole;
+  written = core_written;
 }

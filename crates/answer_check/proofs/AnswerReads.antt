@@ -1,6 +1,6 @@
 -- A text that is read as an answer.
-use Rattle.std.proofs.Common.{◌≡◌, ◌↔◌, ℕ, ◌+◌, ◌<◌, ◌≤◌, ◌^◌, Bool, List, length, refl, Option, Result, Ok, Err, IfOk}
-use Rattle.std.specs.Prelude.{IsTrue, IfErr}
+use Rattle.std.proofs.Common.{◌≡◌, ◌↔◌, ℕ, ◌+◌, ◌<◌, ◌≤◌, ◌^◌, Bool, List, length, refl, sym, ap, subst, Option, Some, None, Result, Ok, Err, IfOk}
+use Rattle.std.specs.Prelude.{IsTrue, IfErr, option_map}
 use Rattle.lk_model.specs.Limits.{max_vars, max_clauses}
 use Rattle.lk_model.specs.declared.list.OutOfMemory.{OutOfMemory}
 use Rattle.lk_model.specs.declared.verdict.ReadStop.{ReadStop}
@@ -12,12 +12,17 @@ use Rattle.line_text.specs.LineReading.{IsReadBy, IsAdmitted, CanComplete, Takes
 use Rattle.line_text.specs.Taking.{IsTaken}
 use Rattle.line_text.proofs.DraftReads as drafts
 use Rattle.line_text.proofs.DraftReads.{IsDrafting, IsTextBy, is_text, is_read, stops_same}
+use Rattle.lk_model.specs.Texts.Lines.{Word}
+use Rattle.core_text.specs.CoreDrafts as core
+use Rattle.core_text.specs.CoreDrafts.{IsReadyDraft}
+use Rattle.core_text.specs.declared.draft.CoreDraft.{CoreDraft}
+use Rattle.core_text.proofs.DraftForms.{ready_draft}
 use Rattle.answer_check.specs.Answers.{IsAnswerText, IsTextOfAnswer, IsStopAt}
 use Rattle.answer_check.specs.AnswerTextLaw.{AnswerTextLaw}
 use Rattle.answer_check.specs.Drafts.{draft_lines, next_draft, finished, answer_drafts, IsRead}
 use Rattle.answer_check.specs.declared.answer.Answer.{Answer}
 use Rattle.answer_check.specs.declared.draft.Draft.{Draft}
-use Rattle.answer_check.specs.declared.draft.Draft.TheVariants.{Nothing}
+use Rattle.answer_check.specs.declared.draft.Draft.TheVariants.{Nothing, Core}
 use Rattle.answer_check.proofs.AnswerRuns.{clean_answer, answer_runs}
 use Rattle.answer_check.proofs.DraftEnds.{draft_goes_on, draft_ends}
 use Rattle.answer_check.proofs.DraftSteps.{IsDraft, draft_step}
@@ -27,14 +32,31 @@ drafting : (n m : ℕ) → n ≤ max_vars → m ≤ max_clauses → IsDrafting (
 drafting n m small few = record {
   begins = tt;
   nothing = refl;
-  step = λ d e words h f. draft_step n m d e words small h f;
-  goes_on = λ d h short. draft_goes_on n m d few h short;
+  step = λ d e words h f. draft_step n m d e words small few h f;
+  goes_on = λ d h short. draft_goes_on n m d small few h short;
   clean = clean_answer;
   runs = λ a h. answer_runs n m a small h;
-  ends = λ d a h f. draft_ends n m d a h f;
+  ends = λ d a h f. draft_ends n m d a small few h f;
 }
 
 -- ONE LINE
+
+-- a core that was read is ready for one line more
+pub core_ready : (n m : ℕ) (d : Draft) (c : CoreDraft) → IsRead n m d → d ≡ Core c → IsReadyDraft c
+core_ready n m d c h is =
+    let form = drafts.draft_form (answer_drafts n m) (IsDraft n m) (drafting n m h.vars h.clauses) d h.runs in
+    ready_draft n m c h.vars h.clauses (subst (λ (x : Draft). IsDraft n m x) is form).core
+
+pub core_taken : (n m : ℕ) (before final : Draft) (c d : CoreDraft) (words : List Word) (r : Result Bool OutOfMemory) → before ≡ Core c → final ≡ Core d
+    → IfOk r (λ taken. IsTaken (core.next_draft c words) taken d) → IfOk r (λ taken. IsTaken (next_draft n m before words) taken final)
+core_taken n m before final c d words (Err e) was is h = tt
+core_taken n m before final c d words (Ok taken) was is h =
+    subst (λ (x : Draft). IsTaken (next_draft n m before words) taken x) (sym is)
+    (subst (λ (x : Draft). IsTaken (next_draft n m x words) taken (Core d)) (sym was) (by_next (core.next_draft c words) h))
+  where
+    by_next : (o : Option CoreDraft) → IsTaken o taken d → IsTaken (option_map Core o) taken (Core d)
+    by_next None t = t
+    by_next (Some next) t = (t.0, ap Core t.1)
 
 pub if_takes : (n m : ℕ) (d next : Draft) (raw : List ℕ) (r : Result Bool OutOfMemory) → IsRead n m d → length (draft_lines d) + 1 < 2 ^ 63
     → IfOk r (λ taken. IsTaken (next_draft n m d (fields raw)) taken next) → IfOk r (TakesLine (IsCompletedBy (answer_drafts n m) d) (IsCompletedBy (answer_drafts n m) next) raw)

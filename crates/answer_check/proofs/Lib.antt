@@ -1,5 +1,6 @@
 pub mod TotalLists
 pub mod CheckedAnswers
+pub mod CoreAnswers
 pub mod AnswerLaws
 pub mod PrintedAnswers
 pub mod DraftSteps

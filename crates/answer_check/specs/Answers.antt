@@ -1,5 +1,5 @@
 -- Answers to the question whether a formula has a model: their form, their texts, and where a text stops being one. A model
--- is written as solvers write it, and a refutation as a round of a document.
+-- is written as solvers write it, a refutation as a round of a document, and a minimally unsatisfiable core as DIMACS.
 use Rattle.std.specs.Prelude.{◌≡◌, ℕ, Bool, ◌&&◌, ◌==◌, List, [], ◌∷◌, map, length, ℤ, codes, IsTrue}
 use Rattle.std.specs.List.{flat_map}
 use Rattle.lk_model.specs.Formulas.Literal.{variable}
@@ -7,10 +7,11 @@ use Rattle.lk_model.specs.Texts.Lines.{Word}
 use Rattle.lk_model.specs.Texts.PlainText.{line, literal_words}
 use Rattle.lk_model.specs.Documents.Form.{counts_from, are_steps, is_whole}
 use Rattle.lk_model.specs.Documents.Text.{round_lines}
+use Rattle.lk_model.specs.Documents.CoreText.{is_core_in_form, core_lines}
 use Rattle.lk_model.specs.declared.verdict.ReadStop.{ReadStop}
 use Rattle.line_text.specs.LineReading.{IsStopOf}
 use Rattle.answer_check.specs.declared.answer.Answer.{Answer}
-use Rattle.answer_check.specs.declared.answer.Answer.TheVariants.{Model, Refuted}
+use Rattle.answer_check.specs.declared.answer.Answer.TheVariants.{Model, Refuted, Core}
 
 -- FORM, for n variables and m clauses
 
@@ -19,10 +20,12 @@ abbrev pub is_total : ℕ → List ℤ → Bool
 is_total n lits = counts_from 1 (map variable lits) && length lits == n
 
 -- A model has a literal on each variable. The steps of a refutation are numbered from m + 1, and the last clause and no
--- other is empty; so there is none over 0 clauses, where a step can name nothing.
+-- other is empty; so there is none over 0 clauses, where a step can name nothing. A core is one of a formula of n variables
+-- and m clauses.
 abbrev pub is_answer : ℕ → ℕ → Answer → Bool
 is_answer n m (Model lits) = is_total n lits
 is_answer n m (Refuted r) = are_steps n m r.steps && is_whole r
+is_answer n m (Core a) = a.vars == n && a.clauses == m && is_core_in_form a
 
 -- TEXT
 
@@ -35,6 +38,7 @@ value_line lits = codes "v" ∷ literal_words lits
 abbrev pub answer_lines : Answer → List (List Word)
 answer_lines (Model lits) = state_line (codes "SATISFIABLE") ∷ value_line lits ∷ []
 answer_lines (Refuted r) = state_line (codes "UNSATISFIABLE") ∷ round_lines r
+answer_lines (Core a) = core_lines a
 
 -- the lines as bytes, each with its byte 10
 abbrev pub answer_text : Answer → List ℕ

@@ -1,18 +1,19 @@
 -- What was read of an answer for n variables and m clauses, and what one line more leads to.
-use Rattle.std.specs.Prelude.{◌≡◌, ◌≤◌, ℕ, Bool, true, false, ◌&&◌, ◌==◌, if◌then◌else◌, List, [], ◌∷◌, length, ℤ, codes, Option, Some, None, option_map, option_and_then}
+use Rattle.std.specs.Prelude.{◌≡◌, ◌≤◌, ℕ, true, false, ◌==◌, if◌then◌else◌, List, [], ◌∷◌, length, ℤ, codes, Option, Some, None, option_map, option_and_then}
 use Rattle.std.specs.Str.{bytes_eq}
 use Rattle.lk_model.specs.Limits.{max_vars, max_clauses}
 use Rattle.lk_model.specs.Texts.Lines.{Word}
-use Rattle.lk_model.specs.declared.document.Round.{Round}
 use Rattle.line_text.specs.FieldLists.{literals_from}
 use Rattle.line_text.specs.DraftReading.{DraftReader, run}
 use Rattle.round_text.specs.RoundLines.{fresh_rounds, is_round, rounds_next, rounds_lines}
 use Rattle.round_text.specs.declared.read_rounds.RoundsPart.{RoundsPart}
+use Rattle.core_text.specs.CoreDrafts as core
+use Rattle.core_text.specs.CoreDrafts.{are_two, fresh_core, last_round}
 use Rattle.answer_check.specs.Answers.{is_answer, state_line, value_line, answer_lines}
 use Rattle.answer_check.specs.declared.answer.Answer.{Answer}
 use Rattle.answer_check.specs.declared.answer.Answer.TheVariants as answer
 use Rattle.answer_check.specs.declared.draft.Draft.{Draft}
-use Rattle.answer_check.specs.declared.draft.Draft.TheVariants.{Nothing, Satisfiable, Model, Unsatisfiable, Refuting}
+use Rattle.answer_check.specs.declared.draft.Draft.TheVariants.{Nothing, Satisfiable, Model, Unsatisfiable, Refuting, Core}
 
 -- the lines that were read
 abbrev pub draft_lines : Draft → List (List Word)
@@ -21,20 +22,20 @@ draft_lines Satisfiable = state_line (codes "SATISFIABLE") ∷ []
 draft_lines (Model lits) = state_line (codes "SATISFIABLE") ∷ value_line lits ∷ []
 draft_lines Unsatisfiable = state_line (codes "UNSATISFIABLE") ∷ []
 draft_lines (Refuting part) = state_line (codes "UNSATISFIABLE") ∷ rounds_lines part
+draft_lines (Core d) = core.draft_lines d
 
 -- THE NEXT LINE
 
--- the words are these two
-abbrev pub are_two : Word → Word → List Word → Bool
-are_two first second (a ∷ b ∷ []) = bytes_eq a first && bytes_eq b second
-are_two first second _ = false
+-- the first line of a core
+abbrev pub next_core : ℕ → ℕ → List Word → Option Draft
+next_core n m words = option_map Core (core.next_draft (fresh_core n m) words)
 
--- over no clauses there is no refutation
-abbrev pub next_state : ℕ → List Word → Option Draft
-next_state m words = if are_two (codes "s") (codes "SATISFIABLE") words then Some Satisfiable
+-- over no clauses there is no refutation, and no core
+abbrev pub next_state : ℕ → ℕ → List Word → Option Draft
+next_state n m words = if are_two (codes "s") (codes "SATISFIABLE") words then Some Satisfiable
     else if m == 0 then None
     else if are_two (codes "s") (codes "UNSATISFIABLE") words then Some Unsatisfiable
-    else None
+    else next_core n m words
 
 -- the literals as a model, if there are so many
 abbrev pub if_total : ℕ → List ℤ → Option Draft
@@ -54,19 +55,14 @@ next_round words = if is_round words then Some (Refuting open_round) else None
 
 -- what a line of these words leads to, if one may come
 abbrev pub next_draft : ℕ → ℕ → Draft → List Word → Option Draft
-next_draft n m Nothing words = next_state m words
+next_draft n m Nothing words = next_state n m words
 next_draft n m Satisfiable words = next_model n words
 next_draft n m (Model lits) words = None
 next_draft n m Unsatisfiable words = next_round words
 next_draft n m (Refuting part) words = option_map Refuting (rounds_next false n m part words)
+next_draft n m (Core d) words = option_map Core (core.next_draft d words)
 
 -- THE END
-
--- the last of the rounds
-abbrev pub last_round : List Round → Option Round
-last_round [] = None
-last_round (r ∷ []) = Some r
-last_round (r ∷ s ∷ rounds) = last_round (s ∷ rounds)
 
 -- the refutation whose round has ended, if one has
 abbrev pub refuted_by : RoundsPart → Option Answer
@@ -76,6 +72,7 @@ refuted_by part = option_map answer.Refuted (last_round part.rounds)
 abbrev pub finished : Draft → Option Answer
 finished (Model lits) = Some (answer.Model lits)
 finished (Refuting part) = refuted_by part
+finished (Core d) = option_map answer.Core (core.finished d)
 finished Nothing = None
 finished Satisfiable = None
 finished Unsatisfiable = None

@@ -1,5 +1,5 @@
 //! Answers.
-use lk_model::{List, Lit, Round};
+use lk_model::{List, Lit, MusAnswer, Round};
 
 /// Whether a formula has a model, with what shows it.
 #[derive(Drop)]
@@ -9,4 +9,6 @@ pub enum Answer {
     /// It has none: a refutation, which ends with its empty step. Its steps are numbered from the formula's
     /// number of clauses plus 1.
     Refuted(Round),
+    /// It has none, and these of its clauses have none, though they have one without any single one of them.
+    Core(MusAnswer),
 }

@@ -10,13 +10,14 @@ ghost use Rattle.answer_check.specs.declared.answer.Answer.TheVariants.{Model, R
 
 use crate::answer::Answer;
 use check_rounds::misstated_step;
+use core_check::core_failure;
 use lk_model::{Formula, Kind, Lit, OutOfMemory, Round, Why};
 use partial_assign::{Partial, assignment_of};
 use std::alloc::Global;
 
 /// The first failing check of an answer, which is in form for the formula's numbers of variables and clauses: the
-/// least position whose clause a model does not satisfy, or the first step of a refutation that does not state
-/// the clause of its chain. The error is want of memory.
+/// least position whose clause a model does not satisfy, the first step of a refutation that does not state the
+/// clause of its chain, or the first check of a core that fails. The error is want of memory.
 pub fn check_answer(alloc: Global, f: &Formula, answer: &Answer) -> Result<Option<Why>, OutOfMemory>
     requires { IsTrue (is_answer f.now.vars (length f.now.clauses) answer.now) }
     ensures { IfOk result (λ why. why ≡ first_failure_of_answer f.now answer.now) }
@@ -24,6 +25,7 @@ pub fn check_answer(alloc: Global, f: &Formula, answer: &Answer) -> Result<Optio
     match answer {
         Answer::Model(lits) => model_failure(alloc, f, lits.as_slice()),
         Answer::Refuted(round) => round_failure(alloc, f, round),
+        Answer::Core(core) => core_failure(alloc, f, core),
     }
 }
 

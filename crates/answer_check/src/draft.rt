@@ -1,13 +1,14 @@
 //! What was read of an answer, and one line more.
 //!
-//! The lines of a round are read as those of documents are.
+//! The lines of a round are read as those of documents are, and those of a core as `core_text` reads them.
 ghost use Rattle.std.specs.Prelude.{◌≡◌, ◌≤◌, IfOk};
-ghost use Rattle.lk_model.specs.Limits.{max_vars};
+ghost use Rattle.lk_model.specs.Limits.{max_vars, max_clauses};
 ghost use Rattle.line_text.specs.Fields.{fields};
 ghost use Rattle.line_text.specs.Taking.{IsTaken};
-ghost use Rattle.answer_check.specs.Drafts.{next_state, next_model, next_round, next_draft, refuted_by, finished};
+ghost use Rattle.answer_check.specs.Drafts.{next_state, next_core, next_model, next_round, next_draft, refuted_by, finished, IsRead};
 
 use crate::answer::Answer;
+use core_text::{CoreDraft, core_of, fresh_core, last_round, take_core};
 use line_text::{first_field, literals_in};
 use lk_model::{List, Lit, OutOfMemory};
 use round_text::{RoundsPart, fresh_rounds, take_rounds};
@@ -26,6 +27,8 @@ pub(crate) enum Draft {
     Unsatisfiable,
     /// That line, the line of a round, and some of its steps or all.
     Refuting(RoundsPart),
+    /// The first line of a core, and some of the others or all.
+    Core(CoreDraft),
 }
 
 /// Takes the next line of an answer for n variables and m clauses. The answer is whether the line was taken; the
@@ -37,11 +40,14 @@ pub(crate) fn take_line(
     n: u32,
     m: u32,
 ) -> Result<bool, OutOfMemory>
-    requires { n ≤ max_vars }
+    requires { IsRead n m draft.old }
     ensures { IfOk result (λ taken. IsTaken (next_draft n m draft.old (fields line.now)) taken draft.new) }
 {
     match draft {
-        Draft::Nothing => Ok(lead_on(draft, state_in(line, m))),
+        Draft::Nothing => {
+            let state = state_in(alloc, line, n, m)?;
+            Ok(lead_on(draft, state))
+        }
         Draft::Satisfiable => {
             let model = model_in(alloc, line, n)?;
             Ok(lead_on(draft, model))
@@ -49,6 +55,7 @@ pub(crate) fn take_line(
         Draft::Model(_) => Ok(false),
         Draft::Unsatisfiable => Ok(lead_on(draft, round_in(alloc, line))),
         Draft::Refuting(part) => take_rounds(alloc, part, line, n, m, false),
+        Draft::Core(core) => take_core(alloc, core, line),
     }
 }
 
@@ -65,20 +72,36 @@ fn lead_on(draft: &mut Draft, next: Option<Draft>) -> bool
     }
 }
 
-/// What a first line leads to. Over no clauses there is no refutation.
-fn state_in(line: &[u8], m: u32) -> Option<Draft>
-    ensures { result ≡ next_state m (fields line.now) }
+/// What a first line leads to. Over no clauses there is no refutation, and no core.
+fn state_in(alloc: Global, line: &[u8], n: u32, m: u32) -> Result<Option<Draft>, OutOfMemory>
+    requires vars { n ≤ max_vars }
+    requires clauses { m ≤ max_clauses }
+    ensures { IfOk result (λ state. state ≡ next_state n m (fields line.now)) }
 {
     if line == b"s SATISFIABLE".as_slice() {
-        return Some(Draft::Satisfiable);
+        return Ok(Some(Draft::Satisfiable));
     }
     if m == 0 {
-        return None;
+        return Ok(None);
     }
     if line == b"s UNSATISFIABLE".as_slice() {
-        return Some(Draft::Unsatisfiable);
+        return Ok(Some(Draft::Unsatisfiable));
     }
-    None
+    core_in(alloc, line, n, m)
+}
+
+/// The core that a line begins.
+fn core_in(alloc: Global, line: &[u8], n: u32, m: u32) -> Result<Option<Draft>, OutOfMemory>
+    requires vars { n ≤ max_vars }
+    requires clauses { m ≤ max_clauses }
+    ensures { IfOk result (λ core. core ≡ next_core n m (fields line.now)) }
+{
+    let mut core = fresh_core(alloc, n, m)?;
+    if take_core(alloc, &mut core, line)? {
+        Ok(Some(Draft::Core(core)))
+    } else {
+        Ok(None)
+    }
 }
 
 /// The model of a line of values: a literal on each variable from 1 to n, ascending.
@@ -120,6 +143,7 @@ pub(crate) fn finish(draft: Draft) -> Option<Answer>
     match draft {
         Draft::Model(lits) => Some(Answer::Model(lits)),
         Draft::Refuting(part) => refuted(part),
+        Draft::Core(core) => Some(Answer::Core(core_of(core)?)),
         _ => None,
     }
 }
@@ -128,8 +152,7 @@ pub(crate) fn finish(draft: Draft) -> Option<Answer>
 fn refuted(part: RoundsPart) -> Option<Answer>
     ensures { result ≡ refuted_by part }
 {
-    let mut rounds = part.rounds;
-    match rounds.pop() {
+    match last_round(part.rounds) {
         Some(round) => Some(Answer::Refuted(round)),
         None => None,
     }

@@ -6,6 +6,7 @@ ghost use Rattle.answer_check.specs.Answers.{answer_lines, answer_text};
 ghost use Rattle.answer_check.specs.declared.answer.Answer.TheVariants.{Model, Refuted};
 
 use crate::answer::Answer;
+use core_text::put_core;
 use line_text::{put, put_clause_line};
 use lk_model::{Lit, OutOfMemory, Round};
 use round_text::put_round;
@@ -19,6 +20,7 @@ pub fn print_answer(alloc: Global, answer: &Answer) -> Result<Vec<u8>, OutOfMemo
     match answer {
         Answer::Model(lits) => put_model(&mut out, lits.as_slice())?,
         Answer::Refuted(round) => put_refutation(&mut out, round)?,
+        Answer::Core(core) => put_core(&mut out, core)?,
     }
     Ok(out)
 }

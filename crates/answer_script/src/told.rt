@@ -28,6 +28,8 @@ fn kind_word(kind: Kind) -> &'static str {
     match kind {
         Kind::ModelFails => "model-fails",
         Kind::BadStep => "bad-step",
+        Kind::KeptClause => "kept-clause",
+        Kind::BadWithout => "bad-without",
         _ => "another-kind",
     }
 }

@@ -5,6 +5,8 @@ use Rattle.cdcl_core.specs.declared.decided.End.{End}
 use Rattle.cdcl_core.specs.declared.search.Search.{Search}
 use Rattle.cdcl_core.specs.declared.turns.Outcome.{Outcome}
 use Rattle.cdcl_core.specs.declared.turns.Outcome.TheVariants.{Leading, Other}
+use Rattle.cdcl_core.specs.declared.turns.Answer.{Answer}
+use Rattle.cdcl_core.specs.declared.turns.Answer.TheVariants.{Leading as ByLeading, Other as ByOther}
 use Rattle.cdcl_core.specs.Decision.{IsDecided, IsStoppedOver}
 use Rattle.cdcl_core.specs.Searching.{IsSearch, decided_by}
 
@@ -28,3 +30,8 @@ WentOn over next budget left s None = IsPaused over next budget s
 abbrev pub IsWonBy : Crossed → ℕ → ℕ → Search → Search → Outcome → Type 0
 IsWonBy over next left leading other (Leading end) = IsDecided over next left (decided_by leading.log end)
 IsWonBy over next left leading other (Other end) = IsDecided over next left (decided_by other.log end)
+
+-- it is what the search that began decides, or what the other one decided
+abbrev pub IsAnswerOf : Crossed → ℕ → ℕ → Search → Answer → Type 0
+IsAnswerOf over next left leading (ByLeading end) = IsDecided over next left (decided_by leading.log end)
+IsAnswerOf over next left leading (ByOther decided) = IsDecided over next left decided

@@ -114,7 +114,7 @@ pub(crate) fn run(
                     search.refute(alloc, over, conflict)?;
                     return Ok(End::Empty);
                 }
-                if search.log.steps().len() as u64 == left {
+                if search.log.len() as u64 == left {
                     signs.note_all(&search.propagator);
                     return Ok(End::Full);
                 }

@@ -8,14 +8,13 @@ ghost use Rattle.std.specs.Prelude.{◌≡◌, ◌+◌, ◌-◌, ◌<◌, ◌≤
 ghost use Rattle.lk_model.specs.Held.VariableSets.{IsCrossed};
 ghost use Rattle.variable_orders.specs.VariableOrders.{IsOrderOver};
 ghost use Rattle.cdcl_core.specs.Decision.{IsDecided};
-ghost use Rattle.cdcl_core.specs.Searching.{IsSearch};
-ghost use Rattle.cdcl_core.specs.Players.{IsPaused, IsWithin, IsWonBy, WentOn};
+ghost use Rattle.cdcl_core.specs.Searching.{IsSearch, decided_by};
+ghost use Rattle.cdcl_core.specs.Players.{IsAnswerOf, IsPaused, IsWithin, IsWonBy, WentOn};
 
 use crate::decided::{Decided, End, decided_by, run};
 use crate::search::Search;
 use crate::signs::Signs;
 use lk_model::{Crossed, OutOfMemory};
-use refutation_log::Log;
 use std::alloc::Global;
 use variable_orders::{ascending, by_connection};
 
@@ -63,8 +62,8 @@ impl By {
     }
 }
 
-/// How two orders take turns.
-#[derive(Clone, Copy)]
+/// How two orders take turns, and the values that are kept from call to call.
+#[derive(Drop)]
 pub struct Turns {
     /// The order that begins.
     pub by: By,
@@ -72,22 +71,54 @@ pub struct Turns {
     pub first: u64,
     /// How many more are learned in each further turn; at least one is.
     pub further: u64,
+    /// If values are kept, those that variables last had, by variable, with nothing at 0.
+    kept: Option<Vec<bool>>,
 }
 
 impl Turns {
-    /// The usual turns: that of the numbers begins.
+    /// The usual turns: that of the numbers begins, and no values are kept.
     pub fn new() -> Turns {
         Turns {
             by: By::Number,
             first: FIRST_TURN,
             further: FURTHER_TURNS,
+            kept: None,
+        }
+    }
+
+    /// Turns of these lengths that keep values of variables up to n. Both orders decide with the last values, and each
+    /// begins with those that are kept: true at first, and then those of the search that answered the call before.
+    pub fn keeping(alloc: Global, n: u32, first: u64, further: u64) -> Result<Turns, OutOfMemory> {
+        Ok(Turns {
+            by: By::Number,
+            first,
+            further,
+            kept: Some(vec![in alloc; true; n as usize + 1]?),
+        })
+    }
+
+    /// The values with which an order begins: a copy of what is kept, so that neither order knows of the other, or where
+    /// nothing is, those of variables up to n that have had none.
+    fn signs(&self, alloc: Global, by: By, n: u32) -> Result<Signs, OutOfMemory> {
+        match &self.kept {
+            Some(values) => Ok(Signs::Last(Vec::from_slice(alloc, values.as_slice())?)),
+            None => by.signs(alloc, n),
+        }
+    }
+
+    /// Keeps the values of the search that answered, if values are kept.
+    fn keep(&mut self, signs: Signs) {
+        if let Signs::Last(values) = signs {
+            if self.kept.is_some() {
+                self.kept = Some(values);
+            }
         }
     }
 }
 
 /// As `decide`, by two orders that take turns: each learns at most `left` clauses, and if both do, the answer is that of
 /// the order that began. If `left` is at most the first turn, only that one is tried. The order that answered begins in a
-/// further call with these turns.
+/// further call with these turns, with its values if they are kept. Where a call fails, the turns are as they were.
 pub fn decide_by_turns(
     alloc: Global,
     over: &Crossed,
@@ -100,30 +131,67 @@ pub fn decide_by_turns(
     requires room { next + left < 2 ^ 64 - 1 }
     ensures { IfOk result (IsDecided over.now next left) }
 {
-    let mut leading = Player::new(alloc, over, turns.by, next)?;
-    let first = turns.first.min(left);
-    if let Some(end) = leading.go_on(alloc, over, first, left)? {
-        return Ok(decided_by(leading.into_log(), end));
-    }
-    if first == left {
-        return Ok(Decided::Stopped(leading.into_log()));
-    }
-    let mut other = Player::new(alloc, over, turns.by.other(), next)?;
-    match alternate(
-        &mut leading,
-        &mut other,
-        alloc,
-        over,
-        turns.further,
-        first,
-        left,
-    )? {
-        Outcome::Leading(end) => Ok(decided_by(leading.into_log(), end)),
-        Outcome::Other(end) => {
-            turns.by = turns.by.other();
-            Ok(decided_by(other.into_log(), end))
+    let mut leading = Player::new(alloc, over, turns, turns.by, next)?;
+    match by_turns(&mut leading, alloc, over, turns, next, left) {
+        Ok(Answer::Leading(end)) => Ok(leading.answer(turns, end)),
+        Ok(Answer::Other(decided)) => {
+            drop(leading);
+            Ok(decided)
+        }
+        Err(error) => {
+            drop(leading);
+            Err(error)
         }
     }
+}
+
+/// Goes on by turns, from where nothing is learned. The other search is begun only if the first turn is not enough.
+fn by_turns(
+    leading: &mut Player,
+    alloc: Global,
+    over: &Crossed,
+    turns: &mut Turns,
+    next: u64,
+    left: u64,
+) -> Result<Answer, OutOfMemory>
+    requires crossed { IsCrossed over.now }
+    requires leading { IsWithin over.now next 0 leading.old.search }
+    requires past { length over.now.formula.now.clauses < next }
+    requires room { next + left < 2 ^ 64 - 1 }
+    ensures { IfOk result (IsAnswerOf over.now next left leading.new.search) }
+{
+    let first = turns.first.min(left);
+    if let Some(end) = leading.go_on(alloc, over, first, left)? {
+        return Ok(Answer::Leading(end));
+    }
+    if first == left {
+        return Ok(Answer::Leading(End::Full));
+    }
+    let by = turns.by.other();
+    let mut other = Player::new(alloc, over, turns, by, next)?;
+    match alternate(leading, &mut other, alloc, over, turns.further, first, left) {
+        Ok(Outcome::Leading(end)) => {
+            drop(other);
+            Ok(Answer::Leading(end))
+        }
+        Ok(Outcome::Other(end)) => {
+            turns.by = by;
+            Ok(Answer::Other(other.answer(turns, end)))
+        }
+        Err(error) => {
+            drop(other);
+            Err(error)
+        }
+    }
+}
+
+/// What two orders answer.
+#[derive(Drop)]
+pub(crate) enum Answer {
+    /// With this end of the search that began.
+    Leading(End),
+    /// What the other one decided.
+    Other(Decided),
 }
 
 /// Goes on by turns, from where one of the searches paused at a budget that the other one has not used up.
@@ -176,12 +244,18 @@ pub(crate) struct Player {
 
 impl Player {
     /// Where nothing is set and nothing is learned.
-    fn new(alloc: Global, over: &Crossed, by: By, next: u64) -> Result<Player, OutOfMemory>
+    fn new(
+        alloc: Global,
+        over: &Crossed,
+        turns: &Turns,
+        by: By,
+        next: u64,
+    ) -> Result<Player, OutOfMemory>
         requires crossed { IsCrossed over.now }
         requires past { length over.now.formula.now.clauses < next }
         ensures { IfOk result (λ p. IsWithin over.now next 0 p.search) }
     {
-        let signs = by.signs(alloc, over.formula.vars())?;
+        let signs = turns.signs(alloc, by, over.formula.vars())?;
         let order = by.variables(alloc, over)?;
         Ok(Player {
             search: Search::new(alloc, over, order, next)?,
@@ -211,10 +285,11 @@ impl Player {
         }
     }
 
-    /// The steps that learned clauses.
-    fn into_log(self) -> Log
-        ensures { result ≡ self.search.log }
+    /// What this search decides, which ends so. Its values are kept, if values are.
+    fn answer(self, turns: &mut Turns, end: End) -> Decided
+        ensures { result ≡ decided_by self.search.log end }
     {
-        self.search.into_log()
+        turns.keep(self.signs);
+        decided_by(self.search.into_log(), end)
     }
 }

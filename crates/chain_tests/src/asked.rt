@@ -1,22 +1,12 @@
 //! What the calls on logs ask, as tests.
-ghost use Rattle.std.specs.Prelude.{◌≡◌, ◌||◌, nat_lt, nat_le, map, IsTrue, IsSome};
+ghost use Rattle.std.specs.Prelude.{◌≡◌, ◌||◌, nat_lt, nat_le, map, IsTrue};
 ghost use Rattle.std.specs.List.{list_all};
 ghost use Rattle.lk_model.specs.declared.document.Turn.{Turn as ATurn};
 ghost use Rattle.lk_model.specs.Chains.Rounds.{is_refutation};
-ghost use Rattle.refutation_log.specs.Derivation.{are_numbered, clause_of_step};
+ghost use Rattle.refutation_log.specs.Derivation.{are_numbered};
 ghost use Rattle.refutation_log.specs.Trimmed.{names_positions_below};
 
 use lk_model::{Step, Turn};
-
-/// Whether there is a step of a number.
-pub(crate) fn has_step(steps: &[Step], k: u64) -> bool
-    ensures { IsTrue result → IsSome (clause_of_step steps.now k) }
-{
-    match steps.split_first() {
-        Some((step, later)) => step.number == k || has_step(later, k),
-        None => false,
-    }
-}
 
 /// Whether the last clause is empty.
 pub(crate) fn is_refutation(steps: &[Step]) -> bool

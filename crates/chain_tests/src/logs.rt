@@ -3,7 +3,7 @@ ghost use Rattle.std.specs.Prelude.{IfOk, IsSome, IsTrue};
 ghost use Rattle.lk_model.specs.Held.VariableSets.{IsCrossed, premises_of};
 ghost use Rattle.lk_model.specs.Chains.Chain.{chain_clause};
 
-use crate::asked::{are_numbered, has_step, is_refutation, names_below};
+use crate::asked::{are_numbered, is_refutation, names_below};
 use crate::chains::{are_chains, chain_clause};
 use lk_model::{Crossed, Lit, OutOfMemory, Round, Step, Turn};
 use lk_samples::{formula_of, has_part, set_of, spells};
@@ -143,6 +143,116 @@ const CASES: &[Case] = &[
         trimmed: None,
     },
     Case {
+        name: "a number of 32 bits",
+        vars: 2,
+        clauses: SQUARE,
+        blocked: &[],
+        part: &[1, 2, 3, 4],
+        first: 4_294_967_295,
+        chains: &[(1, &[(2, 2)]), (3, &[(2, 4), (-1, 4_294_967_295)])],
+        stated: &[&[1], &[]],
+        used: &[1, 2, 3, 4],
+        trimmed: Some(Trimmed {
+            next: 4_294_967_295,
+            kept: &[(1, &[(2, 2)]), (3, &[(2, 4), (-1, 4_294_967_295)])],
+        }),
+    },
+    Case {
+        name: "a number of 33 bits",
+        vars: 2,
+        clauses: SQUARE,
+        blocked: &[],
+        part: &[1, 2, 3, 4],
+        first: 4_294_967_296,
+        chains: &[(1, &[(2, 2)]), (3, &[(2, 4), (-1, 4_294_967_296)])],
+        stated: &[&[1], &[]],
+        used: &[1, 2, 3, 4],
+        trimmed: Some(Trimmed {
+            next: 4_294_967_295,
+            kept: &[(1, &[(2, 2)]), (3, &[(2, 4), (-1, 4_294_967_295)])],
+        }),
+    },
+    Case {
+        name: "a number whose last 32 bits are those of a position",
+        vars: 2,
+        clauses: SQUARE,
+        blocked: &[],
+        part: &[1, 2, 3, 4],
+        first: 4_294_967_297,
+        chains: &[(1, &[(2, 2)]), (3, &[(2, 4), (-1, 4_294_967_297)])],
+        stated: &[&[1], &[]],
+        used: &[1, 2, 3, 4],
+        trimmed: Some(Trimmed {
+            next: 5,
+            kept: &[(1, &[(2, 2)]), (3, &[(2, 4), (-1, 5)])],
+        }),
+    },
+    Case {
+        name: "a chain with numbers on both sides of 2^32",
+        vars: 2,
+        clauses: SQUARE,
+        blocked: &[],
+        part: &[1, 2, 3, 4],
+        first: 4_294_967_294,
+        chains: &[
+            (1, &[(1, 3)]),
+            (2, &[(1, 4)]),
+            (3, &[(2, 4)]),
+            (1, &[(2, 4_294_967_295), (1, 4_294_967_296)]),
+        ],
+        stated: &[&[2], &[-2], &[-1], &[]],
+        used: &[1, 2, 3, 4],
+        trimmed: Some(Trimmed {
+            next: 4_294_967_294,
+            kept: &[
+                (2, &[(1, 4)]),
+                (3, &[(2, 4)]),
+                (1, &[(2, 4_294_967_294), (1, 4_294_967_295)]),
+            ],
+        }),
+    },
+    Case {
+        name: "a chain that begins with a step above 2^32",
+        vars: 2,
+        clauses: SQUARE,
+        blocked: &[],
+        part: &[1, 2, 3, 4],
+        first: 4_294_967_300,
+        chains: &[
+            (1, &[(2, 2)]),
+            (3, &[(2, 4)]),
+            (4_294_967_300, &[(1, 4_294_967_301)]),
+        ],
+        stated: &[&[1], &[-1], &[]],
+        used: &[1, 2, 3, 4],
+        trimmed: Some(Trimmed {
+            next: 4_294_967_296,
+            kept: &[
+                (1, &[(2, 2)]),
+                (3, &[(2, 4)]),
+                (4_294_967_296, &[(1, 4_294_967_297)]),
+            ],
+        }),
+    },
+    Case {
+        name: "the greatest numbers",
+        vars: 2,
+        clauses: SQUARE,
+        blocked: &[],
+        part: &[1, 2, 3, 4],
+        first: 18_446_744_073_709_551_613,
+        chains: &[
+            (1, &[(2, 2)]),
+            (3, &[(2, 4), (-1, 18_446_744_073_709_551_613)]),
+        ],
+        stated: &[&[1], &[]],
+        used: &[1, 2, 3, 4],
+        trimmed: Some(Trimmed {
+            next: 6,
+            kept: &[(1, &[(2, 2)]), (3, &[(2, 4), (-1, 6)])],
+        }),
+    },
+    Case {
         name: "a clause of 69 literals",
         vars: 70,
         clauses: &[
@@ -196,43 +306,35 @@ fn has_clause(
     Ok(clause.is_some())
 }
 
-/// Pushes a chain, if it has a clause and there is a number for its step: whether the step has that number.
-fn push(
-    alloc: Global,
-    over: &Crossed,
-    log: &mut Log,
-    first: u64,
-    turns: &[Turn],
-) -> Result<bool, OutOfMemory>
+/// Pushes a chain, which must have a clause, on a log that has a number for its step. The steps leave the log before and
+/// are logged again.
+fn push(alloc: Global, over: &Crossed, log: Log, first: u64, turns: &[Turn]) -> Result<Log, Fail>
     requires { IsCrossed over.now }
 {
-    let next = log.first().saturating_add(log.steps().len() as u64);
-    if next == u64::MAX || u64::from(over.formula.len()) >= log.first() {
-        return Ok(false);
+    let from = log.first();
+    let next = from.saturating_add(log.len() as u64);
+    if next == u64::MAX || u64::from(over.formula.len()) >= from {
+        return Err(Fail::from("no number"));
     }
-    if !has_clause(alloc, over, log.steps(), first, turns)? {
-        return Ok(false);
+    let round = log.into_round()?;
+    if !has_clause(alloc, over, round.steps.as_slice(), first, turns)? {
+        return Err(Fail::from("no chain"));
     }
-    let number = log.push_chain(over, first, turns)?;
-    Ok(is_last(log.steps(), number))
+    let mut log = Log::from_round(alloc, from, round)?;
+    if log.push_chain(over, first, turns)? != next {
+        return Err(Fail::from("another number"));
+    }
+    Ok(log)
 }
 
-/// Whether the number is that of the last step.
-fn is_last(steps: &[Step], number: u64) -> bool {
-    match steps.last() {
-        Some(step) => step.number == number,
-        None => false,
-    }
-}
-
-/// Pushes the chain of a first number and pairs: whether its step has a number.
+/// Pushes the chain of a first number and pairs.
 fn push_pairs(
     alloc: Global,
     over: &Crossed,
-    log: &mut Log,
+    log: Log,
     first: u64,
     pairs: &[(i32, u64)],
-) -> Result<bool, OutOfMemory>
+) -> Result<Log, Fail>
     requires { IsCrossed over.now }
 {
     let turns = turns_of(alloc, pairs)?;
@@ -245,21 +347,20 @@ fn log_of(alloc: Global, over: &Crossed, first: u64, chains: &[Chain]) -> Result
 {
     let mut log = Log::new(alloc, first);
     for (first, pairs) in chains {
-        if !push_pairs(alloc, over, &mut log, *first, pairs)? {
-            return Err(Fail::from("no chain"));
-        }
+        log = push_pairs(alloc, over, log, *first, pairs)?;
     }
     Ok(log)
 }
 
 /// Trims a refutation.
-fn trim(log: Log, next: u64) -> Result<Option<Round>, OutOfMemory> {
-    let asked = is_refutation(log.steps())
-        && next <= log.first()
-        && names_below(next, log.first(), log.steps());
-    if !asked {
+fn trim(alloc: Global, log: Log, next: u64) -> Result<Option<Round>, OutOfMemory> {
+    let first = log.first();
+    let round = log.into_round()?;
+    let steps = round.steps.as_slice();
+    if !is_refutation(steps) || next > first || !names_below(next, first, steps) {
         return Ok(None);
     }
+    let log = Log::from_round(alloc, first, round)?;
     Ok(Some(log.trim(next)?))
 }
 
@@ -325,25 +426,27 @@ fn state(steps: &[Step], stated: &[&[i32]]) -> bool {
 
 /// Whether this clause is found by the number of a step.
 fn finds_one(log: &Log, number: u64, numbers: &[i32]) -> bool {
-    has_step(log.steps(), number) && spells(log.clause(number), numbers)
+    log.has(number) && spells(log.clause(number), numbers)
 }
 
 /// Whether the last of these clauses is found as the last one.
 fn finds_last(log: &Log, stated: &[&[i32]]) -> bool {
     match stated.last() {
-        Some(numbers) => !log.steps().is_empty() && spells(log.last_clause(), numbers),
-        None => log.steps().is_empty(),
+        Some(numbers) => log.len() > 0 && spells(log.last_clause(), numbers),
+        None => log.len() == 0,
     }
 }
 
 /// Whether these clauses are found by the numbers of the steps, and the last of them as the last.
 fn finds(log: &Log, stated: &[&[i32]]) -> bool {
-    for (step, numbers) in log.steps().iter().zip(stated) {
-        if !finds_one(log, step.number, numbers) {
+    let mut number = log.first();
+    for numbers in stated {
+        if !finds_one(log, number, numbers) {
             return false;
         }
+        number = number.saturating_add(1);
     }
-    finds_last(log, stated)
+    !log.has(number) && finds_last(log, stated)
 }
 
 /// Whether the round has the chains of the case, and their clauses.
@@ -372,7 +475,8 @@ fn is_logged(alloc: Global, over: &Crossed, case: &Case) -> Result<bool, Fail>
     if !log_uses(over, &log, case.used)? {
         return Ok(false);
     }
-    Ok(is_round(&log.into_round(), case))
+    let round = log.into_round()?;
+    Ok(is_round(&round, case))
 }
 
 /// Whether a trimmed log is as the case has it, and uses the same positions.
@@ -401,7 +505,7 @@ fn is_trimmed(
 ) -> Result<bool, OutOfMemory>
     requires { IsCrossed over.now }
 {
-    match trim(log, wanted.next)? {
+    match trim(alloc, log, wanted.next)? {
         Some(round) => is_wanted(alloc, over, &round, wanted, used),
         None => Ok(false),
     }

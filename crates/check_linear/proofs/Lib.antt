@@ -5,3 +5,4 @@ pub mod StageBalances
 pub mod UnitPlaces
 pub mod UnitChecks
 pub mod Clearing
+pub mod SummedOnce

@@ -142,14 +142,14 @@ reached F occurring table (s ∷ shares) form e = elim (or_true (is_unbalanced_c
   | inr later ↦ reached F occurring table shares form later
 ]
 
-in_clause : (occurring : List Bool) (table : List (List ℤ)) (c : List ℤ) (w : ℕ) → mentions c w ≡ true → is_unbalanced occurring table w ≡ true → is_unbalanced_clause occurring table c ≡ true
+pub in_clause : (occurring : List Bool) (table : List (List ℤ)) (c : List ℤ) (w : ℕ) → mentions c w ≡ true → is_unbalanced occurring table w ≡ true → is_unbalanced_clause occurring table c ≡ true
 in_clause occurring table [] w there e = absurd (let f : ⊥ = cc in f)
 in_clause occurring table (l ∷ c) w there e = elim (or_true (variable l == w) (mentions c w) there) [
   | inl here ↦ or_left (is_unbalanced occurring table (variable l)) (is_unbalanced_clause occurring table c) (ap (is_unbalanced occurring table) (eqb-true (variable l) w here) ∙ e)
   | inr later ↦ or_right (is_unbalanced occurring table (variable l)) (is_unbalanced_clause occurring table c) (in_clause occurring table c w later e)
 ]
 
-in_shares : (F : Cnf) (occurring : List Bool) (table : List (List ℤ)) (shares : List Share) (w : ℕ) → is_shared F shares w ≡ true → is_unbalanced occurring table w ≡ true → is_unbalanced_share F occurring table shares ≡ true
+pub in_shares : (F : Cnf) (occurring : List Bool) (table : List (List ℤ)) (shares : List Share) (w : ℕ) → is_shared F shares w ≡ true → is_unbalanced occurring table w ≡ true → is_unbalanced_share F occurring table shares ≡ true
 in_shares F occurring table [] w there e = absurd (let f : ⊥ = cc in f)
 in_shares F occurring table (s ∷ shares) w there e = elim (or_true (mentions (clause_at F s.pos) w) (is_shared F shares w) there) [
   | inl here ↦ or_left (is_unbalanced_clause occurring table (clause_at F s.pos)) (is_unbalanced_share F occurring table shares) (in_clause occurring table (clause_at F s.pos) w here e)

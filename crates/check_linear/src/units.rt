@@ -1,12 +1,13 @@
 //! The check of the units of a linear document.
 //!
-//! One table of numbers serves all units of a range: it is filled at the variables of a unit's shares, read there, and made
-//! empty there again. So a unit takes the time of its shares' literals.
+//! One table of numbers serves all units of a range: it is filled at the variables of a unit's shares. Then the list of each
+//! such variable is summed and taken away in the same turn, so it is summed once, however many shares have the variable. So a
+//! unit takes the time of its shares' literals.
 ghost use Rattle.std.specs.Prelude.{◌≡◌, ◌≤◌, ◌<◌, ◌+◌, ◌^◌, ◌||◌, not, neg_ℤ, find, length, map, IfOk, OnOk, IsTrue};
 ghost use Rattle.std.specs.List.{list_all, list_any};
 ghost use Rattle.lk_model.specs.Lists.{is_zero, rises_within};
 ghost use Rattle.lk_model.specs.Limits.{is_in_range};
-ghost use Rattle.lk_model.specs.Formulas.Literal.{is_literal, variable};
+ghost use Rattle.lk_model.specs.Formulas.Literal.{is_literal};
 ghost use Rattle.lk_model.specs.Formulas.Formula.{is_formula};
 ghost use Rattle.lk_model.specs.Formulas.Lean.{are_positions};
 ghost use Rattle.lk_model.specs.Formulas.Crossed.{no_variable};
@@ -16,7 +17,7 @@ ghost use Rattle.lk_model.specs.declared.document.Share.{Share};
 ghost use Rattle.lk_model.specs.declared.document.Unit.{Unit};
 ghost use Rattle.check_tables.specs.Flags.{is_flagged};
 ghost use Rattle.check_tables.specs.Places.{places_in};
-ghost use Rattle.check_linear.specs.Linear.{AreUnitPlaces, unit_numbered, is_bad_unit, AreNone, AreNumbers, ClearsNumbers, ClearsShares, numbers_by, is_unbalanced, is_unbalanced_clause, is_unbalanced_share, is_bad_unit_line};
+ghost use Rattle.check_linear.specs.Linear.{AreUnitPlaces, unit_numbered, is_bad_unit, AreNone, AreNumbers, ClearsNumbers, ClearsShares, numbers_by, is_unbalanced_clause, is_unbalanced_share, is_bad_unit_line};
 
 use crate::linear::{add_numbers, is_unbalanced, no_numbers};
 use check_tables::{Span, Workers, kept_flags, occurring_at};
@@ -170,10 +171,10 @@ fn is_bad_line(
     let v = unit.var as usize - 1;
     fill(f, unit.shares.as_slice(), numbers)?;
     numbers[v].push(opposite(unit.d))?;
-    let bad = is_out_of_balance(f, occurring, numbers, unit);
-    clear(alloc, f, unit.shares.as_slice(), numbers);
+    let mut unbalanced = is_unbalanced(occurring, numbers, unit.var);
+    unbalanced |= clear_shares(alloc, f, occurring, unit.shares.as_slice(), numbers);
     numbers[v] = List::new(alloc);
-    Ok(bad)
+    Ok(unbalanced)
 }
 
 /// The number with the other sign.
@@ -189,19 +190,6 @@ fn is_void(kept: &[bool], unit: &Unit) -> bool
     ensures { result ≡ (is_zero unit.now.d || list_any (λ (s : Share). not (is_flagged kept.now s.pos)) unit.now.shares) }
 {
     unit.d == 0 || names_removed(kept, unit.shares.as_slice())
-}
-
-/// Whether the variable of a unit, or one of a share's clause, is out of balance.
-fn is_out_of_balance(f: &Formula, occurring: &VarSet, table: &[List<i128>], unit: &Unit) -> bool
-    requires first { 0 < unit.now.var }
-    requires last { unit.now.var ≤ f.now.vars }
-    requires unit { IsTrue (is_unit (length f.now.clauses) unit.now) }
-    requires occurring { length occurring.now ≡ f.now.vars }
-    requires table { length table.now ≡ f.now.vars }
-    ensures { result ≡ (is_unbalanced occurring.now table.now unit.now.var || is_unbalanced_share f.now occurring.now table.now unit.now.shares) }
-{
-    is_unbalanced(occurring, table, unit.var)
-        || is_unbalanced_share(f, occurring, table, unit.shares.as_slice())
 }
 
 /// Whether a share is of a clause that is not kept.
@@ -237,66 +225,46 @@ fn fill(f: &Formula, shares: &[Share], numbers: &mut Vec<List<i128>>) -> Result<
     Ok(())
 }
 
-/// Whether a variable of a share's clause is out of balance.
-fn is_unbalanced_share(
+/// Whether a variable of a share's clause is out of balance. The numbers of these variables are taken away.
+fn clear_shares(
+    alloc: Global,
     f: &Formula,
     occurring: &VarSet,
-    table: &[List<i128>],
     shares: &[Share],
+    numbers: &mut Vec<List<i128>>,
 ) -> bool
     requires rising { IsTrue (rises_within 0 (length f.now.clauses) (map (λ (s : Share). s.pos) shares.now)) }
     requires occurring { length occurring.now ≡ f.now.vars }
-    requires table { length table.now ≡ f.now.vars }
-    ensures { result ≡ is_unbalanced_share f.now occurring.now table.now shares.now }
-{
-    for i in 0..shares.len() {
-        if is_unbalanced_clause(f.vars(), occurring, table, f.clause(shares[i].pos)) {
-            return true;
-        }
-    }
-    false
-}
-
-/// Whether a variable of a clause is out of balance.
-fn is_unbalanced_clause(n: u32, occurring: &VarSet, table: &[List<i128>], clause: &[Lit]) -> bool
-    requires clause { IsTrue (list_all (is_literal n) clause.now) }
-    requires occurring { length occurring.now ≡ n }
-    requires table { length table.now ≡ n }
-    ensures { result ≡ is_unbalanced_clause occurring.now table.now clause.now }
-{
-    clause
-        .iter()
-        .any(|l| is_unbalanced_literal(n, occurring, table, *l))
-}
-
-/// Whether the variable of a literal is out of balance.
-fn is_unbalanced_literal(n: u32, occurring: &VarSet, table: &[List<i128>], l: Lit) -> bool
-    requires literal { IsTrue (is_literal n l) }
-    requires occurring { length occurring.now ≡ n }
-    requires table { length table.now ≡ n }
-    ensures { result ≡ is_unbalanced occurring.now table.now (variable l) }
-{
-    is_unbalanced(occurring, table, l.var())
-}
-
-/// Takes the numbers of the variables of shares' clauses away.
-fn clear(alloc: Global, f: &Formula, shares: &[Share], numbers: &mut Vec<List<i128>>)
-    requires rising { IsTrue (rises_within 0 (length f.now.clauses) (map (λ (s : Share). s.pos) shares.now)) }
     requires size { length numbers.old.items ≡ f.now.vars }
-    ensures { ClearsShares f.now shares.now numbers.old.items numbers.new.items }
+    ensures unbalanced { result ≡ is_unbalanced_share f.now occurring.now numbers.old.items shares.now }
+    ensures cleared { ClearsShares f.now shares.now numbers.old.items numbers.new.items }
 {
+    let mut unbalanced = false;
     for i in 0..shares.len() {
-        clear_clause(alloc, f.vars(), f.clause(shares[i].pos), numbers);
+        unbalanced |= clear_clause(alloc, f.vars(), occurring, f.clause(shares[i].pos), numbers);
     }
+    unbalanced
 }
 
-/// Takes the numbers of the variables of a clause away.
-fn clear_clause(alloc: Global, n: u32, clause: &[Lit], numbers: &mut Vec<List<i128>>)
+/// Whether a variable of a clause is out of balance. The numbers of these variables are taken away, each list as soon as it
+/// is summed, so that a variable that stands in many clauses is summed once.
+fn clear_clause(
+    alloc: Global,
+    n: u32,
+    occurring: &VarSet,
+    clause: &[Lit],
+    numbers: &mut Vec<List<i128>>,
+) -> bool
     requires clause { IsTrue (list_all (is_literal n) clause.now) }
+    requires occurring { length occurring.now ≡ n }
     requires size { length numbers.old.items ≡ n }
-    ensures { ClearsNumbers n clause.now numbers.old.items numbers.new.items }
+    ensures unbalanced { result ≡ is_unbalanced_clause occurring.now numbers.old.items clause.now }
+    ensures cleared { ClearsNumbers n clause.now numbers.old.items numbers.new.items }
 {
+    let mut unbalanced = false;
     for l in clause {
+        unbalanced |= is_unbalanced(occurring, numbers, l.var());
         numbers[l.var() as usize - 1] = List::new(alloc);
     }
+    unbalanced
 }

@@ -10,6 +10,7 @@ use Rattle.command_words.specs.Shapes.{inputs_of}
 use Rattle.command_endings.specs.Commands.{Answers, Decides}
 use Rattle.command_endings.specs.Commands.Checking.{verdict_status}
 use Rattle.command_endings.specs.Commands.Demonstrating as demo
+use Rattle.command_endings.specs.Commands.Extracting as mus
 use Rattle.command_endings.specs.Commands.GeneralReducing as general
 use Rattle.command_endings.specs.Commands.Solving as solve
 use Rattle.command_endings.specs.Commands.Verifying as verify
@@ -21,9 +22,10 @@ use Rattle.command_endings.specs.declared.status.Status.{Status}
 use Rattle.command_endings.specs.Statuses.{is_silent}
 use Rattle.command_endings.specs.declared.status.Status.TheVariants.{Done, Words, Input, ReadFault, WriteFault, Budget, TooWide, TooLarge, Refused, Memory, Satisfiable, Unsatisfiable}
 use Rattle.command_words.specs.declared.command.Command.{Command}
-use Rattle.command_words.specs.declared.command.Command.TheVariants.{ReducePure, ReduceMatching, ReduceLinear, ReduceGeneral, Check, Extend, Report, Demo, Solve, Verify, Deficiency, Edits}
+use Rattle.command_words.specs.declared.command.Command.TheVariants.{ReducePure, ReduceMatching, ReduceLinear, ReduceGeneral, Check, Extend, Report, Demo, Solve, Verify, Deficiency, Edits, Mus}
 use Rattle.command_endings.proofs.LinearEndings.{run_silent}
 use Rattle.command_endings.proofs.SolveEndings.{solve_status}
+use Rattle.command_endings.proofs.ExtractEndings.{mus_status}
 
 -- of the statuses that it may answer with, it is the decided one
 pub one_status : (command : Command) (options : Options) (values : Values (inputs_of command)) (decided status : Status) (written said : List ℕ) → Decides command options values decided → Answers command options values status written said → status ≡ decided
@@ -39,6 +41,7 @@ one_status Solve options values decided status written said d a = solve_status o
 one_status Verify options values decided status written said d a = a.status_is ∙ sym d
 one_status Deficiency options values decided status written said d a = a.status_is ∙ sym d
 one_status Edits options values decided status written said d a = a.status_is ∙ sym d
+one_status Mus options values decided status written said d a = mus_status options values.0 decided status written said d a
 
 -- WHERE ALL IS TOLD
 
@@ -81,6 +84,7 @@ result_silent Solve options values status written said is a = of_silent (λ s. s
 result_silent Verify options values status written said is a = a.silent
 result_silent Deficiency options values status written said is a = a.silent
 result_silent Edits options values status written said is a = a.silent
+result_silent Mus options values status written said is a = of_silent (λ s. mus.Answers options values.0 s written said) said (λ w. w.1) (λ w. w.1) (λ w. absurd w) status is a
 
 -- WHERE NOTHING IS WRITTEN
 
@@ -119,6 +123,7 @@ wide_unwritten Solve options values written said a = absurd a
 wide_unwritten Verify options values written said a = absurd (wide_verdict (verify.verdict_of values.0 values.1.0) a.status_is)
 wide_unwritten Deficiency options values written said a = let is = a.status_is in absurd (let f : ⊥ = cc is in f)
 wide_unwritten Edits options values written said a = let is = a.status_is in absurd (let f : ⊥ = cc is in f)
+wide_unwritten Mus options values written said a = absurd a
 
 pub large_unwritten : (command : Command) (options : Options) (values : Values (inputs_of command)) (written said : List ℕ) → Answers command options values TooLarge written said → written ≡ []
 large_unwritten ReducePure options values written said a = let is = a.status_is in absurd (let f : ⊥ = cc is in f)
@@ -133,3 +138,4 @@ large_unwritten Solve options values written said a = absurd a
 large_unwritten Verify options values written said a = absurd (large_verdict (verify.verdict_of values.0 values.1.0) a.status_is)
 large_unwritten Deficiency options values written said a = let is = a.status_is in absurd (let f : ⊥ = cc is in f)
 large_unwritten Edits options values written said a = let is = a.status_is in absurd (let f : ⊥ = cc is in f)
+large_unwritten Mus options values written said a = absurd a

@@ -9,6 +9,7 @@ pub mod GeneralEndings
 pub mod DemoEndings
 pub mod Extensions
 pub mod SolveEndings
+pub mod ExtractEndings
 pub mod VerifiedAnswers
 pub mod NumberLines
 pub mod EditedLines

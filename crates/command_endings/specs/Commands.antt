@@ -4,7 +4,7 @@ use Rattle.lk_model.specs.declared.class.Class.TheVariants.{Pure, Matching}
 use Rattle.command_words.specs.Settings.{Options}
 use Rattle.command_words.specs.Shapes.{inputs_of}
 use Rattle.command_words.specs.declared.command.Command.{Command}
-use Rattle.command_words.specs.declared.command.Command.TheVariants.{ReducePure, ReduceMatching, ReduceLinear, ReduceGeneral, Check, Extend, Report, Demo, Solve, Verify, Deficiency, Edits}
+use Rattle.command_words.specs.declared.command.Command.TheVariants.{ReducePure, ReduceMatching, ReduceLinear, ReduceGeneral, Check, Extend, Report, Demo, Solve, Verify, Deficiency, Edits, Mus}
 use Rattle.command_inputs.specs.Inputs.{Values}
 use Rattle.command_endings.specs.declared.status.Status.{Status}
 pub mod Reducing
@@ -18,6 +18,7 @@ pub mod Solving
 pub mod Verifying
 pub mod Measuring
 pub mod Editing
+pub mod Extracting
 use Rattle.command_endings.specs.Commands.Reducing as reduce
 use Rattle.command_endings.specs.Commands.LinearReducing as linear
 use Rattle.command_endings.specs.Commands.GeneralReducing as general
@@ -29,6 +30,7 @@ use Rattle.command_endings.specs.Commands.Solving as solve
 use Rattle.command_endings.specs.Commands.Verifying as verify
 use Rattle.command_endings.specs.Commands.Measuring as measure
 use Rattle.command_endings.specs.Commands.Editing as edits
+use Rattle.command_endings.specs.Commands.Extracting as mus
 
 -- With these options it may answer these inputs with this status, where it writes the one text and says the other.
 abbrev pub Answers : (command : Command) → Options → Values (inputs_of command) → Status → List ℕ → List ℕ → Type 0
@@ -44,6 +46,7 @@ Answers Solve options values = solve.Answers options values.0
 Answers Verify options values = verify.Answers values.0 values.1.0
 Answers Deficiency options values = measure.Answers values.0
 Answers Edits options values = edits.Answers values.0 values.1.0
+Answers Mus options values = mus.Answers options values.0
 
 -- these options and inputs decide that it answers with this status
 abbrev pub Decides : (command : Command) → Options → Values (inputs_of command) → Status → Type 0
@@ -59,3 +62,4 @@ Decides Solve options values = solve.Decides options values.0
 Decides Verify options values = verify.Decides values.0 values.1.0
 Decides Deficiency options values = measure.Decides values.0
 Decides Edits options values = edits.Decides values.0 values.1.0
+Decides Mus options values = mus.Decides options values.0

@@ -7,6 +7,7 @@ pub mod demo;
 pub mod edits;
 mod ending;
 pub mod extend;
+pub mod extract;
 mod lines;
 pub mod measure;
 mod numbers;

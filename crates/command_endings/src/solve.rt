@@ -41,7 +41,7 @@ pub fn answer<R: Threads + Sync, G: Gate>(
 }
 
 /// The ending with this status that writes an answer.
-fn answered(alloc: Global, status: Status, answer: Answer) -> Result<Ending, OutOfMemory>
+pub(crate) fn answered(alloc: Global, status: Status, answer: Answer) -> Result<Ending, OutOfMemory>
     ensures status { IfOk result (λ e. e.status ≡ status) }
     ensures written { IfOk result (λ e. e.written.items ≡ answer_text answer) }
     ensures said { IfOk result (λ e. e.said.items ≡ []) }
@@ -54,7 +54,7 @@ fn answered(alloc: Global, status: Status, answer: Answer) -> Result<Ending, Out
 }
 
 /// A list of one round.
-fn one_round(alloc: Global, round: Round) -> Result<List<Round>, OutOfMemory>
+pub(crate) fn one_round(alloc: Global, round: Round) -> Result<List<Round>, OutOfMemory>
     ensures { IfOk result (λ rounds. rounds ≡ round ∷ []) }
 {
     let mut rounds = List::new(alloc);

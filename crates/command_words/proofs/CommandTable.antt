@@ -8,7 +8,7 @@ use Rattle.command_words.specs.Settings.{every_option}
 use Rattle.command_words.specs.Shapes.{commands, words_of, keys_of}
 use Rattle.command_words.specs.Lawful.{request_of, with_names, with_number}
 use Rattle.command_words.specs.declared.command.Command.{Command}
-use Rattle.command_words.specs.declared.command.Command.TheVariants.{ReducePure, ReduceMatching, ReduceLinear, ReduceGeneral, Check, Extend, Report, Demo, Solve, Verify, Deficiency, Edits}
+use Rattle.command_words.specs.declared.command.Command.TheVariants.{ReducePure, ReduceMatching, ReduceLinear, ReduceGeneral, Check, Extend, Report, Demo, Solve, Verify, Deficiency, Edits, Mus}
 use Rattle.command_words.proofs.LawfulOptions.{have_samples}
 use Rattle.command_words.proofs.OptionWords.{agrees}
 
@@ -26,6 +26,7 @@ is_of Solve rest = refl
 is_of Verify rest = refl
 is_of Deficiency rest = refl
 is_of Edits rest = refl
+is_of Mus rest = refl
 
 -- a number that it takes, as words
 pub one_number : (command : Command) → (number : List Word) × ((rest : List Word) → with_number command (number ++ rest) ≡ with_names command 0 rest)
@@ -41,6 +42,7 @@ one_number Solve = ([], λ rest. refl)
 one_number Verify = ([], λ rest. refl)
 one_number Deficiency = ([], λ rest. refl)
 one_number Edits = ([], λ rest. refl)
+one_number Mus = ([], λ rest. refl)
 
 -- each of its options takes some word
 pub samples : (command : Command) → have_samples (keys_of command) ≡ true
@@ -57,6 +59,7 @@ samples Solve = refl
 samples Verify = refl
 samples Deficiency = refl
 samples Edits = refl
+samples Mus = refl
 
 -- none of them has the word of another option
 pub apart : (command : Command) → list_all (agrees (keys_of command)) every_option ≡ true
@@ -72,6 +75,7 @@ apart Solve = refl
 apart Verify = refl
 apart Deficiency = refl
 apart Edits = refl
+apart Mus = refl
 
 -- the place of each in the list of commands
 pub stands : (command : Command) → (place : ℕ) × (place < length commands) × (get_or commands place ReducePure ≡ command)
@@ -87,3 +91,4 @@ stands Solve = (8, omega arith, refl)
 stands Verify = (9, omega arith, refl)
 stands Deficiency = (10, omega arith, refl)
 stands Edits = (11, omega arith, refl)
+stands Mus = (12, omega arith, refl)

@@ -6,14 +6,14 @@ use Rattle.lk_model.specs.declared.class.Class.{Class}
 use Rattle.lk_model.specs.declared.class.Class.TheVariants.{Pure, Matching, Linear, General}
 use Rattle.command_words.specs.Settings.{Key, numbers_from, conflicts, pivots, workers, protect}
 use Rattle.command_words.specs.declared.command.Command.{Command}
-use Rattle.command_words.specs.declared.command.Command.TheVariants.{ReducePure, ReduceMatching, ReduceLinear, ReduceGeneral, Check, Extend, Report, Demo, Solve, Verify, Deficiency, Edits}
+use Rattle.command_words.specs.declared.command.Command.TheVariants.{ReducePure, ReduceMatching, ReduceLinear, ReduceGeneral, Check, Extend, Report, Demo, Solve, Verify, Deficiency, Edits, Mus}
 use Rattle.command_words.specs.declared.range.Range.{Range}
 use Rattle.command_words.specs.declared.shape.Grammar.{Grammar}
 use Rattle.command_words.specs.declared.shape.Grammar.TheVariants.{Formula, Document, Model, Answer}
 use Rattle.command_words.specs.declared.shape.Grammar.TheVariants as grammar
 
 abbrev pub commands : List Command
-commands = ReducePure ∷ ReduceMatching ∷ ReduceLinear ∷ ReduceGeneral ∷ Check ∷ Extend ∷ Report ∷ Demo ∷ Solve ∷ Verify ∷ Deficiency ∷ Edits ∷ []
+commands = ReducePure ∷ ReduceMatching ∷ ReduceLinear ∷ ReduceGeneral ∷ Check ∷ Extend ∷ Report ∷ Demo ∷ Solve ∷ Verify ∷ Deficiency ∷ Edits ∷ Mus ∷ []
 
 -- The words at a command's front, the number that stands behind them for the commands that take one, its inputs in the order
 -- of the words, and the options that it takes.
@@ -55,6 +55,7 @@ shape_of Solve = shape (codes "solve" ∷ []) (Formula ∷ []) (conflicts ∷ wo
 shape_of Verify = shape (codes "verify" ∷ []) (Formula ∷ Answer ∷ []) []
 shape_of Deficiency = shape (codes "deficiency" ∷ []) (Formula ∷ []) []
 shape_of Edits = shape (codes "edits" ∷ []) (Formula ∷ grammar.Edits ∷ []) []
+shape_of Mus = shape (codes "mus" ∷ []) (Formula ∷ []) (conflicts ∷ [])
 
 abbrev pub words_of : Command → List Word
 words_of command = (shape_of command).words

@@ -27,10 +27,12 @@ pub enum Command {
     Deficiency,
     /// Writes the matching kernel of a formula, and again after each edit of it.
     Edits,
+    /// Writes a minimally unsatisfiable core of a formula, or a model, or an unfinished document.
+    Mus,
 }
 
 /// The commands, in the order in which their words are looked for.
-pub(crate) const COMMANDS: [Command; 12] = [
+pub(crate) const COMMANDS: [Command; 13] = [
     Command::ReducePure,
     Command::ReduceMatching,
     Command::ReduceLinear,
@@ -43,4 +45,5 @@ pub(crate) const COMMANDS: [Command; 12] = [
     Command::Verify,
     Command::Deficiency,
     Command::Edits,
+    Command::Mus,
 ];

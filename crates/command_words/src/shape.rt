@@ -16,7 +16,8 @@ pub enum Grammar {
     Document,
     /// A model for the variables of the formula before it.
     Model,
-    /// An answer for the variables and the clauses of the formula before it: a model of it, or a refutation.
+    /// An answer for the variables and the clauses of the formula before it: a model of it, a refutation, or a minimally
+    /// unsatisfiable core.
     Answer,
     /// Edits of the formula before it: clauses that are added and numbers of clauses that are removed.
     Edits,
@@ -95,6 +96,12 @@ impl Command {
                 numbers: None,
                 inputs: &[Grammar::Formula, Grammar::Edits],
                 keys: &[],
+            },
+            Command::Mus => Shape {
+                words: &["mus"],
+                numbers: None,
+                inputs: &[Grammar::Formula],
+                keys: &[CONFLICTS],
             },
         }
     }

@@ -1,8 +1,9 @@
 //! What a sink answers to pieces.
 ghost use Rattle.std.specs.Prelude.{ℕ, ◌<◌, length};
 
+use crate::interruptions::Interrupted;
 use lk_outside::{Failed, Sink, StdSink};
-use std::alloc::AllocError;
+use std::alloc::{AllocError, Global};
 use std::fs;
 use std::fs::OpenOptions;
 use std::io::Write;
@@ -56,4 +57,31 @@ pub(crate) fn put_reader<R: Files>(rt: &R, rest: &str, out: &mut String) -> Resu
         Ok(file) => put_pieces(file, pieces, out),
         Err(_) => write!(out, " does not open"),
     }
+}
+
+/// Writes the pieces into this room, each write interrupted so many times first; how many calls the
+/// stream had.
+fn put_over(
+    room: &mut [u8],
+    times: u32,
+    pieces: &str,
+    out: &mut String,
+) -> Result<u64, AllocError> {
+    let mut stream = Interrupted::new(room, times);
+    put_pieces(&mut stream, pieces, out)?;
+    Ok(stream.calls)
+}
+
+/// `room TIMES SIZE PIECES`: so many bytes of memory, whose writes are interrupted so many times.
+pub(crate) fn put_room(
+    alloc: Global,
+    times: u32,
+    rest: &str,
+    out: &mut String,
+) -> Result<(), AllocError> {
+    let (size, pieces) = rest.split_once(" ").unwrap_or((rest, ""));
+    let size: u32 = size.parse().unwrap_or(0);
+    let mut room = vec![in alloc; b'.'; size as usize]?;
+    let calls = put_over(room.as_mut_slice(), times, pieces, out)?;
+    write!(out, ", {calls} calls: {}", room.as_slice().escape_ascii())
 }

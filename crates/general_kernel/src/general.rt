@@ -92,7 +92,7 @@ fn run(alloc: Global, f: &Formula, part: &[u32], rounds: &mut Rounds) -> Result<
                 rounds.push(log)?;
                 add_variables(f, used.as_slice(), &mut rounds.blocked);
             }
-            Decided::Stopped(log) => return Ok(End::Open(log.into_round())),
+            Decided::Stopped(log) => return Ok(End::Open(log.into_round()?)),
         }
     }
 }

@@ -2,4 +2,5 @@ pub mod RefutationLaws
 pub mod ModelLaws
 pub mod EmptyClauses
 pub mod Gathering
+pub mod OpenRounds
 pub mod SolveResults

@@ -1,7 +1,6 @@
 -- What the answers on all parts of the matching kernel come to.
-use Rattle.std.proofs.Common.{◌≡◌, ℕ, zero, suc, ◌+◌, ◌<◌, ◌≤◌, ◌^◌, Bool, true, List, [], ◌∷◌, ◌++◌, length, map, get_or, refl, sym, ◌∙◌, ap, subst, arith, ℤ, Ok, Err, Result, IfOk, Contains, All, None, false}
+use Rattle.std.proofs.Common.{◌≡◌, ℕ, zero, suc, ◌+◌, ◌<◌, ◌≤◌, ◌^◌, true, List, [], ◌∷◌, ◌++◌, length, map, get_or, refl, sym, ◌∙◌, ap, subst, arith, ℤ, Ok, Err, Result, IfOk, Contains, All, None}
 use Rattle.std.specs.List.{AllByRecursion}
-use Rattle.std.proofs.lemmas.Bool.{and_from, both_ways, false_from_ne_true}
 use Rattle.std.proofs.lemmas.List.{append-nil, length-map}
 use Rattle.std.proofs.lemmas.Result.{IfOk-at_ok}
 use Rattle.lk_model.specs.Lists.{among, rises_within}
@@ -14,19 +13,15 @@ use Rattle.lk_model.specs.Chains.Rounds.{is_trimmed}
 use Rattle.lk_model.specs.Documents.Documents.{steps_of}
 use Rattle.lk_model.specs.Reduction.{IsModel}
 use Rattle.lk_model.specs.declared.document.Round.{Round}
-use Rattle.lk_model.specs.declared.document.Step.{Step}
 use Rattle.lk_model.specs.declared.list.OutOfMemory.{OutOfMemory}
 use Rattle.lk_model.specs.declared.result.GeneralResult.{GeneralResult}
 use Rattle.lk_model.specs.declared.result.MatchingResult.{MatchingResult}
 use Rattle.lk_model.proofs.Booleans.{and_true}
 use Rattle.lk_model.proofs.Counting.{among-range}
-use Rattle.lk_model.proofs.Rising.{bounded, range_rises, rising_count}
+use Rattle.lk_model.proofs.Rising.{bounded, rising_count}
 use Rattle.kernel_laws.specs.General.GeneralResults.{IsGeneralResult, AreGeneralResults}
-use Rattle.kernel_laws.specs.General.JoinLaw.{IsApart, moved, renumbered_round}
 use Rattle.kernel_laws.specs.Matching.MatchingResults.{IsMatchingResult, set_line}
-use Rattle.kernel_laws.proofs.Occurrences.{in_positions}
 use Rattle.kernel_laws.proofs.General.OpenResults.{open_result_law}
-use Rattle.kernel_laws.proofs.General.PartLaws.{is_position}
 use Rattle.autarky_compose.specs.JoinedGeneral.{AreJoinable, AreJoined, all_kept, rounds_behind}
 use Rattle.autarky_compose.proofs.GeneralLaws.{joined_general_law}
 use Rattle.part_formula.specs.Decisions.{IsDecision, sets_only}
@@ -40,6 +35,7 @@ use Rattle.kernel_solve.specs.declared.solving.Solved.{Solved}
 use Rattle.kernel_solve.specs.declared.solving.Solved.TheVariants as solved
 use Rattle.kernel_solve.proofs.EmptyClauses.{filled_at}
 use Rattle.kernel_solve.proofs.ModelLaws.{model_law, is_rising}
+use Rattle.kernel_solve.proofs.OpenRounds.{open_sound}
 use Rattle.kernel_solve.proofs.RefutationLaws.{refutation_law}
 
 -- what is found in a formula without an empty clause
@@ -123,10 +119,6 @@ refuted F r list conflicts answers round h all c =
       empty = rw h.filled tt;
     }
 
--- there is no other position
-no_other : (F : Cnf) → IsApart F (positions_of F)
-no_other F p v out there = false_from_ne_true _ (λ m. both_ways (among (positions_of F) p) out (in_positions F p (is_position F p v m)))
-
 -- what is learned over a part makes an unfinished round of the formula
 stopped : (F : Cnf) (r : MatchingResult) (list : List (List ℕ)) (conflicts : ℕ) (answers : List Answer) (round : Round) → conflicts < 2 ^ 63 → IsSearched F r list
     → AreAnswers F conflicts list answers → Contains answers (Ok (Stopped round)) → IsUnfinished F conflicts round
@@ -142,8 +134,7 @@ stopped F r list conflicts answers round most h all c =
       learning = learning;
       all = count;
       few = omega (arith, count, few);
-      sound = open_result_law.sound F (positions_of F) (round ∷ []) h.form h.limits
-          (range_rises 0 (length F.clauses) 1 (length F.clauses) (omega arith) (omega arith)) (no_other F) learning (omega (arith, count, most));
+      sound = open_sound F (round ∷ []) h.form h.limits learning (omega (arith, count, most));
       progress = learning.progress;
       part = part;
       stops = record {

@@ -4,9 +4,10 @@
 ghost use Rattle.std.specs.Prelude.{◌≡◌, ◌<◌, ◌^◌, length, IsTrue};
 ghost use Rattle.lk_model.specs.Formulas.Lean.{are_positions};
 
-use cdcl_core::{By, Decided, Signs, Turns, decide, decide_by, decide_by_turns};
+use cdcl_core::{Decided, Signs, Turns, decide, decide_by, decide_by_turns};
 use dimacs_reader::Reader;
-use lk_model::{Crossed, Formula, OutOfMemory, Step, VarSet};
+use lk_model::{Crossed, Formula, OutOfMemory, VarSet};
+use refutation_log::Log;
 use std::alloc::Global;
 use std::rt::Files;
 use std::test::Fail;
@@ -111,11 +112,9 @@ fn decide_over(
             decide_by(alloc, &over, order, &mut signs, next, left)
         }
         Way::Turns(first, further) => {
-            let mut turns = Turns {
-                by: By::Number,
-                first,
-                further,
-            };
+            let mut turns = Turns::new();
+            turns.first = first;
+            turns.further = further;
             decide_by_turns(alloc, &over, &mut turns, next, left)
         }
     }
@@ -124,26 +123,34 @@ fn decide_over(
 /// The answer that tells what is decided.
 fn answer_of(decided: &Decided) -> Answer {
     match decided {
-        Decided::Sat(_) => answer_with("sat", &[]),
-        Decided::Refuted(log) => answer_with("refuted", log.steps()),
-        Decided::Stopped(log) => answer_with("stopped", log.steps()),
+        Decided::Sat(_) => Answer {
+            word: "sat",
+            steps: 0,
+            literals: 0,
+        },
+        Decided::Refuted(log) => answer_with("refuted", log),
+        Decided::Stopped(log) => answer_with("stopped", log),
     }
 }
 
 /// The answer with the steps of a log.
-fn answer_with(word: &'static str, steps: &[Step]) -> Answer {
+fn answer_with(word: &'static str, log: &Log) -> Answer {
     Answer {
         word,
-        steps: steps.len(),
-        literals: literals_in(steps),
+        steps: log.len(),
+        literals: literals_in(log),
     }
 }
 
-/// How many literals the clauses of steps have.
-fn literals_in(steps: &[Step]) -> usize {
+/// How many literals the clauses of a log have.
+fn literals_in(log: &Log) -> usize {
     let mut literals: usize = 0;
-    for step in steps {
-        literals = literals.saturating_add(step.clause.len());
+    let mut number = log.first();
+    for _ in 0..log.len() {
+        if log.has(number) {
+            literals = literals.saturating_add(log.clause(number).len());
+        }
+        number = number.saturating_add(1);
     }
     literals
 }

@@ -117,19 +117,35 @@ pub(crate) fn put_answer(
 ) -> Result<(), Fail>
     requires { length asked.now.blocked.now ≡ asked.now.formula.now.vars }
 {
-    match answer(alloc, asked, Way::Usual, next, left)? {
+    let decided = answer(alloc, asked, Way::Usual, next, left)?;
+    put_decided(alloc, asked, next, decided, out)
+}
+
+/// Prints what was decided, and whether it stands.
+pub(crate) fn put_decided(
+    alloc: Global,
+    asked: &Asked,
+    next: u64,
+    decided: Decided,
+    out: &mut String,
+) -> Result<(), Fail>
+    requires { length asked.now.blocked.now ≡ asked.now.formula.now.vars }
+{
+    match decided {
         Decided::Sat(values) => {
             write!(out, "sat, {}:", is_model(asked, &values))?;
             put_values(&values, out)?;
         }
         Decided::Refuted(log) => {
-            let steps = log.steps();
+            let round = log.into_round()?;
+            let steps = round.steps.as_slice();
             let stands = stands(alloc, asked, next, steps, true)?;
             writeln!(out, "refuted by {} steps, {stands}", steps.len())?;
             put_steps(steps, out)?;
         }
         Decided::Stopped(log) => {
-            let steps = log.steps();
+            let round = log.into_round()?;
+            let steps = round.steps.as_slice();
             let stands = stands(alloc, asked, next, steps, false)?;
             writeln!(out, "stopped after {} steps, {stands}", steps.len())?;
             put_steps(steps, out)?;
@@ -150,7 +166,8 @@ pub(crate) fn has_model(
     match answer(alloc, asked, way, next, 1_000_000)? {
         Decided::Sat(values) => Ok(is_model(asked, &values).then_some(true)),
         Decided::Refuted(log) => {
-            Ok(stands(alloc, asked, next, log.steps(), true)?.then_some(false))
+            let round = log.into_round()?;
+            Ok(stands(alloc, asked, next, round.steps.as_slice(), true)?.then_some(false))
         }
         Decided::Stopped(_) => Ok(None),
     }

@@ -1,10 +1,10 @@
 //! Questions.
-ghost use Rattle.std.specs.Prelude.{◌≡◌, ◌<◌, ◌^◌, length, IfOk, IsTrue};
+ghost use Rattle.std.specs.Prelude.{◌≡◌, ◌<◌, ◌^◌, length, IfOk, OnOk, IsTrue};
 ghost use Rattle.lk_model.specs.Formulas.Lean.{are_positions};
 ghost use Rattle.lk_model.specs.Held.VariableSets.{IsCrossed};
 ghost use Rattle.variable_orders.specs.VariableOrders.{IsOrderOver};
 
-use cdcl_core::{By, Decided, Signs, Turns, decide, decide_by, decide_by_turns};
+use cdcl_core::{Decided, Signs, Turns, decide, decide_by, decide_by_turns};
 use lk_model::{Crossed, Formula, OutOfMemory, VarSet};
 use lk_samples::has_part;
 use std::alloc::Global;
@@ -20,6 +20,8 @@ pub(crate) enum Way {
     One { connected: bool, last: bool },
     /// By both in turns: so many clauses are learned at first, and so many more in each further turn.
     Turns { first: u64, further: u64 },
+    /// By both in turns that keep values, and then again with these: the second answer.
+    Twice { first: u64, further: u64 },
 }
 
 /// A part of a formula, and the variables whose literals are crossed out.
@@ -52,8 +54,14 @@ fn ask(alloc: Global, asked: &Asked, way: Way, next: u64, left: u64) -> Result<D
             decide_by(alloc, &over, order, &mut signs, next, left)
         }
         Way::Turns { first, further } => {
-            let by = By::Number;
-            let mut turns = Turns { by, first, further };
+            let mut turns = Turns::new();
+            turns.first = first;
+            turns.further = further;
+            decide_by_turns(alloc, &over, &mut turns, next, left)
+        }
+        Way::Twice { first, further } => {
+            let mut turns = Turns::keeping(alloc, over.formula.vars(), first, further)?;
+            decide_by_turns(alloc, &over, &mut turns, next, left)?;
             decide_by_turns(alloc, &over, &mut turns, next, left)
         }
     }
@@ -80,6 +88,23 @@ fn signs_of(alloc: Global, n: u32, last: bool) -> Result<Signs, OutOfMemory> {
     }
 }
 
+/// Refuses a question that may not be asked.
+fn check_question(asked: &Asked, next: u64, left: u64) -> Result<(), Fail>
+    ensures part { OnOk result (IsTrue (are_positions asked.now.formula.now asked.now.part.now)) }
+    ensures some { OnOk result (0 < left) }
+    ensures past { OnOk result (length asked.now.formula.now.clauses < next) }
+    ensures next { OnOk result (next < 2 ^ 40) }
+    ensures left { OnOk result (left < 2 ^ 40) }
+{
+    if !has_part(asked.formula, asked.part) || left == 0 || left > 1_000_000_000 {
+        return Err(Fail::from("no part, or no budget"));
+    }
+    if next <= u64::from(asked.formula.len()) || next > 1_000_000_000 {
+        return Err(Fail::from("the first number is too small or too large"));
+    }
+    Ok(())
+}
+
 /// The answer, where the question may be asked.
 pub(crate) fn answer(
     alloc: Global,
@@ -90,13 +115,27 @@ pub(crate) fn answer(
 ) -> Result<Decided, Fail>
     requires blocked { length asked.now.blocked.now ≡ asked.now.formula.now.vars }
 {
-    if !has_part(asked.formula, asked.part) || left == 0 || left > 1_000_000_000 {
-        return Err(Fail::from("no part, or no budget"));
-    }
-    if next <= u64::from(asked.formula.len()) || next > 1_000_000_000 {
-        return Err(Fail::from("the first number is too small or too large"));
-    }
+    check_question(asked, next, left)?;
     Ok(ask(alloc, asked, way, next, left)?)
+}
+
+/// The answer by turns that may have kept values of earlier questions, where the question may be asked.
+pub(crate) fn answer_by_turns(
+    alloc: Global,
+    asked: &Asked,
+    turns: &mut Turns,
+    next: u64,
+    left: u64,
+) -> Result<Decided, Fail>
+    requires blocked { length asked.now.blocked.now ≡ asked.now.formula.now.vars }
+{
+    check_question(asked, next, left)?;
+    let over = Crossed {
+        formula: asked.formula,
+        part: asked.part,
+        blocked: asked.blocked,
+    };
+    Ok(decide_by_turns(alloc, &over, turns, next, left)?)
 }
 
 /// Prints the variables of the crossed clauses in both orders, where there are such clauses.

@@ -35,8 +35,8 @@ fn answered(alloc: Global, asked: &Asked, way: Way, next: u64, left: u64) -> Res
 {
     match answer(alloc, asked, way, next, left)? {
         Decided::Sat(_) => Ok(Told::Sat),
-        Decided::Refuted(log) => Ok(Told::Refuted(log.steps().len())),
-        Decided::Stopped(log) => Ok(Told::Stopped(log.steps().len())),
+        Decided::Refuted(log) => Ok(Told::Refuted(log.len())),
+        Decided::Stopped(log) => Ok(Told::Stopped(log.len())),
     }
 }
 

@@ -7,12 +7,14 @@
 //!     drawn | SEED | COUNT | WAY
 //!     orders | NAME | VARS | CLAUSES | PART | BLOCKED
 //!     turns | HOLES | FIRST | FURTHER | MOST
+//!     kept | NAME | VARS | FIRST | FURTHER | LEFT | CLAUSES | CLAUSES ..
 //!
 //! Commas stand between clauses. Of `budgets` each budget from 1 on is tried until one is enough. A chain is one of
 //! implications that cannot all hold. Drawn formulas are compared with a search through all assignments (`drawn`), by
 //! `decide` where there is no WAY, and else by `numbers`, `connection`, with `last` behind it for the last values, or by
-//! `turns FIRST FURTHER`. Of `turns` each budget up to one is tried on pigeons (`edges`). Every log is gone through step
-//! by step (`logs`).
+//! `turns FIRST FURTHER` or `twice FIRST FURTHER`. Of `turns` each budget up to one is tried on pigeons (`edges`). The
+//! formulas of `kept` are decided one after another by turns that keep values (`kept`). Every log is gone through step by
+//! step (`logs`).
 #![tactic(auto)]
 
 mod answers;
@@ -20,6 +22,7 @@ mod asking;
 mod built;
 mod drawn;
 mod edges;
+mod kept;
 mod logs;
 
 use crate::answers::put_answer;
@@ -27,6 +30,8 @@ use crate::asking::{Asked, Way, put_orders};
 use crate::built::{implications, pigeons};
 use crate::drawn::put_drawn;
 use crate::edges::right_budgets;
+use crate::kept::put_formulas;
+use cdcl_core::Turns;
 use lk_model::Formula;
 use lk_samples::{formula_of_text, positions, set_of};
 use std::alloc::{AllocError, Global};
@@ -119,6 +124,12 @@ fn put_chain(alloc: Global, text: &str, out: &mut String) -> Result<(), Fail> {
     put_whole(alloc, &f, 1, out)
 }
 
+/// The lengths of turns that a text has.
+fn lengths_of(text: &str) -> (u64, u64) {
+    let (first, further) = text.split_once(" ").unwrap_or((text, ""));
+    (u64::from(number_of(first)), u64::from(number_of(further)))
+}
+
 /// The way that a text has.
 fn way_of(text: &str) -> Way {
     let (word, text) = text.split_once(" ").unwrap_or((text, ""));
@@ -132,11 +143,12 @@ fn way_of(text: &str) -> Way {
             last: text == "last",
         },
         "turns" => {
-            let (first, further) = text.split_once(" ").unwrap_or((text, ""));
-            Way::Turns {
-                first: u64::from(number_of(first)),
-                further: u64::from(number_of(further)),
-            }
+            let (first, further) = lengths_of(text);
+            Way::Turns { first, further }
+        }
+        "twice" => {
+            let (first, further) = lengths_of(text);
+            Way::Twice { first, further }
         }
         _ => Way::Usual,
     }
@@ -201,6 +213,22 @@ fn put_turns(alloc: Global, text: &str, out: &mut String) -> Result<(), Fail> {
     Ok(())
 }
 
+/// Decides formulas by turns that keep values: `NAME | VARS | FIRST | FURTHER | LEFT | CLAUSES | CLAUSES ..`.
+fn put_kept(alloc: Global, text: &str, out: &mut String) -> Result<(), Fail> {
+    let (name, text) = part_of(text);
+    let (vars, text) = part_of(text);
+    let (first, text) = part_of(text);
+    let (further, text) = part_of(text);
+    let (left, formulas) = part_of(text);
+    writeln!(out, "== {}", name.trim())?;
+    let n = number_of(vars);
+    let first = u64::from(number_of(first));
+    let further = u64::from(number_of(further));
+    let mut turns = Turns::keeping(alloc, n, first, further)?;
+    let left = u64::from(number_of(left));
+    put_formulas(alloc, n, &mut turns, left, formulas, out)
+}
+
 /// Prints what a line asks for.
 fn put_line(alloc: Global, line: &str, out: &mut String) -> Result<(), Fail> {
     let (kind, text) = part_of(line);
@@ -212,6 +240,7 @@ fn put_line(alloc: Global, line: &str, out: &mut String) -> Result<(), Fail> {
         "drawn" => put_seed(alloc, text, out),
         "orders" => put_order(alloc, text, out),
         "turns" => put_turns(alloc, text, out),
+        "kept" => put_kept(alloc, text, out),
         _ => Err(Fail::from("no such line")),
     }
 }

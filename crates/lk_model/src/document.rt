@@ -139,11 +139,25 @@ pub struct OpenDocument {
     pub texts: Formula,
 }
 
-/// Literals that satisfy each clause of a minimally unsatisfiable core but the one at a position.
+/// Literals that satisfy each clause of a minimally unsatisfiable core but the one at a position, ascending by
+/// variable.
 #[derive(Drop)]
 pub struct Without {
     pub pos: u32,
     pub lits: List<Lit>,
+}
+
+/// What is written of a minimally unsatisfiable core: the numbers of variables and clauses of the formula, the
+/// core's positions, ascending, a refutation by chains over its clauses alone, for each of its positions
+/// literals that satisfy every other clause of the core, and the clauses of the core.
+#[derive(Drop)]
+pub struct MusAnswer {
+    pub vars: u32,
+    pub clauses: u32,
+    pub core: List<u32>,
+    pub round: Round,
+    pub without: List<Without>,
+    pub texts: Formula,
 }
 
 /// A document.

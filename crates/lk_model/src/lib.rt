@@ -21,8 +21,8 @@ pub use budget::Budget;
 pub use class::Class;
 pub use crossed::{Crossed, VarSet};
 pub use document::{
-    Body, Document, DoneDocument, Dual, MatchRow, OpenDocument, Own, Pair, Round, Share, Stage,
-    Step, Turn, Unit, Weight, Without,
+    Body, Document, DoneDocument, Dual, MatchRow, MusAnswer, OpenDocument, Own, Pair, Round, Share,
+    Stage, Step, Turn, Unit, Weight, Without,
 };
 pub use formula::{Formula, FormulaError, MAX_CLAUSES, MAX_LITERALS, MAX_VARS, rise_within};
 pub use laws::{fault_law, gcd_law, lcm_law, reached_law, reading_law};

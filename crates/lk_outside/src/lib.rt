@@ -13,6 +13,7 @@ mod files;
 pub mod gate;
 pub mod memory_shelf;
 pub mod memory_sink;
+mod retries;
 pub mod shelf;
 pub mod sink;
 pub mod std_ends;

@@ -4,6 +4,7 @@ ghost use Rattle.lk_outside.specs.Causes.{HasCause, TellsTheSame};
 ghost use Rattle.lk_outside.specs.Reads.{ReadTakes};
 ghost use Rattle.lk_outside.specs.Calls.{faults_after};
 
+use crate::retries::{read_retrying, write_retrying};
 use crate::shelf::{Failed, Shelf, StartStop};
 use crate::sink::Sink;
 use crate::tally::Tally;
@@ -89,7 +90,8 @@ impl<'a, R: Files> Shelf for FileShelf<'a, R> {
         }
     }
 
-    /// Fails where the system's read does. Exactly then one more fault is counted.
+    /// Fails where the system's read does. Exactly then one more fault is counted. A read that a
+    /// signal interrupted is made again, up to 2^64 - 1 times.
     fn read(&mut self, piece: &mut [u8]) -> Result<usize, Failed>
         requires started { IsTrue (is_some self.old.file) }
         requires room { 0 < length piece.old }
@@ -109,7 +111,7 @@ impl<'a, R: Files> Shelf for FileShelf<'a, R> {
         let Some(file) = &mut self.file else {
             return Ok(0)
         };
-        match file.read(piece) {
+        match read_retrying(file, piece) {
             Ok(count) => {
                 self.tally.note(false);
                 Ok(count)
@@ -149,7 +151,7 @@ impl<W: Write> Sink for StdSink<W> {
     ghost faults = { λ s. s.tally.faults };
 
     /// Fails where the stream's write does, or takes nothing. Exactly then one more fault is
-    /// counted.
+    /// counted. A write that a signal interrupted is made again, up to 2^64 - 1 times.
     fn write(&mut self, piece: &[u8]) -> Result<usize, Failed>
         requires { 0 < length piece.now }
         ensures exact { self.new.tally.faults ≡
@@ -157,7 +159,7 @@ impl<W: Write> Sink for StdSink<W> {
         ensures count { IfOk result (λ k. (0 < k) × (k ≤ length piece.now)) }
         ensures cause { HasCause self.old.tally.faults self.new.tally.faults (IsErr result) }
     {
-        match self.stream.write(piece) {
+        match write_retrying(&mut self.stream, piece) {
             Ok(count) if 0 < count => {
                 self.tally.note(false);
                 Ok(count)

@@ -52,15 +52,20 @@ pub fn decide_part(
         part,
         names: &names,
     };
-    match decide_clauses(alloc, &dense, conflicts)? {
+    match decide_clauses(alloc, &dense, &mut Turns::new(), conflicts)? {
         Decision::Model(set) => Ok(Decision::Model(renaming.literals(set))),
         Decision::Refuted(round) => Ok(Decision::Refuted(renaming.only(alloc, round)?)),
         Decision::Stopped(round) => Ok(Decision::Stopped(renaming.only(alloc, round)?)),
     }
 }
 
-// The same of all clauses of a formula.
-fn decide_clauses(alloc: Global, f: &Formula, conflicts: Budget) -> Result<Decision, OutOfMemory>
+/// The same of all clauses of a formula, in tables as long as it is, by two orders that take turns.
+pub fn decide_clauses(
+    alloc: Global,
+    f: &Formula,
+    turns: &mut Turns,
+    conflicts: Budget,
+) -> Result<Decision, OutOfMemory>
     requires { IsTrue (are_filled f.now (positions_of f.now)) }
     ensures { IfOk result (IsDecision f.now (positions_of f.now) conflicts) }
 {
@@ -72,9 +77,9 @@ fn decide_clauses(alloc: Global, f: &Formula, conflicts: Budget) -> Result<Decis
         part: all.as_slice(),
         blocked: &blocked,
     };
-    match decide_by_turns(alloc, &over, &mut Turns::new(), next, conflicts.get())? {
+    match decide_by_turns(alloc, &over, turns, next, conflicts.get())? {
         Decided::Sat(values) => Ok(Decision::Model(set_of(alloc, f, all.as_slice(), &values)?)),
         Decided::Refuted(log) => Ok(Decision::Refuted(log.trim(next)?)),
-        Decided::Stopped(log) => Ok(Decision::Stopped(log.into_round())),
+        Decided::Stopped(log) => Ok(Decision::Stopped(log.into_round()?)),
     }
 }

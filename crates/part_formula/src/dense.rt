@@ -15,7 +15,7 @@ use std::alloc::Global;
 
 /// The clauses at the positions, in their order, over as many variables as there are names. A variable
 /// has the place of its name for its number.
-pub(crate) fn dense_formula(
+pub fn dense_formula(
     alloc: Global,
     f: &Formula,
     part: &[u32],

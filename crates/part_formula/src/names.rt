@@ -9,7 +9,7 @@ use lk_model::{Formula, Lit, OutOfMemory};
 use std::alloc::Global;
 
 /// The variables of the clauses at the positions, ascending, each once.
-pub(crate) fn names_of(alloc: Global, f: &Formula, part: &[u32]) -> Result<Vec<u32>, OutOfMemory>
+pub fn names_of(alloc: Global, f: &Formula, part: &[u32]) -> Result<Vec<u32>, OutOfMemory>
     requires formula { IsTrue (is_formula f.now) }
     requires part { IsTrue (are_positions f.now part.now) }
     ensures { IfOk result (λ names. AreNames f.now part.now names.items) }

@@ -14,7 +14,7 @@ use std::mem;
 
 /// The numbers of the whole formula.
 #[derive(Drop)]
-pub(crate) struct Renaming<'a> {
+pub struct Renaming<'a> {
     /// How many clauses it has. Steps are numbered behind them.
     pub clauses: u64,
     /// The positions of the part's clauses.
@@ -23,8 +23,8 @@ pub(crate) struct Renaming<'a> {
     pub names: &'a [u32],
 }
 
-// What stands at a place that counts from 1, and 0 where nothing does.
-fn nth(numbers: &[u32], place: u64) -> u32
+/// What stands at a place that counts from 1, and 0 where nothing does.
+pub fn nth(numbers: &[u32], place: u64) -> u32
     ensures { result ≡ nth numbers.now place }
 {
     match numbers.get(place.saturating_sub(1) as usize) {
@@ -158,8 +158,8 @@ impl<'a> Renaming<'a> {
         })
     }
 
-    // The positions of clauses.
-    fn positions(&self, kept: List<u32>) -> List<u32>
+    /// The positions of clauses.
+    pub fn positions(&self, kept: List<u32>) -> List<u32>
         ensures { result ≡ map (nth self.now.part.now) kept }
     {
         let mut kept = kept.into_vec();

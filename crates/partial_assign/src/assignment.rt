@@ -6,6 +6,7 @@ ghost use Rattle.lk_model.specs.Held.PartialValues.{assignment_by, with_true};
 ghost use Rattle.lk_model.specs.Formulas.Assignment.{first_unsatisfied, makes_true, satisfies, touches};
 ghost use Rattle.lk_model.specs.Formulas.Autarky.{IsAutarky};
 ghost use Rattle.lk_model.specs.Formulas.Lean.{all_of};
+ghost use Rattle.lk_model.specs.Formulas.Minimal.{with_made_true};
 
 use lk_model::{Formula, Lit, OutOfMemory};
 use std::alloc::Global;
@@ -61,6 +62,16 @@ impl Partial {
         ensures set { assignment_by self.new (variable l) ≡ Some (is_positive l) }
         ensures others { (v : ℕ) → v ≢ variable l
             → assignment_by self.new v ≡ assignment_by self.old v }
+    {
+        self.make_true(l);
+    }
+
+    /// Makes a literal true, whatever value its variable had. It takes no memory.
+    pub fn make_true(&mut self, l: Lit)
+        requires { IsTrue (is_literal (length self.old) l) }
+        ensures value { self.new ≡ with_true self.old l }
+        ensures vars { length self.new ≡ length self.old }
+        ensures assignment { (v : ℕ) → assignment_by self.new v ≡ with_made_true (assignment_by self.old) l v }
     {
         self.values[l.var() as usize - 1] = Some(l.positive());
     }

@@ -10,11 +10,11 @@ use Rattle.lk_model.specs.Chains.Rounds.{reached}
 use Rattle.lk_model.specs.declared.document.Turn.{Turn}
 use Rattle.lk_model.specs.declared.document.Step.{Step}
 use Rattle.refutation_log.specs.declared.reach.Marks.{Marks}
-use Rattle.refutation_log.specs.Marks.{AreMarks, HaveSameShape}
+use Rattle.refutation_log.specs.Marks.{AreMarks, HaveSameShape, names_at}
 use Rattle.refutation_log.specs.Derivation.{are_numbered, names_lower}
 use Rattle.refutation_log.proofs.Steps.{number_get}
 use Rattle.lk_model.proofs.Booleans.{and_true}
-use Rattle.lk_model.proofs.ListTests.{all_weaker}
+use Rattle.lk_model.proofs.ListTests.{all_weaker, all_at}
 
 pub among_append : (ns ms : List ℕ) (k : ℕ) → among (ns ++ ms) k ≡ (among ns k || among ms k)
 among_append ns ms k = list_any-append (λ n. n == k) ns ms
@@ -64,6 +64,26 @@ pub names_below : (s : Step) (bound : ℕ) → names_lower s ≡ true → s.numb
 names_below s bound lower le =
     all_weaker (λ k. nat_lt k s.number) (λ k. nat_lt k bound) (λ k t. (let below = leb-true (suc k) s.number t in le-leb (suc k) bound (omega arith))) (names_of s) lower
 
+-- the names at a place are those of the step there
+pub names_there : (steps : List Step) (at : ℕ) (s : Step) → at < length steps → s ≡ get_or steps at s → names_at steps at ≡ names_of s
+names_there [] at s lt e = absurd (omega arith)
+names_there (t ∷ steps) zero s lt e = ap names_of (sym e)
+names_there (t ∷ steps) (suc at) s lt e = names_there steps at s (omega arith) e
+
+-- a step that stands at no place
+no_step : Step
+no_step = record { number = 0; clause = []; first = 0; turns = [] }
+
+-- names at a place are below what the number there is at most
+pub names_at_below : (first : ℕ) (steps : List Step) (at bound : ℕ) → are_numbered first steps ≡ true → list_all names_lower steps ≡ true
+    → at < length steps → first + at ≤ bound → list_all (λ k. nat_lt k bound) (names_at steps at) ≡ true
+names_at_below first steps at bound numbers lower lt le =
+    let s = get_or steps at no_step in
+    let e : s ≡ get_or steps at s = get_or_default steps at no_step s lt in
+    let number = number_get first steps at s numbers lt e in
+    rw (names_there steps at s lt e)
+    (names_below s bound (subst (λ (u : Step). names_lower u ≡ true) (sym e) (all_at names_lower steps at s lower lt)) (omega (arith, number, le)))
+
 -- what is reached before a list that is not empty
 pub at_rest : (s : Step) (later : List Step) → 0 < length later
     → reached (s ∷ later) ≡ cond (among (reached later) s.number) (names_of s ++ reached later) (reached later)
@@ -94,23 +114,25 @@ pub read_mark : (marks : List Bool) (i : ℕ) (x b : Bool) → i < length marks 
 read_mark marks i x b lt e is = get_or_default marks i false x lt ∙ sym e ∙ is
 
 -- the marks with those of one step more
-pub more_marked : (steps : List Step) (at : ℕ) (s : Step) (m n : Marks) → are_numbered m.first steps ≡ true → length m.steps.items ≡ length steps
-    → 0 < at → at < length steps → s ≡ get_or steps (at - 1) s
+pub more_marked : (steps : List Step) (at : ℕ) (m n : Marks) → are_numbered m.first steps ≡ true → length m.steps.items ≡ length steps
+    → 0 < at → at < length steps
     → slice_index_or m.steps.items (at - 1) false ≡ true → AreMarks (reached (drop at steps)) m
-    → ((known : List ℕ) → AreMarks known m → AreMarks (names_of s ++ known) n) → AreMarks (reached (drop (at - 1) steps)) n
-more_marked steps at s m n numbers count lt within e marked h step =
+    → ((known : List ℕ) → AreMarks known m → AreMarks (names_at steps (at - 1) ++ known) n) → AreMarks (reached (drop (at - 1) steps)) n
+more_marked steps at m n numbers count lt within marked h step =
+    let s = get_or steps (at - 1) no_step in
+    let e : s ≡ get_or steps (at - 1) s = get_or_default steps (at - 1) no_step s (omega arith) in
     let number : s.number ≡ m.first + (at - 1) = number_get m.first steps (at - 1) s numbers (omega arith) e in
     let known : among (reached (drop at steps)) s.number ≡ true = rw number (sym (h.steps (at - 1) (omega arith)) ∙ marked) in
-    rw (reached_more steps at s lt within e, known) (step (reached (drop at steps)) h)
+    rw (reached_more steps at s lt within e, known)
+    (subst (λ (ns : List ℕ). AreMarks (ns ++ reached (drop at steps)) n) (names_there steps (at - 1) s (omega arith) e) (step (reached (drop at steps)) h))
 
 pub none_marked : (steps : List Step) (at : ℕ) (m : Marks) → are_numbered m.first steps ≡ true → length m.steps.items ≡ length steps
     → 0 < at → at < length steps
     → slice_index_or m.steps.items (at - 1) false ≡ false → AreMarks (reached (drop at steps)) m
     → AreMarks (reached (drop (at - 1) steps)) m
 none_marked steps at m numbers count lt within marked h =
-    let d : Step = record { number = 0; clause = []; first = 0; turns = [] } in
-    let s = get_or steps (at - 1) d in
-    let e : s ≡ get_or steps (at - 1) s = get_or_default steps (at - 1) d s (omega arith) in
+    let s = get_or steps (at - 1) no_step in
+    let e : s ≡ get_or steps (at - 1) s = get_or_default steps (at - 1) no_step s (omega arith) in
     let number : s.number ≡ m.first + (at - 1) = number_get m.first steps (at - 1) s numbers (omega arith) e in
     let known : among (reached (drop at steps)) s.number ≡ false = rw number (sym (h.steps (at - 1) (omega arith)) ∙ marked) in
     rw (reached_more steps at s lt within e, known) h
@@ -125,9 +147,15 @@ last_reached steps s some e =
     ∙ ap (λ us. s ∷ us) (drop_all (length steps - 1 + 1) steps (omega arith)) in
     ap reached here
 
-pub last_marked : (steps : List Step) (s : Step) (m : Marks) → 0 < length steps → s ≡ get_or steps (length steps - 1) s
-    → AreMarks (names_of s ++ s.number ∷ []) m → AreMarks (reached (drop (length steps - 1) steps)) m
-last_marked steps s m some e h =
+pub last_marked : (first : ℕ) (steps : List Step) (m : Marks) → are_numbered first steps ≡ true → 0 < length steps
+    → AreMarks (names_at steps (length steps - 1) ++ (first + (length steps - 1)) ∷ []) m → AreMarks (reached (drop (length steps - 1) steps)) m
+last_marked first steps m numbers some marked =
+    let s = get_or steps (length steps - 1) no_step in
+    let e : s ≡ get_or steps (length steps - 1) s = get_or_default steps (length steps - 1) no_step s (omega arith) in
+    let number = number_get first steps (length steps - 1) s numbers (omega arith) e in
+    let h : AreMarks (names_of s ++ s.number ∷ []) m =
+    subst (λ (k : ℕ). AreMarks (names_of s ++ k ∷ []) m) (sym number)
+    (subst (λ (ns : List ℕ). AreMarks (ns ++ (first + (length steps - 1)) ∷ []) m) (names_there steps (length steps - 1) s (omega arith) e) marked) in
     rw (last_reached steps s some e) (AreMarks-same (names_of s ++ s.number ∷ []) (s.number ∷ names_of s) m
     (λ k. among_append (names_of s) (s.number ∷ []) k ∙ moved (among (names_of s) k) (s.number == k)) h)
   where

@@ -58,6 +58,15 @@ numbered_more first (t ∷ steps) s n e =
     let h = head_number first t steps n in
     rw (eq-eqb t.number first h.0) (numbered_more (first + 1) steps s h.1 (omega (arith, e)))
 
+-- there is one of each number from the first one on
+pub stands_within : (first : ℕ) (steps : List Step) (k : ℕ) → are_numbered first steps ≡ true → first ≤ k → k < first + length steps
+    → IsSome (clause_of_step steps k)
+stands_within first steps k n le lt =
+    let d : Step = record { number = 0; clause = []; first = 0; turns = [] } in
+    let same : first + (k - first) ≡ k = omega arith in
+    let here = subst (λ j. find (λ (s : Step). s.number == j) steps ≡ Some (get_or steps (k - first) d)) same (found_at first steps (k - first) d n (omega arith)) in
+    rw here refl
+
 -- the clause of a step, read at its place
 pub clause_at_place : (first : ℕ) (steps : List Step) (k : ℕ) (d : Step) → are_numbered first steps ≡ true → first ≤ k → k < first + length steps
     → d ≡ get_or steps (k - first) d → clause_of_step steps k ≡ Some d.clause

@@ -1,4 +1,5 @@
 pub mod SameClause
+pub mod ShortTurns
 pub mod Derivation
 pub mod Trimmed
 pub mod Flagged

@@ -1,6 +1,8 @@
 -- Marks of numbers.
-use Rattle.std.specs.Prelude.{◌≡◌, ℕ, ◌+◌, ◌<◌, ◌≤◌, false, List, length, slice_index_or}
+use Rattle.std.specs.Prelude.{◌≡◌, ℕ, ◌+◌, ◌<◌, ◌≤◌, false, List, [], length, map, slice_index_or}
 use Rattle.lk_model.specs.Lists.{among}
+use Rattle.lk_model.specs.Chains.Chain.{names_of}
+use Rattle.lk_model.specs.declared.document.Step.{Step}
 use Rattle.refutation_log.specs.declared.reach.Marks.{Marks}
 
 -- Marked are the numbers of a list, as far as they are positions below the bound or numbers of steps.
@@ -20,3 +22,7 @@ pub record HaveShape (bound first count : ℕ) (marks : Marks) : Type 0 where
   pub first_is : marks.first ≡ first
   pub positions : length marks.positions.items ≡ bound
   pub steps : length marks.steps.items ≡ count
+
+-- what the chain of the step at a place names
+abbrev pub names_at : List Step → ℕ → List ℕ
+names_at steps at = slice_index_or (map names_of steps) at []

@@ -4,8 +4,8 @@ ghost use Rattle.std.specs.List.{list_all, range_with_len};
 ghost use Rattle.lk_model.specs.Chains.Rounds.{is_refutation, used_positions};
 ghost use Rattle.refutation_log.specs.Derivation.{first_number, are_numbered, names_lower, are_chains};
 
-use crate::reach::marks_of;
-use lk_model::{Crossed, List, OutOfMemory, Round, Step};
+use crate::reach::{Chains, marks_of};
+use lk_model::{Crossed, List, OutOfMemory, Round};
 use std::alloc::Global;
 
 /// The positions that a refutation uses, ascending: those that are reached backwards from its last
@@ -19,26 +19,25 @@ pub fn axioms_of(alloc: Global, over: &Crossed, round: &Round) -> Result<List<u3
     requires past { length over.now.formula.now.clauses < first_number round.now.steps }
     ensures { IfOk result (λ ps. ps ≡ used_positions over.now.formula.now round.now) }
 {
-    let steps = round.steps.as_slice();
-    let first = match steps.first() {
+    let first = match round.steps.as_slice().first() {
         Some(step) => step.number,
         None => return Ok(List::new(alloc)),
     };
-    positions_used(alloc, over, first, steps)
+    positions_used(alloc, over, first, round)
 }
 
 /// The positions that steps use, ascending: those that are reached backwards from the last one. The steps
 /// are numbered from `first` on, above the number of the formula's clauses, and name lower numbers.
-pub(crate) fn positions_used(
+pub(crate) fn positions_used<S: Chains>(
     alloc: Global,
     over: &Crossed,
     first: u64,
-    steps: &[Step],
+    steps: &S,
 ) -> Result<List<u32>, OutOfMemory>
-    requires numbers { IsTrue (are_numbered first steps.now) }
-    requires names { IsTrue (list_all names_lower steps.now) }
+    requires numbers { IsTrue (are_numbered first (S.steps steps.now)) }
+    requires names { IsTrue (list_all names_lower (S.steps steps.now)) }
     requires past { length over.now.formula.now.clauses < first }
-    ensures { IfOk result (λ ps. ps ≡ used_positions over.now.formula.now (record { steps = steps.now })) }
+    ensures { IfOk result (λ ps. ps ≡ used_positions over.now.formula.now (record { steps = S.steps steps.now })) }
 {
     let bound = over.formula.len() as usize + 1;
     let marks = marks_of(alloc, bound, first, steps)?;

@@ -5,8 +5,10 @@ mod axioms;
 mod chain_clause;
 mod laws;
 mod log;
+mod logged_step;
 mod numbers;
 mod reach;
+mod turns;
 mod work;
 
 pub use axioms::axioms_of;

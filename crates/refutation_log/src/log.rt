@@ -8,7 +8,7 @@
 //!
 //! Here each turn names the literal on which it resolves, so that nothing is searched; the clauses of a formula may
 //! have literals crossed out; and no step is ever deleted, so a step's place is its number less the first one.
-ghost use Rattle.std.specs.Prelude.{◌≡◌, ◌-◌, ◌<◌, ◌≤◌, ◌^◌, ◌∷◌, [], Some, length, IfOk, OnOk, OnErr, IsTrue, IsSome};
+ghost use Rattle.std.specs.Prelude.{◌≡◌, ◌-◌, ◌<◌, ◌≤◌, ◌^◌, ◌∷◌, ◌↔◌, [], Some, length, IfOk, OnOk, OnErr, IsTrue, IsSome};
 ghost use Rattle.lk_model.specs.Held.VariableSets.{IsCrossed};
 ghost use Rattle.lk_model.specs.Held.VariableSets.{premises_of};
 ghost use Rattle.lk_model.specs.Chains.Chain.{clause_named, after_turns, chain_clause};
@@ -19,10 +19,11 @@ ghost use Rattle.refutation_log.specs.SameClause.{IsSameClause};
 
 use crate::axioms::positions_used;
 use crate::chain_clause::FlaggedClause;
+use crate::logged_step::{LoggedStep, logged, unlogged};
 use crate::numbers::{kept_steps, new_numbers};
 use crate::reach::marks_of;
 use crate::work::Work;
-use lk_model::{Crossed, List, Lit, OutOfMemory, Round, Step, Turn};
+use lk_model::{Crossed, List, Lit, OutOfMemory, Round, Turn};
 use std::alloc::Global;
 use std::marker::Model;
 use std::mem;
@@ -32,7 +33,7 @@ use std::mem;
 #[derive(Drop)]
 pub struct Log {
     first: u64,
-    steps: Vec<Step>,
+    steps: Vec<LoggedStep>,
     // The clause of the chain that was pushed last; its flags serve the next one.
     flagged: FlaggedClause,
 }
@@ -61,16 +62,16 @@ impl Log {
     }
 
     /// The log whose steps, numbered from `first` on, are those of a round, as `into_round` gives them.
-    pub fn from_round(alloc: Global, first: u64, round: Round) -> Log
+    pub fn from_round(alloc: Global, first: u64, round: Round) -> Result<Log, OutOfMemory>
         requires log { IsLog first round.steps }
-        ensures first { result.first ≡ first }
-        ensures steps { result.steps ≡ round.steps }
+        ensures first { IfOk result (λ log. log.first ≡ first) }
+        ensures steps { IfOk result (λ log. log.steps ≡ round.steps) }
     {
-        Log {
+        Ok(Log {
             first,
-            steps: round.steps.into_vec(),
+            steps: logged(alloc, round.steps.into_vec())?,
             flagged: FlaggedClause::new(alloc),
-        }
+        })
     }
 
     /// The number of the first step.
@@ -80,11 +81,19 @@ impl Log {
         self.first
     }
 
-    /// The steps so far.
-    pub fn steps(&self) -> &[Step]
-        ensures { result.now ≡ self.now.steps }
+    /// How many steps there are.
+    pub fn len(&self) -> usize
+        ensures count { result ≡ length self.now.steps }
+        ensures log { IsLog self.now.first self.now.steps }
     {
-        self.steps.as_slice()
+        self.steps.len()
+    }
+
+    /// Whether there is a step of this number.
+    pub fn has(&self, k: u64) -> bool
+        ensures { IsTrue result ↔ IsSome (clause_of_step self.now.steps k) }
+    {
+        k >= self.first && k - self.first < self.steps.len() as u64
     }
 
     /// Appends the step with the clause of a chain, and answers its number, which must be below
@@ -113,12 +122,8 @@ impl Log {
         self.flagged = flagged;
         let clause = clause?;
         let number = self.first + self.steps.len() as u64;
-        let step = Step {
-            number,
-            clause: self.copy_of(clause.as_slice())?,
-            first,
-            turns: self.copy_of(turns)?,
-        };
+        let alloc = *self.steps.allocator();
+        let step = LoggedStep::new(alloc, number, clause.as_slice(), first, turns)?;
         self.steps.push(step)?;
         Ok(number)
     }
@@ -130,7 +135,7 @@ impl Log {
         ensures order { IsTrue (is_ascending result.now) }
         ensures log { IsLog self.now.first self.now.steps }
     {
-        self.steps[self.steps.len() - 1].clause.as_slice()
+        self.steps[self.steps.len() - 1].clause()
     }
 
     /// The clause of the step of a number, in order. There must be such a step.
@@ -140,7 +145,7 @@ impl Log {
         ensures order { IsTrue (is_ascending result.now) }
         ensures log { IsLog self.now.first self.now.steps }
     {
-        self.steps[(k - self.first) as usize].clause.as_slice()
+        self.steps[(k - self.first) as usize].clause()
     }
 
     /// The positions that the steps use, ascending: those that are reached backwards from the last one.
@@ -153,13 +158,14 @@ impl Log {
     }
 
     /// All steps.
-    pub fn into_round(self) -> Round
-        ensures steps { result.steps ≡ self.steps }
+    pub fn into_round(self) -> Result<Round, OutOfMemory>
+        ensures steps { IfOk result (λ r. r.steps ≡ self.steps) }
         ensures log { IsLog self.first self.steps }
     {
-        Round {
-            steps: List::from_vec(self.steps),
-        }
+        let alloc = *self.steps.allocator();
+        Ok(Round {
+            steps: List::from_vec(unlogged(alloc, self.steps)?),
+        })
     }
 
     /// The steps that are reached backwards from the last one, in their order, and numbered from
@@ -237,13 +243,5 @@ impl Log {
         } else {
             flagged.resolve(turn.lit, self.clause(turn.with))
         }
-    }
-
-    // A list of the same items.
-    fn copy_of<T: Copy + Drop>(&self, items: &[T]) -> Result<List<T>, OutOfMemory>
-        ensures { IfOk result (λ l. l ≡ items.now) }
-    {
-        let copy = Vec::from_slice(*self.steps.allocator(), items)?;
-        Ok(List::from_vec(copy))
     }
 }

@@ -7,6 +7,7 @@ ghost use Rattle.refutation_log.specs.Trimmed.{with_numbers};
 ghost use Rattle.refutation_log.specs.Numbers.{number_in, is_marked, AreNewNumbers};
 ghost use Rattle.refutation_log.specs.Derivation.{are_numbered, names_lower};
 
+use crate::logged_step::LoggedStep;
 use lk_model::{List, OutOfMemory, Step, Turn};
 use std::alloc::Global;
 
@@ -30,7 +31,7 @@ pub(crate) fn new_numbers(alloc: Global, kept: &[bool], next: u64) -> Result<Vec
 /// The steps with a mark, with new numbers.
 pub(crate) fn kept_steps(
     alloc: Global,
-    steps: Vec<Step>,
+    steps: Vec<LoggedStep>,
     first: u64,
     marks: &[bool],
     numbers: &[u64],
@@ -43,7 +44,8 @@ pub(crate) fn kept_steps(
 {
     let mut kept = List::new(alloc);
     for step in steps {
-        if marks[(step.number - first) as usize] {
+        if marks[(step.number() - first) as usize] {
+            let step = step.into_step(alloc)?;
             kept.push(with_new_numbers(step, first, numbers))?;
         }
     }

@@ -1,4 +1,4 @@
--- The lines of a document before its problem line are comments.
+-- The lines of a document and of a core before the problem line are comments.
 use Rattle.std.proofs.Common.{◌≡◌, ℕ, ◌∙◌, Bool, true, List, [], ◌∷◌, ◌++◌, map, flat_map, refl, ℤ, Option, Some, None, codes}
 use Rattle.std.specs.List.{list_all}
 use Rattle.std.specs.Fmt.{decimal, signed_decimal}
@@ -7,6 +7,7 @@ use Rattle.std.proofs.lemmas.List.Folds.{list_all-append}
 use Rattle.lk_model.specs.Texts.Lines.{Word}
 use Rattle.lk_model.specs.Texts.PlainText.{ended, literal_words, number_words}
 use Rattle.lk_model.specs.Documents.Text.{comment, pair_line, own_line, row_line, stage_line, dual_line, unit_line, step_line, round_lines, class_word, class_lines, version, protect_lines, first_lines}
+use Rattle.lk_model.specs.Documents.CoreText.{core_line, without_line}
 use Rattle.lk_model.specs.declared.class.Class.{Class}
 use Rattle.lk_model.specs.declared.class.Class.TheVariants as class
 use Rattle.lk_model.specs.declared.document.Weight.{Weight}
@@ -16,6 +17,7 @@ use Rattle.lk_model.specs.declared.document.Unit.{Unit}
 use Rattle.lk_model.specs.declared.document.Turn.{Turn}
 use Rattle.lk_model.specs.declared.document.Step.{Step}
 use Rattle.lk_model.specs.declared.document.Round.{Round}
+use Rattle.lk_model.specs.declared.document.Without.{Without}
 use Rattle.lk_model.specs.declared.document.Body.{Body}
 use Rattle.lk_model.specs.declared.document.Body.TheVariants.{Pure, Matching, Linear, General}
 use Rattle.text_laws.proofs.Words.{is_word, are_words}
@@ -83,12 +85,12 @@ step_comment s =
     (words_join (literal_words s.clause) (decimal s.first ∷ ended words) (words_ended (map signed_decimal s.clause) (words_signed s.clause))
     (word_more (decimal s.first) (ended words) (decimal_word s.first) turns)))
 
+pub round_comments : (r : Round) → are_comments (round_lines r) ≡ true
+round_comments r = comment_more (comment (codes "round") []) (map step_line r.steps) refl (comments_each step_line step_comment r.steps)
+
 pub rounds_comments : (rounds : List Round) → are_comments (flat_map round_lines rounds) ≡ true
 rounds_comments [] = refl
-rounds_comments (r ∷ rounds) =
-    comments_join (round_lines r) (flat_map round_lines rounds)
-    (comment_more (comment (codes "round") []) (map step_line r.steps) refl (comments_each step_line step_comment r.steps))
-    (rounds_comments rounds)
+rounds_comments (r ∷ rounds) = comments_join (round_lines r) (flat_map round_lines rounds) (round_comments r) (rounds_comments rounds)
 
 -- THE PARTS OF A DOCUMENT
 
@@ -140,3 +142,16 @@ first_comments word n m protect h =
     (comment_more (comment (codes "formula") (number_words (n ∷ m ∷ []))) (protect_lines protect)
     (comment_of (codes "formula") (number_words (n ∷ m ∷ [])) refl (words_natural (n ∷ m ∷ [])))
     (protect_comments protect))
+
+-- THE PARTS OF A CORE
+
+pub core_comment : (core : List ℕ) → is_comment_line (core_line core) ≡ true
+core_comment core = comment_of (codes "core") (ended (number_words core)) refl (words_ended (number_words core) (words_natural core))
+
+without_comment : (w : Without) → is_comment_line (without_line w) ≡ true
+without_comment w =
+    comment_of (codes "without") (decimal w.pos ∷ literal_words w.lits) refl
+    (word_more (decimal w.pos) (literal_words w.lits) (decimal_word w.pos) (words_ended (map signed_decimal w.lits) (words_signed w.lits)))
+
+pub without_comments : (ws : List Without) → are_comments (map without_line ws) ≡ true
+without_comments ws = comments_each without_line without_comment ws

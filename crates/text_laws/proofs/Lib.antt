@@ -5,3 +5,4 @@ pub mod Runs
 pub mod Plain
 pub mod Comments
 pub mod Spelling
+pub mod CoreSpelling

@@ -51,7 +51,7 @@ text_parted d = concat_is (map line (document_lines d)) ∙ flat_map-map (λ bs.
 -- ITS CLAUSES
 
 -- so many clauses, and no more variables and clauses than the limits
-clause_lines : (n m count : ℕ) (F : Cnf) → is_size n m ≡ true → count ≤ m → are_clause_lines n count F ≡ true → (is_formula F ≡ true) × IsWithinLimits F
+pub clause_lines : (n m count : ℕ) (F : Cnf) → is_size n m ≡ true → count ≤ m → are_clause_lines n count F ≡ true → (is_formula F ≡ true) × IsWithinLimits F
 unfolding are_clause_lines
 clause_lines n m count F size few h =
     let p = and_true (F.vars == n && length F.clauses == count && is_formula F) (nat_le (literal_count F) 20000000) h in

@@ -1,5 +1,5 @@
 //! Laws over the definitions.
-ghost use Rattle.text_laws.specs.SpellsLaw.{PlainLaw, SpellsLaw};
+ghost use Rattle.text_laws.specs.SpellsLaw.{PlainLaw, SpellsLaw, CoreSpellsLaw};
 
 /// The plain text of a formula within the limits spells it, where it is not too long to be read.
 #[tactic(auto, using(crate::proofs::Plain::plain_law))]
@@ -11,4 +11,10 @@ pub fn plain_law()
 #[tactic(auto, using(crate::proofs::Spelling::spells_law))]
 pub fn spells_law()
     ensures { SpellsLaw }
+{}
+
+/// The text of a minimally unsatisfiable core in form spells the core's clauses, where it is not too long to be read.
+#[tactic(auto, using(crate::proofs::CoreSpelling::core_spells_law))]
+pub fn core_spells_law()
+    ensures { CoreSpellsLaw }
 {}

@@ -3,4 +3,4 @@
 
 mod laws;
 
-pub use laws::{plain_law, spells_law};
+pub use laws::{core_spells_law, plain_law, spells_law};

@@ -16,7 +16,7 @@ use Rattle.watch_prop.specs.declared.state.State.{State}
 use Rattle.watch_prop.specs.Trail.{Path, entry_of, present_level, up_to_level, clause_numbered, forces, has_reason, may_come, may_follow, is_path, is_trail}
 use Rattle.watch_prop.specs.declared.watch.Watch.{Watch}
 use Rattle.watch_prop.specs.Watchers.{Watchers}
-use Rattle.watch_prop.specs.Linked.{IsLinked}
+use Rattle.watch_prop.specs.Linked.{IsLinked, AreBlocked}
 use Rattle.watch_prop.specs.Propagation.{Propagation, IsPropagation, GoesOn, assigned, is_quiet}
 use Rattle.lk_model.specs.Formulas.Units.{is_false, is_unit}
 use Rattle.watch_prop.specs.States.{IsState, IsKnown, IsKnownBelow, AreUpheld, Leads, Passes, propagation_of, mark_at, unseen}
@@ -183,6 +183,7 @@ opened_state clauses path path' s s' e o made =
         linked = subst (λ (ps : List ℕ). IsLinked path.vars clauses s'.watches.items s'.lists ps) (sym waiting)
             (subst (λ (ws : Vec Watch Global). IsLinked path.vars clauses ws.items s'.lists s.waiting.items) (sym o.watches)
             (subst (λ (ls : Watchers). IsLinked path.vars clauses s.watches.items ls s.waiting.items) (sym o.lists) old.linked));
+        blocked = subst (λ (ls : Watchers). AreBlocked clauses ls.rows) (sym o.lists) old.blocked;
         satisfied = (let same = ap length waiting in omega (arith, o.satisfied, old.satisfied, same));
         head = omega (arith, o.head, old.head, long);
         marks = omega (arith, count, more, old.marks, last, o.level);

@@ -11,6 +11,7 @@ use Rattle.lk_model.proofs.Booleans.{and_true, or_true, or_left, or_right}
 use Rattle.lk_model.proofs.Ranks.{rank_apart}
 use Rattle.lk_model.proofs.Literals.{same_int}
 use Rattle.lk_model.proofs.Lists.{drop_read}
+use Rattle.watch_prop.specs.declared.watcher_lists.Watcher.{Watcher}
 use Rattle.watch_prop.specs.Watchers.{count_of, with_counted}
 use Rattle.watch_prop.specs.KeptWatchers.{HasRoom}
 use Rattle.watch_prop.proofs.Roomy.{HaveRooms}
@@ -98,11 +99,11 @@ count_at counts (l ∷ c) r d h =
     ]
 
 -- the lists have room for a clause that is counted
-pub rooms_then : (lists : List (Vec ℕ Global)) (counts : List ℕ) (c : List ℤ) → is_distinct c ≡ true → HaveRanks c (length counts) → HaveRooms lists counts
-    → ((l : ℤ) (d : Vec ℕ Global) → contains c l ≡ true → count_of counts l < vec_capacity (get_or lists (rank_of l) d)) → HaveRooms lists (with_counted counts c)
+pub rooms_then : (lists : List (Vec Watcher Global)) (counts : List ℕ) (c : List ℤ) → is_distinct c ≡ true → HaveRanks c (length counts) → HaveRooms lists counts
+    → ((l : ℤ) (d : Vec Watcher Global) → contains c l ≡ true → count_of counts l < vec_capacity (get_or lists (rank_of l) d)) → HaveRooms lists (with_counted counts c)
 rooms_then lists counts c distinct ranks rooms room = record { each = λ r d lt. at r d (rooms.each r d lt) (count_at counts c r distinct ranks) }
   where
-    at : (r : ℕ) (d : Vec ℕ Global) → HasRoom (get_or lists r d) (get_or counts r 0) → IsCount counts c r → HasRoom (get_or lists r d) (get_or (with_counted counts c) r 0)
+    at : (r : ℕ) (d : Vec Watcher Global) → HasRoom (get_or lists r d) (get_or counts r 0) → IsCount counts c r → HasRoom (get_or lists r d) (get_or (with_counted counts c) r 0)
     at r d h (rises l there same e) =
         let low = h.0 in
         let wide : get_or counts r 0 < vec_capacity (get_or lists r d) = subst (λ (n : ℕ). get_or counts n 0 < vec_capacity (get_or lists n d)) same (room l d there) in

@@ -8,19 +8,18 @@ use Rattle.std.proofs.lemmas.Bool.{cases_Bool, cases_eq, cases_lt, not-true}
 use Rattle.std.proofs.lemmas.List.{get_or_read}
 use Rattle.lk_model.proofs.Booleans.{and_true, or_left, or_right}
 use Rattle.lk_model.proofs.ListTests.{passes_each, all_at}
-use Rattle.lk_model.proofs.Ranks.{literal_bounds}
 use Rattle.watch_prop.specs.declared.entry.Entry.{Entry}
 use Rattle.watch_prop.specs.declared.entry.NumberedClause.{NumberedClause}
 use Rattle.watch_prop.specs.declared.watch.Demand.TheVariants.{Move}
 use Rattle.watch_prop.specs.declared.state.State.{State}
 use Rattle.watch_prop.specs.Trail.{Path, true_in, false_in, forced_entry, with_forced, may_come, may_follow}
 use Rattle.watch_prop.specs.Watch.{other_of, IsDemand, false_at, all_false_but}
-use Rattle.watch_prop.specs.Watchers.{watchers}
+use Rattle.watch_prop.specs.Watchers.{places, row_of, watchers}
 use Rattle.watch_prop.specs.Linked.{clause_at_place, watch_at}
 use Rattle.watch_prop.specs.States.{IsState, Leads, IsAtHead}
-use Rattle.watch_prop.proofs.Truths.{same_true, false_apart, no_sign_twice}
+use Rattle.watch_prop.proofs.Truths.{same_true, false_apart}
 use Rattle.watch_prop.proofs.Lists.{among_at}
-use Rattle.watch_prop.proofs.Trails.{may_come_of, may_force, trail_path}
+use Rattle.watch_prop.proofs.Trails.{may_come_of, may_force}
 use Rattle.watch_prop.proofs.States.{MayMove, stays_leads, forced_leads}
 use Rattle.watch_prop.proofs.Settling.{head_false}
 use Rattle.watch_prop.proofs.Values.{last_true}
@@ -68,6 +67,7 @@ pub record Called (clauses : List NumberedClause) (path : Path) (s : State) (pla
   pub within : at < length (watchers s.lists.lists l)
   pub stands : get_or (watchers s.lists.lists l) at 0 ≡ place
   pub at_head : IsAtHead path.entries s.head l
+  pub row : places (row_of s.lists.rows l) ≡ watchers s.lists.lists l
 
 pub stands_there : (clauses : List NumberedClause) (path : Path) (s : State) (place : ℕ) (l : ℤ) (at : ℕ) → Called clauses path s place l at
     → InList path.vars clauses s.watches.items s.lists s.waiting.items l place
@@ -83,10 +83,10 @@ other_literal clauses path s place l at c =
 
 -- ANOTHER LITERAL WATCHED
 
-pub moves : (clauses : List NumberedClause) (path : Path) (s : State) (place : ℕ) (l r : ℤ) (at : ℕ) → Called clauses path s place l at
-    → IsDemand path.entries (clause_at_place clauses place).lits (other_of (watch_at s.watches.items place) l) (Move r)
+pub moves : (clauses : List NumberedClause) (path : Path) (s : State) (place : ℕ) (l r : ℤ) (found at : ℕ) → Called clauses path s place l at
+    → IsDemand path.entries (clause_at_place clauses place).lits (other_of (watch_at s.watches.items place) l) (Move r found)
     → IsMove path.vars clauses s.watches.items s.lists s.waiting.items place l r at
-moves clauses path s place l r at c d =
+moves clauses path s place l r found at c d =
     let i = stands_there clauses path s place l at c in
     let b = other_of (watch_at s.watches.items place) l in
     record {
@@ -100,17 +100,11 @@ moves clauses path s place l r at c d =
       not_other = false_apart r b (not-true _ d.1);
     }
 
-pub may_move : (clauses : List NumberedClause) (path : Path) (s : State) (place : ℕ) (l r : ℤ) (at : ℕ) → Called clauses path s place l at
-    → IsDemand path.entries (clause_at_place clauses place).lits (other_of (watch_at s.watches.items place) l) (Move r) → MayMove path.entries s place l r
-may_move clauses path s place l r at c d =
+pub may_move : (clauses : List NumberedClause) (path : Path) (s : State) (place : ℕ) (l r : ℤ) (found at : ℕ) → Called clauses path s place l at
+    → IsDemand path.entries (clause_at_place clauses place).lits (other_of (watch_at s.watches.items place) l) (Move r found) → MayMove path.entries s place l r
+may_move clauses path s place l r found at c d =
     let i = stands_there clauses path s place l at c in
-    let bounds = literal_bounds path.vars l c.literal in
-    record {
-      it = i.it;
-      no_truth = no_sign_twice path.vars path.entries l (trail_path path.vars clauses path.entries c.state.propagation.trail) (omega (arith, bounds.0))
-          (head_false path.entries s.head l c.at_head);
-      free = not-true _ d.2;
-    }
+    record { it = i.it; free = not-true _ d.2 }
 
 -- A LITERAL FORCED
 

@@ -14,13 +14,15 @@ use Rattle.watch_prop.specs.declared.entry.NumberedClause.{NumberedClause}
 use Rattle.watch_prop.specs.declared.watch.Watch.{Watch}
 use Rattle.watch_prop.specs.declared.state.State.{State}
 use Rattle.watch_prop.specs.Trail.{Path, present_level, up_to_level, is_trail}
-use Rattle.watch_prop.specs.Watch.{is_upheld}
+use Rattle.watch_prop.specs.declared.watcher_lists.Watcher.{Watcher}
+use Rattle.watch_prop.specs.Watch.{has_true, is_upheld}
 use Rattle.watch_prop.specs.Watchers.{with_counted}
-use Rattle.watch_prop.specs.Linked.{IsLinked, clause_at_place, watch_at}
+use Rattle.watch_prop.specs.Linked.{IsLinked, AreBlocked, clause_at_place, watch_at}
 use Rattle.watch_prop.specs.Propagation.{numbers_of}
-use Rattle.watch_prop.specs.States.{IsState, IsKnown, AreUpheld, propagation_of, mark_at, waiting_at, has_true}
+use Rattle.watch_prop.specs.States.{IsState, IsKnown, AreUpheld, propagation_of, mark_at, waiting_at}
 use Rattle.watch_prop.proofs.Trails.{holds_more}
 use Rattle.watch_prop.proofs.Lists.{among_at}
+use Rattle.watch_prop.proofs.Blocking.{blocked_more, blocked_none}
 use Rattle.watch_prop.proofs.Listing.{before, clause_before, watch_before, waits_linked, none_linked}
 
 pub ranks_within : (vars n : ℕ) (c : List ℤ) → n ≡ 2 * vars + 2 → list_all (is_literal vars) c ≡ true → list_all (λ l. nat_lt (rank_of l) n) c ≡ true
@@ -38,6 +40,7 @@ pub record Holds (clauses clauses' : List NumberedClause) (path : Path) (s s' : 
   pub more : clauses' ≡ clauses ++ d ∷ []
   pub watches : s'.watches.items ≡ s.watches.items ++ x ∷ []
   pub lists : s'.lists.lists ≡ s.lists.lists
+  pub rows : s'.lists.rows ≡ s.lists.rows
   pub counts : s'.lists.counts ≡ with_counted s.lists.counts d.lits
   pub waiting : s'.waiting.items ≡ s.waiting.items ++ length clauses ∷ []
   pub satisfied : s'.satisfied ≡ s.satisfied
@@ -58,7 +61,8 @@ held_upheld clauses clauses' path s s' d x trail passed count h le u = record {
       let within = b.within in
       let same : watch_at s'.watches.items p ≡ watch_at s.watches.items p =
       ap (λ (ws : List Watch). watch_at ws p) h.watches ∙ watch_before s.watches.items x p (omega (arith, within, old.linked.places)) in
-      subst (λ (y : Watch). is_upheld trail passed y ≡ true) (sym same) (u.ready p within b.ready);
+      subst (λ (y : Watch). is_upheld trail passed (clause_at_place (clauses ++ d ∷ []) p).lits y ≡ true) (sym same)
+      (subst (λ (c : NumberedClause). is_upheld trail passed c.lits (watch_at s.watches.items p) ≡ true) (sym (clause_before clauses d p within)) (u.ready p within b.ready));
 }
   where
     old : IsKnown path.vars clauses path.entries s
@@ -79,6 +83,7 @@ held_state clauses clauses' path s s' d x h =
       known = subst (λ (cs : List NumberedClause). IsKnown path.vars cs path.entries s') (sym h.more) (record {
         linked = subst (λ (ps : List ℕ). IsLinked path.vars (clauses ++ d ∷ []) s'.watches.items s'.lists ps) (sym h.waiting)
             (subst (λ (ws : List Watch). IsLinked path.vars (clauses ++ d ∷ []) ws s'.lists (s.waiting.items ++ length clauses ∷ [])) (sym h.watches) linked);
+        blocked = subst (λ (rows : List (List Watcher)). AreBlocked (clauses ++ d ∷ []) rows) (sym h.rows) (blocked_more clauses d s.lists.rows old.blocked);
         satisfied = omega (arith, h.satisfied, old.satisfied, count);
         head = omega (arith, h.head, old.head);
         marks = marks ∙ old.marks;
@@ -102,10 +107,10 @@ held_state clauses clauses' path s s' d x h =
 -- NO CLAUSE
 
 pub empty_state : (path : Path) (s : State) (clauses : List NumberedClause) → path.vars ≤ 1000000 → path.entries ≡ [] → clauses ≡ [] → s.watches.items ≡ [] → s.waiting.items ≡ []
-    → s.lists.lists ≡ replicate (2 * path.vars + 2) [] → s.lists.counts ≡ replicate (2 * path.vars + 2) 0 → s.satisfied ≡ 0 → s.head ≡ 0 → s.marks.items ≡ [] → path.vars ≤ vec_capacity s.marks
+    → s.lists.lists ≡ replicate (2 * path.vars + 2) [] → s.lists.rows ≡ replicate (2 * path.vars + 2) [] → s.lists.counts ≡ replicate (2 * path.vars + 2) 0 → s.satisfied ≡ 0 → s.head ≡ 0 → s.marks.items ≡ [] → path.vars ≤ vec_capacity s.marks
     → IsState clauses path s
 unfolding is_trail
-empty_state path s clauses few none no_clause watches waiting lists counts satisfied head marks room =
+empty_state path s clauses few none no_clause watches waiting lists rows counts satisfied head marks room =
     let count : length s.marks.items ≡ 0 = ap length marks in
     let level : present_level path.entries ≡ 0 = ap present_level none in
     subst (λ (cs : List NumberedClause). IsState cs path s) (sym no_clause) (record {
@@ -118,6 +123,7 @@ empty_state path s clauses few none no_clause watches waiting lists counts satis
       known = record {
         linked = subst (λ (ws : List Watch). IsLinked path.vars [] ws s.lists s.waiting.items) (sym watches)
             (subst (λ (ps : List ℕ). IsLinked path.vars [] [] s.lists ps) (sym waiting) (none_linked path.vars s.lists lists counts));
+        blocked = subst (λ (rows : List (List Watcher)). AreBlocked [] rows) (sym rows) (blocked_none [] (2 * path.vars + 2));
         satisfied = omega (arith, satisfied);
         head = omega (arith, head);
         marks = count ∙ sym level;

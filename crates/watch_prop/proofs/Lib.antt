@@ -11,6 +11,7 @@ mod Settling
 mod Counts
 mod Values
 mod Flat
+mod Blocking
 mod Linking
 mod Listing
 mod Demands

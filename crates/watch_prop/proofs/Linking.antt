@@ -11,6 +11,7 @@ use Rattle.lk_model.proofs.Ranks.{rank_small}
 use Rattle.lk_model.proofs.Literals.{same_int}
 use Rattle.watch_prop.specs.declared.entry.NumberedClause.{NumberedClause}
 use Rattle.watch_prop.specs.declared.watch.Watch.{Watch}
+use Rattle.watch_prop.specs.declared.watcher_lists.Watcher.{Watcher}
 use Rattle.watch_prop.specs.Watch.{other_of}
 use Rattle.watch_prop.specs.Watchers.{Watchers, watchers, count_of, with_watcher}
 use Rattle.watch_prop.specs.Linked.{IsLinked, IsWatched, IsListed, clause_at_place, watch_at, watches_it, moved}
@@ -271,9 +272,9 @@ watched_here vars clauses watches w waiting place l r at m =
     }
 
 listed_then : (vars : ℕ) (clauses : List NumberedClause) (watches : List Watch) (w : Watchers) (waiting : List ℕ) (place : ℕ) (l r : ℤ) (at : ℕ)
-    → IsMove vars clauses watches w waiting place l r at → (k : ℤ) → is_literal vars k ≡ true
-    → IsListed clauses (set watches place (record { first = r; second = other_of (watch_at watches place) l })) (record { lists = moved w.lists l at r; counts = w.counts }) waiting k
-listed_then vars clauses watches w waiting place l r at m k lit = record {
+    → IsMove vars clauses watches w waiting place l r at → (rows : List (List Watcher)) (k : ℤ) → is_literal vars k ≡ true
+    → IsListed clauses (set watches place (record { first = r; second = other_of (watch_at watches place) l })) (record { lists = moved w.lists l at r; rows = rows; counts = w.counts }) waiting k
+listed_then vars clauses watches w waiting place l r at m rows k lit = record {
   distinct = distinct_from_times (watchers lists' k) (λ p. elim (cases_eq p place) [
     | inl y ↦ subst (λ (n : ℕ). times (watchers lists' k) n ≤ 1) (sym y) (here_once (int_eq k l) (int_eq k r) refl refl)
     | inr y ↦ (let t = a.elsewhere k p y in let u = at_most_once (watchers w.lists k) p list.distinct in omega arith)
@@ -327,9 +328,23 @@ listed_then vars clauses watches w waiting place l r at m k lit = record {
         let that = list.watched place (subst (λ (ps : List ℕ). among ps place ≡ true) (a.other k (false_apart k l y) (false_apart k r z)) e) in
         or_right (int_eq k r) (int_eq k x.second) (same_true k x.second (other_one (watch_at watches place) l k i.it that (false_apart k l y)))
 
-pub same_watchers : (w v : Watchers) → w.lists ≡ v.lists → w.counts ≡ v.counts → w ≡ v
-same_watchers w v e f =
-    ap (λ (ls : List (List ℕ)). record { lists = ls; counts = w.counts }) e ∙ ap (λ (ns : List ℕ). record { lists = v.lists; counts = ns }) f
+pub same_watchers : (w : Watchers) (lists : List (List ℕ)) (counts : List ℕ) → w.lists ≡ lists → w.counts ≡ counts → w ≡ record w { lists = lists; counts = counts }
+same_watchers w lists counts e f =
+    ap (λ (ls : List (List ℕ)). record w { lists = ls }) e ∙ ap (λ (ns : List ℕ). record w { lists = lists; counts = ns }) f
+
+-- the blockers matter nothing
+pub same_linked : (vars : ℕ) (clauses : List NumberedClause) (watches : List Watch) (w w' : Watchers) (waiting : List ℕ) → IsLinked vars clauses watches w waiting → w'.lists ≡ w.lists → w'.counts ≡ w.counts
+    → IsLinked vars clauses watches w' waiting
+same_linked vars clauses watches w w' waiting h lists counts =
+    subst (λ (v : Watchers). IsLinked vars clauses watches v waiting) (sym (same_watchers w' w.lists w.counts lists counts)) (record {
+      ranks = h.ranks;
+      counts = h.counts;
+      places = h.places;
+      distinct = h.distinct;
+      within = h.within;
+      watched = h.watched;
+      listed = λ l lit. (let x = h.listed l lit in record { distinct = x.distinct; within = x.within; ready = x.ready; watched = x.watched; count = x.count });
+    })
 
 pub moved_linked : (vars : ℕ) (clauses : List NumberedClause) (watches watches' : List Watch) (w w' : Watchers) (waiting : List ℕ) (place : ℕ) (l r : ℤ) (at : ℕ)
     → IsMove vars clauses watches w waiting place l r at → watches' ≡ set watches place (record { first = r; second = other_of (watch_at watches place) l })
@@ -341,7 +356,7 @@ moved_linked vars clauses watches watches' w w' waiting place l r at m new_watch
     let without = set w.lists (rank_of l) less in
     let h = m.linked in
     let a = are_moved vars clauses watches w waiting place l r at m in
-    let all : IsLinked vars clauses (set watches place x) (record { lists = lists'; counts = w.counts }) waiting = record {
+    let all : IsLinked vars clauses (set watches place x) (record { lists = lists'; rows = w'.rows; counts = w.counts }) waiting = record {
       ranks = length-set without (rank_of r) (watchers without r ++ get_or (watchers w.lists l) at 0 ∷ []) ∙ length-set w.lists (rank_of l) less ∙ h.ranks;
       counts = h.counts;
       places = length-set watches place x ∙ h.places;
@@ -351,10 +366,10 @@ moved_linked vars clauses watches watches' w w' waiting place l r at m new_watch
         | inl y ↦ subst (λ (n : ℕ). IsWatched clauses (set watches place x) lists' n) (sym y) (watched_here vars clauses watches w waiting place l r at m)
         | inr y ↦ watched_still clauses watches (set watches place x) w.lists lists' p (h.watched p lt ready) (watch_other watches place x p y) (λ k e. a.stays k p y e)
       ];
-      listed = λ k lit. listed_then vars clauses watches w waiting place l r at m k lit;
+      listed = λ k lit. listed_then vars clauses watches w waiting place l r at m w'.rows k lit;
     } in
     subst (λ (ws : List Watch). IsLinked vars clauses ws w' waiting) (sym new_watches)
-    (subst (λ (v : Watchers). IsLinked vars clauses (set watches place x) v waiting) (sym (same_watchers w' (record { lists = lists'; counts = w.counts }) new_lists same)) all)
+    (subst (λ (v : Watchers). IsLinked vars clauses (set watches place x) v waiting) (sym (same_watchers w' lists' w.counts new_lists same)) all)
 
 -- no other clause leaves the rest of the list
 pub moved_rest : (vars : ℕ) (clauses : List NumberedClause) (watches : List Watch) (w : Watchers) (waiting : List ℕ) (place : ℕ) (l r : ℤ) (at : ℕ)

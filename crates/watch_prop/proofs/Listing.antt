@@ -12,6 +12,7 @@ use Rattle.lk_model.proofs.ListTests.{passes_each}
 use Rattle.lk_model.proofs.Literals.{same_int}
 use Rattle.watch_prop.specs.declared.entry.NumberedClause.{NumberedClause}
 use Rattle.watch_prop.specs.declared.watch.Watch.{Watch}
+use Rattle.watch_prop.specs.declared.watcher_lists.Watcher.{Watcher}
 use Rattle.watch_prop.specs.Watchers.{Watchers, watchers, count_of, with_watcher, with_counted}
 use Rattle.watch_prop.specs.Propagation.{are_distinct}
 use Rattle.watch_prop.specs.Linked.{IsLinked, IsWatched, IsListed, clause_at_place, watch_at, watches_it}
@@ -97,9 +98,9 @@ added_of vars clauses watches w waiting place at x m =
     (false_apart x.second x.first (not-true _ m.apart))
 
 listed_now : (vars : ℕ) (clauses : List NumberedClause) (watches : List Watch) (w : Watchers) (waiting : List ℕ) (place at : ℕ) (x : Watch)
-    → IsListing vars clauses watches w waiting place at x → (k : ℤ) → is_literal vars k ≡ true
-    → IsListed clauses (set watches place x) (record { lists = listed_lists w.lists x place; counts = w.counts }) (swap_remove waiting at place) k
-listed_now vars clauses watches w waiting place at x m k lit = record {
+    → IsListing vars clauses watches w waiting place at x → (rows : List (List Watcher)) (k : ℤ) → is_literal vars k ≡ true
+    → IsListed clauses (set watches place x) (record { lists = listed_lists w.lists x place; rows = rows; counts = w.counts }) (swap_remove waiting at place) k
+listed_now vars clauses watches w waiting place at x m rows k lit = record {
   distinct = elim (cases_Bool (watches_it x k)) [
     | inl it ↦ subst (λ (ps : List ℕ). are_distinct ps ≡ true) (sym (a.here k it))
         (distinct_push (watchers w.lists k) place list.distinct (in_none vars clauses watches w waiting place at x m k lit))
@@ -172,7 +173,7 @@ listed_linked vars clauses watches watches' w w' waiting waiting' place at x m n
       in_second = subst (λ (y : Watch). among (watchers lists' y.second) place ≡ true) (sym here)
           (there x.second (or_right (int_eq x.second x.first) (int_eq x.second x.second) (same_true x.second x.second refl)));
     } in
-    let all : IsLinked vars clauses (set watches place x) (record { lists = lists'; counts = w.counts }) (swap_remove waiting at place) = record {
+    let all : IsLinked vars clauses (set watches place x) (record { lists = lists'; rows = w'.rows; counts = w.counts }) (swap_remove waiting at place) = record {
       ranks = a.long ∙ h.ranks;
       counts = h.counts;
       places = length-set watches place x ∙ h.places;
@@ -183,11 +184,11 @@ listed_linked vars clauses watches watches' w w' waiting waiting' place at x m n
         | inr y ↦ watched_still clauses watches (set watches place x) w.lists lists' p
             (h.watched p lt (rw (left.stay p y (not-true (among (swap_remove waiting at place) p) ready)) refl)) (watch_other watches place x p y) (λ k e. stays k p e)
       ];
-      listed = listed_now vars clauses watches w waiting place at x m;
+      listed = listed_now vars clauses watches w waiting place at x m w'.rows;
     } in
     subst (λ (ps : List ℕ). IsLinked vars clauses watches' w' ps) (sym fewer)
     (subst (λ (ws : List Watch). IsLinked vars clauses ws w' (swap_remove waiting at place)) (sym new_watches)
-    (subst (λ (v : Watchers). IsLinked vars clauses (set watches place x) v (swap_remove waiting at place)) (sym (same_watchers w' (record { lists = lists'; counts = w.counts }) new_lists same)) all))
+    (subst (λ (v : Watchers). IsLinked vars clauses (set watches place x) v (swap_remove waiting at place)) (sym (same_watchers w' lists' w.counts new_lists same)) all))
 
 -- ONE MORE CLAUSE
 

@@ -1,5 +1,5 @@
 -- A clause that waits and is looked at.
-use Rattle.std.proofs.Common.{◌≡◌, ◌∙◌, ℕ, ◌+◌, ◌<◌, true, List, ℤ, length, get_or, refl, ap, subst, arith}
+use Rattle.std.proofs.Common.{◌≡◌, ◌∙◌, ℕ, ◌+◌, ◌<◌, true, List, ℤ, length, get_or, refl, sym, ap, subst, arith}
 use Rattle.std.specs.List.{list_all}
 use Rattle.std.proofs.lemmas.List.{get_or_read}
 use Rattle.std.proofs.lemmas.Bool.{not-true}
@@ -12,9 +12,12 @@ use Rattle.watch_prop.specs.declared.watch.Found.TheVariants.{One, Two}
 use Rattle.watch_prop.specs.declared.state.State.{State}
 use Rattle.watch_prop.specs.Trail.{Path, true_in}
 use Rattle.watch_prop.specs.Watch.{IsFound}
-use Rattle.watch_prop.specs.Linked.{clause_at_place}
+use Rattle.watch_prop.specs.declared.watcher_lists.Watcher.{Watcher}
+use Rattle.watch_prop.specs.Watchers.{with_row}
+use Rattle.watch_prop.specs.Linked.{AreBlocked, clause_at_place}
 use Rattle.watch_prop.specs.States.{IsState, Leads, next_waiting}
 use Rattle.watch_prop.proofs.States.{ListsNext, kept_leads, listed_upholds, one_satisfied}
+use Rattle.watch_prop.proofs.Blocking.{blocked_with}
 use Rattle.watch_prop.proofs.Lists.{among_at, length-swap_remove}
 use Rattle.watch_prop.proofs.Demands.{clause_of, literals_of_clause, Forces, IsForced}
 use Rattle.watch_prop.proofs.Listing.{IsListing, listed_linked}
@@ -66,6 +69,14 @@ lists clauses path s x n f = record {
 shorter : (s s' : State) (x : Watch) → ListsNext s s' x → s.satisfied < length s.waiting.items → length s'.waiting.items + 1 ≡ length s.waiting.items
 shorter s s' x m more = ap (λ (ps : List ℕ). length ps + 1) m.waiting ∙ length-swap_remove s.waiting.items s.satisfied (next_waiting s) more
 
+listed_blocked : (clauses : List NumberedClause) (path : Path) (s s' : State) (x : Watch) → IsNext clauses path s
+    → IsFound path.entries (clause_at_place clauses (next_waiting s)).lits (Two x) → ListsNext s s' x → AreBlocked clauses s'.lists.rows
+listed_blocked clauses path s s' x n f m =
+    let first : Watcher = record { place = next_waiting s; blocker = x.second } in
+    let second : Watcher = record { place = next_waiting s; blocker = x.first } in
+    subst (λ (rows : List (List Watcher)). AreBlocked clauses rows) (sym m.rows)
+    (blocked_with clauses (with_row s.lists.rows x.first first) x.second second (blocked_with clauses s.lists.rows x.first first n.state.known.blocked f.1) f.0)
+
 pub listed_leads : (clauses : List NumberedClause) (path : Path) (s s' : State) (x : Watch) → IsNext clauses path s
     → IsFound path.entries (clause_at_place clauses (next_waiting s)).lits (Two x) → ListsNext s s' x → Leads clauses path path s s'
 listed_leads clauses path s s' x n f m =
@@ -77,6 +88,7 @@ listed_leads clauses path s s' x n f m =
     (not-true _ f.3) (not-true _ f.4))
     (listed_linked path.vars clauses s.watches.items s'.watches.items s.lists s'.lists s.waiting.items s'.waiting.items (next_waiting s) s.satisfied x
     (lists clauses path s x n f) m.watches m.lists m.counts m.waiting)
+    (listed_blocked clauses path s s' x n f m)
     (omega (arith, less, n.more, m.keeps.satisfied))
 
 -- JUST ONE

@@ -4,12 +4,11 @@ use Rattle.std.specs.declared.alloc.Global.{Global}
 use Rattle.std.specs.Option.{option_map_or}
 use Rattle.std.specs.List.{list_all}
 use Rattle.std.specs.Ordering.{int_eq}
-use Rattle.std.proofs.lemmas.Bool.{cases_Bool, cases_eq, eqb-true, false_from_ne_true}
-use Rattle.std.proofs.lemmas.List.{take-append-le}
+use Rattle.std.proofs.lemmas.Bool.{cases_Bool, cases_eq, eqb-true}
+use Rattle.std.proofs.lemmas.List.{take-append-le, get_or_read, length-map}
 use Rattle.lk_model.specs.Lists.{among}
-use Rattle.lk_model.specs.Formulas.Literal.{complement, is_literal}
+use Rattle.lk_model.specs.Formulas.Literal.{complement, contains, is_literal}
 use Rattle.lk_model.proofs.Booleans.{or_true, or_false}
-use Rattle.lk_model.proofs.Ranks.{literal_bounds}
 use Rattle.lk_model.proofs.Literals.{complement_twice, same_int, complement_literal}
 use Rattle.watch_prop.specs.declared.entry.Entry.{Entry}
 use Rattle.watch_prop.specs.declared.entry.NumberedClause.{NumberedClause}
@@ -17,9 +16,10 @@ use Rattle.watch_prop.specs.declared.watch.Watch.{Watch}
 use Rattle.watch_prop.specs.declared.state.State.{State}
 use Rattle.watch_prop.specs.declared.state.Settled.{Settled}
 use Rattle.watch_prop.specs.declared.state.Settled.TheVariants.{Stays, Moves}
-use Rattle.watch_prop.specs.Trail.{Path, literals_of, true_in, false_in, clause_numbered}
-use Rattle.watch_prop.specs.Watch.{is_upheld}
-use Rattle.watch_prop.specs.Watchers.{watchers}
+use Rattle.watch_prop.specs.Trail.{Path, literals_of, false_in, clause_numbered}
+use Rattle.watch_prop.specs.Watch.{has_true, is_upheld}
+use Rattle.watch_prop.specs.declared.watcher_lists.Watcher.{Watcher}
+use Rattle.watch_prop.specs.Watchers.{places, row_of, watchers}
 use Rattle.watch_prop.specs.Linked.{clause_at_place, watch_at, watches_it}
 use Rattle.watch_prop.specs.Propagation.{assigned}
 use Rattle.lk_model.specs.Formulas.Units.{is_false}
@@ -27,12 +27,14 @@ use Rattle.watch_prop.specs.States.{IsState, IsAtHead, Settles, Leads, propagati
 use Rattle.watch_prop.proofs.Truths.{same_true}
 use Rattle.watch_prop.proofs.Along.{false_along, literal_on_path}
 use Rattle.watch_prop.proofs.Trails.{trail_path, found_by_number}
-use Rattle.watch_prop.proofs.Upheld.{free, upheld_first, upheld_second, upheld_free, upheld_more}
+use Rattle.watch_prop.proofs.Upheld.{free, upheld_true, upheld_free, upheld_more}
 use Rattle.watch_prop.proofs.States.{leads_then, stays_leads}
 use Rattle.watch_prop.proofs.Linking.{InList, in_list}
-use Rattle.watch_prop.proofs.Settling.{up_to_head, literal_there, passed_stays, passed_moves}
+use Rattle.watch_prop.proofs.Settling.{literal_there, still_free, passed_stays, passed_moves}
 use Rattle.watch_prop.proofs.Demands.{clause_of, literals_of_clause}
 use Rattle.watch_prop.proofs.Lists.{among_at}
+use Rattle.watch_prop.proofs.Roomy.{place_at}
+use Rattle.watch_prop.proofs.Blocking.{blocker_there}
 
 -- A FALSE CLAUSE
 
@@ -58,29 +60,21 @@ pub record IsPassing (clauses : List NumberedClause) (path path' : Path) (s s' :
   pub at_head : IsAtHead path'.entries s'.head l
   pub literal : is_literal path'.vars l ≡ true
   pub passed : (p : ℕ) → p < length clauses → not (among s'.waiting.items p) ≡ true
-      → (is_upheld path'.entries (take (suc s'.head) path'.entries) (watch_at s'.watches.items p) ≡ true) ⊎ (among (drop at (watchers s'.lists.lists l)) p ≡ true)
+      → (is_upheld path'.entries (take (suc s'.head) path'.entries) (clause_at_place clauses p).lits (watch_at s'.watches.items p) ≡ true) ⊎ (among (drop at (watchers s'.lists.lists l)) p ≡ true)
 
 -- a watch without the literal is upheld also behind the head
-passed_by : (trail : List Entry) (head : ℕ) (x : Watch) (l : ℤ) → IsAtHead trail head l → is_upheld trail (take head trail) x ≡ true → watches_it x l ≡ false
-    → is_upheld trail (take (suc head) trail) x ≡ true
-passed_by trail head x l at_head h apart = elim (cases_Bool (true_in trail x.first)) [
-  | inl a ↦ upheld_first trail (take (suc head) trail) x a
-  | inr a ↦ elim (cases_Bool (true_in trail x.second)) [
-    | inl b ↦ upheld_second trail (take (suc head) trail) x b
-    | inr b ↦
-        let f = free trail (take head trail) x h a b in
-        let ns = or_false (int_eq l x.first) (int_eq l x.second) apart in
-        upheld_free trail (take (suc head) trail) x (still x.first f.first ns.0) (still x.second f.second ns.1)
-  ]
+passed_by : (trail : List Entry) (head : ℕ) (c : List ℤ) (x : Watch) (l : ℤ) → IsAtHead trail head l → is_upheld trail (take head trail) c x ≡ true → watches_it x l ≡ false
+    → is_upheld trail (take (suc head) trail) c x ≡ true
+passed_by trail head c x l at_head h apart = elim (cases_Bool (has_true trail c)) [
+  | inl t ↦ upheld_true trail (take (suc head) trail) c x t
+  | inr none ↦
+      let f = free trail (take head trail) c x h none in
+      let ns = or_false (int_eq l x.first) (int_eq l x.second) apart in
+      upheld_free trail (take (suc head) trail) c x (still x.first f.first ns.0) (still x.second f.second ns.1)
 ]
   where
     still : (b : ℤ) → false_in (take head trail) b ≡ false → int_eq l b ≡ false → false_in (take (suc head) trail) b ≡ false
-    still b f n = false_from_ne_true (false_in (take (suc head) trail) b) (λ t. elim (up_to_head head trail (complement b) at_head.0 t) [
-      | inl y ↦ (let z : true ≡ false = sym y ∙ f in let q : ⊥ = cc in q)
-      | inr y ↦
-          let same : l ≡ b = sym (complement_twice l) ∙ ap complement (sym (y ∙ at_head.1)) ∙ complement_twice b in
-          let z : true ≡ false = sym (same_true l b same) ∙ n in let q : ⊥ = cc in q
-    ])
+    still b f n = still_free trail head b l at_head (λ e. (let z : true ≡ false = sym (same_true l b (sym e)) ∙ n in let q : ⊥ = cc in q)) f
 
 pub passing_start : (clauses : List NumberedClause) (path : Path) (s : State) (l : ℤ) → IsState clauses path s → s.head < length path.entries
     → l ≡ complement (get_or (literals_of path.entries) s.head (pos 0)) → IsPassing clauses path path s s l 0
@@ -105,7 +99,7 @@ passing_start clauses path s l h more is =
               | inl a ↦ subst (λ (z : ℤ). among (watchers s.lists.lists z) q ≡ true) (sym (same_int l x.first a)) watched.in_first
               | inr a ↦ subst (λ (z : ℤ). among (watchers s.lists.lists z) q ≡ true) (sym (same_int l x.second a)) watched.in_second
             ])
-            | inr y ↦ inl (passed_by path.entries s.head x l at_head (h.known.upheld.ready q lt ready) y)
+            | inr y ↦ inl (passed_by path.entries s.head (clause_at_place clauses q).lits x l at_head (h.known.upheld.ready q lt ready) y)
           ];
     }
 
@@ -141,17 +135,17 @@ head_grown head trail more trail' l e h = subst (λ (t : List Entry). IsAtHead t
 -- the other clauses
 others_passed : (clauses : List NumberedClause) (path path' path'' : Path) (s s' s'' : State) (place : ℕ) (l : ℤ) (at : ℕ) (result : Settled)
     → SettledOnce clauses path path' path'' s s' s'' place l at result → (p : ℕ) → p ≢ place
-    → is_upheld path'.entries (take (suc s'.head) path'.entries) (watch_at s'.watches.items p) ≡ true
-    → is_upheld path''.entries (take (suc s''.head) path''.entries) (watch_at s''.watches.items p) ≡ true
+    → is_upheld path'.entries (take (suc s'.head) path'.entries) (clause_at_place clauses p).lits (watch_at s'.watches.items p) ≡ true
+    → is_upheld path''.entries (take (suc s''.head) path''.entries) (clause_at_place clauses p).lits (watch_at s''.watches.items p) ≡ true
 others_passed clauses path path' path'' s s' s'' place l at result o p n up =
     let g = o.leads.goes_on in
     let more = g.forced in
     let lt = o.passing.at_head.0 in
-    subst (λ (x : Watch). is_upheld path''.entries (take (suc s''.head) path''.entries) x ≡ true) (sym (o.settles.others p n))
-    (subst (λ (h : ℕ). is_upheld path''.entries (take (suc h) path''.entries) (watch_at s'.watches.items p) ≡ true) (sym o.settles.head)
-    (subst (λ (t : List Entry). is_upheld path''.entries t (watch_at s'.watches.items p) ≡ true) (sym (take_grown s'.head path'.entries more path''.entries lt g.trail))
-    (subst (λ (t : List Entry). is_upheld t (take (suc s'.head) path'.entries) (watch_at s'.watches.items p) ≡ true) (sym g.trail)
-    (upheld_more path'.entries more (take (suc s'.head) path'.entries) (watch_at s'.watches.items p) up))))
+    subst (λ (x : Watch). is_upheld path''.entries (take (suc s''.head) path''.entries) (clause_at_place clauses p).lits x ≡ true) (sym (o.settles.others p n))
+    (subst (λ (h : ℕ). is_upheld path''.entries (take (suc h) path''.entries) (clause_at_place clauses p).lits (watch_at s'.watches.items p) ≡ true) (sym o.settles.head)
+    (subst (λ (t : List Entry). is_upheld path''.entries t (clause_at_place clauses p).lits (watch_at s'.watches.items p) ≡ true) (sym (take_grown s'.head path'.entries more path''.entries lt g.trail))
+    (subst (λ (t : List Entry). is_upheld t (take (suc s'.head) path'.entries) (clause_at_place clauses p).lits (watch_at s'.watches.items p) ≡ true) (sym g.trail)
+    (upheld_more path'.entries more (take (suc s'.head) path'.entries) (clause_at_place clauses p).lits (watch_at s'.watches.items p) up))))
 
 -- the clause itself
 it_stands : (clauses : List NumberedClause) (path path' path'' : Path) (s s' s'' : State) (place : ℕ) (l : ℤ) (at : ℕ) (result : Settled)
@@ -162,22 +156,20 @@ it_stands clauses path path' path'' s s' s'' place l at result o =
 
 stays_passed : (clauses : List NumberedClause) (path path' path'' : Path) (s s' s'' : State) (place : ℕ) (l : ℤ) (at : ℕ)
     → SettledOnce clauses path path' path'' s s' s'' place l at Stays
-    → is_upheld path''.entries (take (suc s''.head) path''.entries) (watch_at s''.watches.items place) ≡ true
+    → is_upheld path''.entries (take (suc s''.head) path''.entries) (clause_at_place clauses place).lits (watch_at s''.watches.items place) ≡ true
 stays_passed clauses path path' path'' s s' s'' place l at o =
-    subst (λ (h : ℕ). is_upheld path''.entries (take (suc h) path''.entries) (watch_at s''.watches.items place) ≡ true) (sym o.settles.head)
-    (passed_stays clauses path'.entries path''.entries s'.head place (watch_at s'.watches.items place) (watch_at s''.watches.items place) l
-    (it_stands clauses path path' path'' s s' s'' place l at Stays o).it o.settles.settled)
+    subst (λ (h : ℕ). is_upheld path''.entries (take (suc h) path''.entries) (clause_at_place clauses place).lits (watch_at s''.watches.items place) ≡ true) (sym o.settles.head)
+    (passed_stays clauses path'.entries path''.entries s'.head place (watch_at s'.watches.items place) (watch_at s''.watches.items place) l o.settles.settled)
 
 moves_passed : (clauses : List NumberedClause) (path path' path'' : Path) (s s' s'' : State) (place : ℕ) (l : ℤ) (at : ℕ)
     → SettledOnce clauses path path' path'' s s' s'' place l at Moves
-    → is_upheld path''.entries (take (suc s''.head) path''.entries) (watch_at s''.watches.items place) ≡ true
+    → is_upheld path''.entries (take (suc s''.head) path''.entries) (clause_at_place clauses place).lits (watch_at s''.watches.items place) ≡ true
 moves_passed clauses path path' path'' s s' s'' place l at o =
     let state = o.passing.leads.state in
-    let bounds = literal_bounds path'.vars l o.passing.literal in
     let i = it_stands clauses path path' path'' s s' s'' place l at Moves o in
-    subst (λ (h : ℕ). is_upheld path''.entries (take (suc h) path''.entries) (watch_at s''.watches.items place) ≡ true) (sym o.settles.head)
-    (passed_moves path'.vars clauses path'.entries path''.entries s'.head place (watch_at s'.watches.items place) (watch_at s''.watches.items place) l
-    (trail_path path'.vars clauses path'.entries state.propagation.trail) (omega (arith, bounds.0)) o.passing.at_head i.it i.apart
+    subst (λ (h : ℕ). is_upheld path''.entries (take (suc h) path''.entries) (clause_at_place clauses place).lits (watch_at s''.watches.items place) ≡ true) (sym o.settles.head)
+    (passed_moves clauses path'.entries path''.entries s'.head place (watch_at s'.watches.items place) (watch_at s''.watches.items place) l
+    o.passing.at_head i.it i.apart
     (state.known.upheld.ready place i.within i.ready) o.settles.settled)
 
 record Carried (clauses : List NumberedClause) (path path' path'' : Path) (s s' s'' : State) (l : ℤ) : Type 0 where
@@ -212,7 +204,7 @@ passing_stays clauses path path' path'' s s' s'' place l at o =
       at_head = c.at_head;
       literal = c.literal;
       passed = λ p lt out. elim (cases_eq p place) [
-        | inl y ↦ inl (subst (λ (q : ℕ). is_upheld path''.entries (take (suc s''.head) path''.entries) (watch_at s''.watches.items q) ≡ true) (sym y)
+        | inl y ↦ inl (subst (λ (q : ℕ). is_upheld path''.entries (take (suc s''.head) path''.entries) (clause_at_place clauses q).lits (watch_at s''.watches.items q) ≡ true) (sym y)
             (stays_passed clauses path path' path'' s s' s'' place l at o))
         | inr n ↦ elim (o.passing.passed p lt (c.ready p out)) [
           | inl up ↦ inl (others_passed clauses path path' path'' s s' s'' place l at Stays o p n up)
@@ -234,7 +226,7 @@ passing_moves clauses path path' path'' s s' s'' place l at o =
       at_head = c.at_head;
       literal = c.literal;
       passed = λ p lt out. elim (cases_eq p place) [
-        | inl y ↦ inl (subst (λ (q : ℕ). is_upheld path''.entries (take (suc s''.head) path''.entries) (watch_at s''.watches.items q) ≡ true) (sym y)
+        | inl y ↦ inl (subst (λ (q : ℕ). is_upheld path''.entries (take (suc s''.head) path''.entries) (clause_at_place clauses q).lits (watch_at s''.watches.items q) ≡ true) (sym y)
             (moves_passed clauses path path' path'' s s' s'' place l at o))
         | inr n ↦ elim (o.passing.passed p lt (c.ready p out)) [
           | inl up ↦ inl (others_passed clauses path path' path'' s s' s'' place l at Moves o p n up)
@@ -261,6 +253,7 @@ passing_end clauses path path' s s' l at o all = record {
         let lt = o.at_head.0 in
         record {
           linked = h.linked;
+          blocked = h.blocked;
           satisfied = h.satisfied;
           head = omega (arith, lt);
           marks = h.marks;
@@ -269,7 +262,7 @@ passing_end clauses path path' s s' l at o all = record {
           upheld = record {
             waiting = h.upheld.waiting;
             ready = λ p within out. elim (o.passed p within out) [
-              | inl up ↦ subst (λ (k : ℕ). is_upheld path'.entries (take k path'.entries) (watch_at s'.watches.items p) ≡ true) (let k : suc s'.head ≡ s'.head + 1 = omega arith in k) up
+              | inl up ↦ subst (λ (k : ℕ). is_upheld path'.entries (take k path'.entries) (clause_at_place clauses p).lits (watch_at s'.watches.items p) ≡ true) (let k : suc s'.head ≡ s'.head + 1 = omega arith in k) up
               | inr there ↦ absurd (let f : true ≡ false = sym there ∙ drop_all at (watchers s'.lists.lists l) p all in let z : ⊥ = cc in z)
             ];
           };
@@ -281,21 +274,40 @@ passing_end clauses path path' s s' l at o all = record {
 
 -- A CLAUSE OF THE LIST
 
-pub record Picked (clauses : List NumberedClause) (path path' : Path) (s s' : State) (l : ℤ) (at place : ℕ) : Type 0 where
-  pub in_clauses : place < length clauses
+pub record Picked (clauses : List NumberedClause) (path path' : Path) (s s' : State) (l : ℤ) (at : ℕ) (w : Watcher) : Type 0 where
+  pub in_clauses : w.place < length clauses
   pub within : at < length (watchers s'.lists.lists l)
-  pub stands : get_or (watchers s'.lists.lists l) at 0 ≡ place
+  pub stands : get_or (watchers s'.lists.lists l) at 0 ≡ w.place
+  pub row : places (row_of s'.lists.rows l) ≡ watchers s'.lists.lists l
+  pub blocker : contains (clause_at_place clauses w.place).lits w.blocker ≡ true
 
-pub picked : (clauses : List NumberedClause) (path path' : Path) (s s' : State) (l : ℤ) (at : ℕ) (list list' : List ℕ) → IsPassing clauses path path' s s' l at
-    → list ≡ watchers s'.lists.lists l → list' ≡ watchers s'.lists.lists l → at < length list → Picked clauses path path' s s' l at (get_or list' at 0)
-picked clauses path path' s s' l at list list' o e e' lt =
-    let within : at < length (watchers s'.lists.lists l) = subst (λ (xs : List ℕ). at < length xs) e lt in
-    let place = get_or (watchers s'.lists.lists l) at 0 in
-    let in_clauses = (o.leads.state.known.linked.listed l o.literal).within place (among_at (watchers s'.lists.lists l) at 0 within) in
-    subst (λ (xs : List ℕ). Picked clauses path path' s s' l at (get_or xs at 0)) (sym e') (record { in_clauses = in_clauses; within = within; stands = refl })
+-- from the row as it is read before the test and after it
+pub picked : (clauses : List NumberedClause) (path path' : Path) (s s' : State) (l : ℤ) (at : ℕ) (row row' : List Watcher) (w : Watcher) → IsPassing clauses path path' s s' l at
+    → places row ≡ watchers s'.lists.lists l → row' ≡ row_of s'.lists.rows l → places row' ≡ watchers s'.lists.lists l → at < length row → w ≡ get_or row' at w
+    → Picked clauses path path' s s' l at w
+picked clauses path path' s s' l at row row' w o e is e' lt read =
+    let state = o.leads.state in
+    let none : Watcher = record { place = 0; blocker = pos 0 } in
+    let long = length-map row (λ (x : Watcher). x.place) in
+    let long' = length-map row' (λ (x : Watcher). x.place) in
+    let same = ap length e in
+    let same' = ap length e' in
+    let lt' : at < length row' = omega (arith, lt, long, long', same, same') in
+    let read_is : w ≡ get_or row' at none = get_or_read row' at w lt' read none in
+    let stands : get_or (watchers s'.lists.lists l) at 0 ≡ w.place =
+    ap (λ (ps : List ℕ). get_or ps at 0) (sym e') ∙ place_at row' at ∙ ap (λ (x : Watcher). x.place) (sym read_is) in
+    let within : at < length (watchers s'.lists.lists l) = omega (arith, lt, long, same) in
+    let there = among_at (watchers s'.lists.lists l) at 0 within in
+    record {
+      in_clauses = (state.known.linked.listed l o.literal).within w.place (subst (λ (p : ℕ). among (watchers s'.lists.lists l) p ≡ true) stands there);
+      within = within;
+      stands = stands;
+      row = subst (λ (ws : List Watcher). places ws ≡ watchers s'.lists.lists l) is e';
+      blocker = blocker_there clauses s'.lists.rows l at w state.known.blocked (subst (λ (ws : List Watcher). at < length ws) is lt') (subst (λ (ws : List Watcher). w ≡ get_or ws at w) is read);
+    }
 
-pub settled_once : (clauses : List NumberedClause) (path path' path'' : Path) (s s' s'' : State) (place : ℕ) (l : ℤ) (at : ℕ) (result : Settled)
-    → IsPassing clauses path path' s s' l at → Picked clauses path path' s s' l at place → Leads clauses path' path'' s' s'' → Settles clauses path' path'' s' s'' place l at result
-    → SettledOnce clauses path path' path'' s s' s'' place l at result
-settled_once clauses path path' path'' s s' s'' place l at result o p leads settles =
+pub settled_once : (clauses : List NumberedClause) (path path' path'' : Path) (s s' s'' : State) (w : Watcher) (l : ℤ) (at : ℕ) (result : Settled)
+    → IsPassing clauses path path' s s' l at → Picked clauses path path' s s' l at w → Leads clauses path' path'' s' s'' → Settles clauses path' path'' s' s'' w.place l at result
+    → SettledOnce clauses path path' path'' s s' s'' w.place l at result
+settled_once clauses path path' path'' s s' s'' w l at result o p leads settles =
     record { passing = o; within = p.within; stands = p.stands; leads = leads; settles = settles }

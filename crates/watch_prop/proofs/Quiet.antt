@@ -14,13 +14,13 @@ use Rattle.watch_prop.specs.declared.entry.NumberedClause.{NumberedClause}
 use Rattle.watch_prop.specs.declared.watch.Watch.{Watch}
 use Rattle.watch_prop.specs.declared.state.State.{State}
 use Rattle.watch_prop.specs.Trail.{Path, true_in, false_in, assignment_along, is_path}
-use Rattle.watch_prop.specs.Watch.{is_upheld}
+use Rattle.watch_prop.specs.Watch.{has_true, is_upheld}
 use Rattle.watch_prop.specs.Linked.{clause_at_place, watch_at}
 use Rattle.watch_prop.specs.declared.entry.Propagated.{Propagated}
 use Rattle.watch_prop.specs.declared.entry.Propagated.TheVariants.{Quiet, Conflict}
 use Rattle.watch_prop.specs.Propagation.{is_quiet, assigned, IsAnswered}
 use Rattle.lk_model.specs.Formulas.Units.{is_false, is_unit}
-use Rattle.watch_prop.specs.States.{IsState, Passes, propagation_of, unseen, has_true}
+use Rattle.watch_prop.specs.States.{IsState, Passes, propagation_of, unseen}
 use Rattle.watch_prop.proofs.Truths.{false_apart, no_sign_twice}
 use Rattle.std.proofs.lemmas.List.{take_all}
 use Rattle.watch_prop.proofs.Trails.{trail_path, unset_entry_of}
@@ -65,16 +65,19 @@ free_quiet vars trail c a b path is_clause in_a in_b n ta fa tb fb =
     at true = refl
     at false = refl
 
+-- no literal of it is true
+none_true : (trail : List Entry) (c : List ℤ) (l : ℤ) → has_true trail c ≡ false → contains c l ≡ true → true_in trail l ≡ false
+none_true trail c l none there = false_from_ne_true (true_in trail l) (λ t.
+    (let f : true ≡ false = sym (passes_one (true_in trail) c l there t) ∙ none in let z : ⊥ = cc in z))
+
 upheld_quiet : (vars : ℕ) (trail : List Entry) (c : List ℤ) (x : Watch) → is_path vars trail ≡ true → is_clause vars c ≡ true → contains c x.first ≡ true → contains c x.second ≡ true
-    → not (int_eq x.second x.first) ≡ true → is_upheld trail trail x ≡ true → (not (is_false (assignment_along trail) c) && not (is_unit (assignment_along trail) c)) ≡ true
-upheld_quiet vars trail c x path is_clause in_first in_second two h = elim (cases_Bool (true_in trail x.first)) [
-  | inl a ↦ satisfied_quiet vars trail c x.first path is_clause in_first a
-  | inr a ↦ elim (cases_Bool (true_in trail x.second)) [
-    | inl b ↦ satisfied_quiet vars trail c x.second path is_clause in_second b
-    | inr b ↦
-        let f = free trail trail x h a b in
-        free_quiet vars trail c x.second x.first path is_clause in_second in_first (false_apart x.second x.first (not-true _ two)) b f.second a f.first
-  ]
+    → not (int_eq x.second x.first) ≡ true → is_upheld trail trail c x ≡ true → (not (is_false (assignment_along trail) c) && not (is_unit (assignment_along trail) c)) ≡ true
+upheld_quiet vars trail c x path is_clause in_first in_second two h = elim (cases_Bool (has_true trail c)) [
+  | inl t ↦ (let l = literal_passing (true_in trail) c t in satisfied_quiet vars trail c l.0 path is_clause l.1 l.2)
+  | inr none ↦
+      let f = free trail trail c x h none in
+      free_quiet vars trail c x.second x.first path is_clause in_second in_first (false_apart x.second x.first (not-true _ two))
+      (none_true trail c x.second none in_second) f.second (none_true trail c x.first none in_first) f.first
 ]
 
 pub state_quiet : (clauses : List NumberedClause) (path : Path) (s : State) → IsState clauses path s → unseen s ≡ 0 → s.head ≡ length path.entries
@@ -95,8 +98,8 @@ state_quiet clauses path s h none head = all_from _ clauses (record { number = 0
           let x = watch_at s.watches.items i in
           let out : not (among s.waiting.items i) ≡ true = rw y refl in
           let watched = h.known.linked.watched i lt out in
-          let up : is_upheld path.entries path.entries x ≡ true =
-          subst (λ (t : List Entry). is_upheld path.entries t x ≡ true) (take_all s.head path.entries (omega (arith, head))) (h.known.upheld.ready i lt out) in
+          let up : is_upheld path.entries path.entries c x ≡ true =
+          subst (λ (t : List Entry). is_upheld path.entries t c x ≡ true) (take_all s.head path.entries (omega (arith, head))) (h.known.upheld.ready i lt out) in
           upheld_quiet path.vars path.entries c x is_path is_clause watched.first watched.second watched.apart up
     ])
 

@@ -8,7 +8,7 @@ use Rattle.watch_prop.specs.declared.watch.Watch.{Watch}
 use Rattle.watch_prop.specs.declared.state.State.{State}
 use Rattle.watch_prop.specs.Trail.{Path, present_level, up_to_level, is_trail}
 use Rattle.watch_prop.specs.Watchers.{Watchers}
-use Rattle.watch_prop.specs.Linked.{IsLinked}
+use Rattle.watch_prop.specs.Linked.{IsLinked, AreBlocked}
 use Rattle.watch_prop.specs.States.{IsState, IsKnownBelow, AreUpheld, mark_at}
 use Rattle.watch_prop.proofs.Trails.{trail_prefix}
 use Rattle.watch_prop.proofs.States.{same_upheld}
@@ -76,6 +76,7 @@ returned_state clauses path path' s s' level h r =
         linked = subst (λ (ps : List ℕ). IsLinked path.vars clauses s'.watches.items s'.lists ps) (sym waiting)
             (subst (λ (ws : Vec Watch Global). IsLinked path.vars clauses ws.items s'.lists s.waiting.items) (sym r.watches)
             (subst (λ (ls : Watchers). IsLinked path.vars clauses s.watches.items ls s.waiting.items) (sym r.lists) old.linked));
+        blocked = subst (λ (ls : Watchers). AreBlocked clauses ls.rows) (sym r.lists) old.blocked;
         satisfied = (let same = ap length waiting in omega (arith, r.satisfied, below.mark, old.satisfied, same));
         head = omega (arith, r.head);
         marks = count ∙ sym present;

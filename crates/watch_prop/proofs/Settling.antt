@@ -1,20 +1,20 @@
 -- Clauses that were given what they ask for when a literal is passed on are upheld.
 use Rattle.std.proofs.Common.{◌≡◌, ◌≢◌, ℕ, zero, suc, ◌<◌, true, false, List, [], ◌∷◌, sym, ◌∙◌, ap, subst, arith, ℤ, pos, length, take, get_or, inl, inr, ◌⊎◌}
 use Rattle.std.specs.Ordering.{int_eq}
-use Rattle.std.proofs.lemmas.Bool.{false_from_ne_true, not-true}
-use Rattle.lk_model.specs.Formulas.Literal.{variable, complement}
+use Rattle.std.proofs.lemmas.Bool.{cases_Bool, false_from_ne_true, not-true}
+use Rattle.lk_model.specs.Formulas.Literal.{complement}
 use Rattle.lk_model.proofs.Booleans.{or_true, or_left, or_right}
 use Rattle.lk_model.proofs.Literals.{complement_twice, same_int}
 use Rattle.watch_prop.specs.declared.entry.Entry.{Entry}
 use Rattle.watch_prop.specs.declared.entry.NumberedClause.{NumberedClause}
 use Rattle.watch_prop.specs.declared.watch.Watch.{Watch}
 use Rattle.watch_prop.specs.declared.state.Settled.TheVariants.{Stays, Moves}
-use Rattle.watch_prop.specs.Trail.{literals_of, true_in, false_in, is_path}
-use Rattle.watch_prop.specs.Watch.{other_of, is_upheld}
-use Rattle.watch_prop.specs.Linked.{watches_it}
+use Rattle.watch_prop.specs.Trail.{literals_of, true_in, false_in}
+use Rattle.watch_prop.specs.Watch.{other_of, has_true, is_upheld}
+use Rattle.watch_prop.specs.Linked.{clause_at_place, watches_it}
 use Rattle.watch_prop.specs.States.{IsAtHead, IsSettled}
-use Rattle.watch_prop.proofs.Truths.{same_true, no_sign_twice}
-use Rattle.watch_prop.proofs.Upheld.{free, upheld_first, upheld_second, upheld_free, one_of, IsOneOf, first, second, part_take, not_there}
+use Rattle.watch_prop.proofs.Truths.{same_true}
+use Rattle.watch_prop.proofs.Upheld.{free, other_free, upheld_true, upheld_free, part_take, not_there}
 
 -- THE HEAD OF THE TRAIL
 
@@ -45,42 +45,27 @@ up_to_head (suc n) (d ∷ trail) k lt e = elim (or_true (int_eq k d.lit) (true_i
 
 -- A LITERAL THAT WAS PASSED ON
 
--- the other literal that is watched, where neither it nor the false one is true
-other_free : (trail : List Entry) (head : ℕ) (x : Watch) (l : ℤ) → IsAtHead trail head l → is_upheld trail (take head trail) x ≡ true → watches_it x l ≡ true
-    → other_of x l ≢ l → true_in trail l ≡ false → true_in trail (other_of x l) ≡ false → false_in (take (suc head) trail) (other_of x l) ≡ false
-other_free trail head x l at_head h it apart no_l no_other = by (one_of x l it)
-  where
-    still : false_in (take head trail) (other_of x l) ≡ false → false_in (take (suc head) trail) (other_of x l) ≡ false
-    still none = false_from_ne_true (false_in (take (suc head) trail) (other_of x l)) (λ t. elim (up_to_head head trail (complement (other_of x l)) at_head.0 t) [
-      | inl y ↦ (let f : true ≡ false = sym y ∙ none in let z : ⊥ = cc in z)
-      | inr y ↦ apart (sym (complement_twice (other_of x l)) ∙ ap complement (y ∙ at_head.1) ∙ complement_twice l)
+-- the other literal that is watched, behind the head
+pub still_free : (trail : List Entry) (head : ℕ) (b l : ℤ) → IsAtHead trail head l → b ≢ l → false_in (take head trail) b ≡ false → false_in (take (suc head) trail) b ≡ false
+still_free trail head b l at_head apart none = false_from_ne_true (false_in (take (suc head) trail) b) (λ t. elim (up_to_head head trail (complement b) at_head.0 t) [
+  | inl y ↦ (let f : true ≡ false = sym y ∙ none in let z : ⊥ = cc in z)
+  | inr y ↦ apart (sym (complement_twice b) ∙ ap complement (y ∙ at_head.1) ∙ complement_twice l)
+])
+
+pub passed_stays : (clauses : List NumberedClause) (trail trail' : List Entry) (head place : ℕ) (x x' : Watch) (l : ℤ)
+    → IsSettled clauses trail trail' x x' place l Stays → is_upheld trail' (take (suc head) trail') (clause_at_place clauses place).lits x' ≡ true
+passed_stays clauses trail trail' head place x x' l s = upheld_true trail' (take (suc head) trail') (clause_at_place clauses place).lits x' s.1
+
+pub passed_moves : (clauses : List NumberedClause) (trail trail' : List Entry) (head place : ℕ) (x x' : Watch) (l : ℤ)
+    → IsAtHead trail head l → watches_it x l ≡ true → other_of x l ≢ l → is_upheld trail (take head trail) (clause_at_place clauses place).lits x ≡ true
+    → IsSettled clauses trail trail' x x' place l Moves → is_upheld trail' (take (suc head) trail') (clause_at_place clauses place).lits x' ≡ true
+passed_moves clauses trail trail' head place x x' l at_head it apart h s =
+    subst (λ (t : List Entry). is_upheld t (take (suc head) t) c x' ≡ true) (sym s.0) (elim (cases_Bool (has_true trail c)) [
+      | inl t ↦ upheld_true trail (take (suc head) trail) c x' t
+      | inr none ↦ upheld_free trail (take (suc head) trail) c x' (not_there (take (suc head) trail) trail (complement x'.first) (part_take (suc head) trail) (not-true _ s.3))
+          (subst (λ (k : ℤ). false_in (take (suc head) trail) k ≡ false) (sym s.1)
+          (still_free trail head (other_of x l) l at_head apart (other_free (take head trail) x l (free trail (take head trail) c x h none) it)))
     ])
-
-    by : IsOneOf x l → false_in (take (suc head) trail) (other_of x l) ≡ false
-    by (first a b) =
-        let f = free trail (take head trail) x h (subst (λ (k : ℤ). true_in trail k ≡ false) a no_l) (subst (λ (k : ℤ). true_in trail k ≡ false) b no_other) in
-        still (subst (λ (k : ℤ). false_in (take head trail) k ≡ false) (sym b) f.second)
-    by (second a b) =
-        let f = free trail (take head trail) x h (subst (λ (k : ℤ). true_in trail k ≡ false) b no_other) (subst (λ (k : ℤ). true_in trail k ≡ false) a no_l) in
-        still (subst (λ (k : ℤ). false_in (take head trail) k ≡ false) (sym b) f.first)
-
-other_upheld : (trail passed : List Entry) (x : Watch) (l : ℤ) → watches_it x l ≡ true → true_in trail (other_of x l) ≡ true → is_upheld trail passed x ≡ true
-other_upheld trail passed x l it t = by (one_of x l it)
   where
-    by : IsOneOf x l → is_upheld trail passed x ≡ true
-    by (first a b) = upheld_second trail passed x (subst (λ (k : ℤ). true_in trail k ≡ true) b t)
-    by (second a b) = upheld_first trail passed x (subst (λ (k : ℤ). true_in trail k ≡ true) b t)
-
-pub passed_stays : (clauses : List NumberedClause) (trail trail' : List Entry) (head place : ℕ) (x x' : Watch) (l : ℤ) → watches_it x l ≡ true
-    → IsSettled clauses trail trail' x x' place l Stays → is_upheld trail' (take (suc head) trail') x' ≡ true
-passed_stays clauses trail trail' head place x x' l it s =
-    subst (λ (y : Watch). is_upheld trail' (take (suc head) trail') y ≡ true) (sym s.0) (other_upheld trail' (take (suc head) trail') x l it s.1)
-
-pub passed_moves : (vars : ℕ) (clauses : List NumberedClause) (trail trail' : List Entry) (head place : ℕ) (x x' : Watch) (l : ℤ) → is_path vars trail ≡ true → 0 < variable l
-    → IsAtHead trail head l → watches_it x l ≡ true → other_of x l ≢ l → is_upheld trail (take head trail) x ≡ true
-    → IsSettled clauses trail trail' x x' place l Moves → is_upheld trail' (take (suc head) trail') x' ≡ true
-passed_moves vars clauses trail trail' head place x x' l path low at_head it apart h s =
-    let no_l = no_sign_twice vars trail l path low (head_false trail head l at_head) in
-    subst (λ (t : List Entry). is_upheld t (take (suc head) t) x' ≡ true) (sym s.0)
-    (upheld_free trail (take (suc head) trail) x' (not_there (take (suc head) trail) trail (complement x'.first) (part_take (suc head) trail) (not-true _ s.4))
-    (subst (λ (k : ℤ). false_in (take (suc head) trail) k ≡ false) (sym s.1) (other_free trail head x l at_head h it apart no_l (not-true _ s.2))))
+    c : List ℤ
+    c = (clause_at_place clauses place).lits

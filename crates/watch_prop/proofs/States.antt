@@ -12,11 +12,11 @@ use Rattle.watch_prop.specs.declared.entry.NumberedClause.{NumberedClause}
 use Rattle.watch_prop.specs.declared.watch.Watch.{Watch}
 use Rattle.watch_prop.specs.declared.state.State.{State}
 use Rattle.watch_prop.specs.Trail.{Path, true_in, false_in, present_level, up_to_level, may_follow}
-use Rattle.watch_prop.specs.Watch.{other_of, is_upheld}
-use Rattle.watch_prop.specs.Watchers.{with_watcher}
+use Rattle.watch_prop.specs.Watch.{other_of, has_true, is_upheld}
+use Rattle.watch_prop.specs.Watchers.{with_watcher, with_row}
 use Rattle.watch_prop.specs.Propagation.{are_distinct}
-use Rattle.watch_prop.specs.Linked.{IsLinked, clause_at_place, watch_at, watches_it, moved}
-use Rattle.watch_prop.specs.States.{IsState, IsKnown, IsKnownBelow, AreUpheld, Leads, propagation_of, mark_at, waiting_at, next_waiting, has_true}
+use Rattle.watch_prop.specs.Linked.{IsLinked, AreBlocked, clause_at_place, watch_at, watches_it, moved, moved_rows}
+use Rattle.watch_prop.specs.States.{IsState, IsKnown, IsKnownBelow, AreUpheld, Leads, propagation_of, mark_at, waiting_at, next_waiting}
 use Rattle.watch_prop.proofs.Paths.{last_level}
 use Rattle.watch_prop.proofs.Levels.{level_more}
 use Rattle.watch_prop.proofs.Trails.{propagation_more, goes_on_one, goes_on_start, goes_on_then}
@@ -28,7 +28,7 @@ use Rattle.watch_prop.proofs.Lists.{AreLeft, are_left, swap_remove_before}
 pub more_upheld : (clauses : List NumberedClause) (s : State) (trail more passed : List Entry) (count : ℕ) → AreUpheld clauses s trail passed count → AreUpheld clauses s (trail ++ more) passed count
 more_upheld clauses s trail more passed count h = record {
   waiting = λ n lt. any_mono (true_in trail) (true_in (trail ++ more)) (clause_at_place clauses (waiting_at s.waiting.items n)).lits (part_more trail more).there (h.waiting n lt);
-  ready = λ p lt out. upheld_more trail more passed (watch_at s.watches.items p) (h.ready p lt out);
+  ready = λ p lt out. upheld_more trail more passed (clause_at_place clauses p).lits (watch_at s.watches.items p) (h.ready p lt out);
 }
 
 below_more : (clauses : List NumberedClause) (trail : List Entry) (e : Entry) (s : State) (level : ℕ) → level < e.level → IsKnownBelow clauses trail s level → IsKnownBelow clauses (trail ++ e ∷ []) s level
@@ -47,6 +47,7 @@ known_more vars clauses trail s e h level =
     let long = length-append trail (e ∷ []) in
     record {
       linked = h.linked;
+      blocked = h.blocked;
       satisfied = h.satisfied;
       head = omega (arith, h.head, long);
       marks = h.marks ∙ sym level ∙ sym last;
@@ -89,6 +90,7 @@ one_satisfied clauses path s h more t = record {
   propagation = h.propagation;
   known = record {
     linked = h.known.linked;
+    blocked = h.known.blocked;
     satisfied = omega (arith, more);
     head = h.known.head;
     marks = h.known.marks;
@@ -118,8 +120,8 @@ pub record Upholds (clauses : List NumberedClause) (trail : List Entry) (s s' : 
   pub still : (sub passed : List Entry) (count : ℕ) → IsPart sub trail → IsPart passed trail → count ≤ s.satisfied → AreUpheld clauses s sub passed count → AreUpheld clauses s' sub passed count
 
 pub kept_leads : (clauses : List NumberedClause) (path : Path) (s s' : State) → IsState clauses path s → Keeps s s' → Upholds clauses path.entries s s'
-    → IsLinked path.vars clauses s'.watches.items s'.lists s'.waiting.items → s'.satisfied ≤ length s'.waiting.items → Leads clauses path path s s'
-kept_leads clauses path s s' h k u linked within =
+    → IsLinked path.vars clauses s'.watches.items s'.lists s'.waiting.items → AreBlocked clauses s'.lists.rows → s'.satisfied ≤ length s'.waiting.items → Leads clauses path path s s'
+kept_leads clauses path s s' h k u linked blocked within =
     let old = h.known in
     let trail = path.entries in
     let marks : length s'.marks.items ≡ length s.marks.items = ap (λ (v : Vec ℕ Global). length v.items) k.marks in
@@ -130,6 +132,7 @@ kept_leads clauses path s s' h k u linked within =
         propagation = h.propagation;
         known = record {
           linked = linked;
+          blocked = blocked;
           satisfied = within;
           head = omega (arith, k.head, old.head);
           marks = marks ∙ old.marks;
@@ -157,7 +160,7 @@ pub same_upheld : (clauses : List NumberedClause) (s s' : State) (trail passed :
     → AreUpheld clauses s trail passed count → AreUpheld clauses s' trail passed count
 same_upheld clauses s s' trail passed count watches waiting h = record {
   waiting = λ n lt. subst (λ (ps : List ℕ). has_true trail (clause_at_place clauses (waiting_at ps n)).lits ≡ true) (sym waiting) (h.waiting n lt);
-  ready = λ p lt out. subst (λ (ws : List Watch). is_upheld trail passed (watch_at ws p) ≡ true) (sym watches) (h.ready p lt (subst (λ (ps : List ℕ). not (among ps p) ≡ true) waiting out));
+  ready = λ p lt out. subst (λ (ws : List Watch). is_upheld trail passed (clause_at_place clauses p).lits (watch_at ws p) ≡ true) (sym watches) (h.ready p lt (subst (λ (ps : List ℕ). not (among ps p) ≡ true) waiting out));
 }
 
 -- ANOTHER LITERAL WATCHED
@@ -166,6 +169,7 @@ same_upheld clauses s s' trail passed count watches waiting h = record {
 pub record Differs (s s' : State) (place : ℕ) (l r : ℤ) (at : ℕ) : Type 0 where
   pub watches : s'.watches.items ≡ set s.watches.items place (record { first = r; second = other_of (watch_at s.watches.items place) l })
   pub lists : s'.lists.lists ≡ moved s.lists.lists l at r
+  pub rows : s'.lists.rows ≡ moved_rows s.lists.rows l at r (other_of (watch_at s.watches.items place) l)
   pub counts : s'.lists.counts ≡ s.lists.counts
   pub waiting : s'.waiting ≡ s.waiting
   pub keeps : Keeps s s'
@@ -180,7 +184,6 @@ watch_there s s' place l r at p d n = ap (λ (ws : List Watch). watch_at ws p) d
 -- where the old watch is upheld, the new one is then
 pub record MayMove (trail : List Entry) (s : State) (place : ℕ) (l r : ℤ) : Type 0 where
   pub it : watches_it (watch_at s.watches.items place) l ≡ true
-  pub no_truth : true_in trail l ≡ false
   pub free : false_in trail r ≡ false
 
 pub moved_upholds : (clauses : List NumberedClause) (trail : List Entry) (s s' : State) (place : ℕ) (l r : ℤ) (at : ℕ) → place < length s.watches.items → Differs s s' place l r at
@@ -192,10 +195,13 @@ moved_upholds clauses trail s s' place l r at lt d m = record {
         let old = h.ready p in_clauses (subst (λ (v : Vec ℕ Global). not (among v.items p) ≡ true) d.waiting out) in
         elim (cases_eq p place) [
           | inl y ↦
-              let there : is_upheld sub passed (watch_at s.watches.items place) ≡ true = subst (λ (k : ℕ). is_upheld sub passed (watch_at s.watches.items k) ≡ true) y old in
-              let made = moved_upheld trail sub passed (watch_at s.watches.items place) l r part passed_part there m.it m.no_truth m.free in
-              subst (λ (k : ℕ). is_upheld sub passed (watch_at s'.watches.items k) ≡ true) (sym y) (subst (λ (x : Watch). is_upheld sub passed x ≡ true) (sym (watch_here s s' place l r at lt d)) made)
-          | inr y ↦ subst (λ (x : Watch). is_upheld sub passed x ≡ true) (sym (watch_there s s' place l r at p d y)) old
+              let c = (clause_at_place clauses place).lits in
+              let there : is_upheld sub passed c (watch_at s.watches.items place) ≡ true =
+              subst (λ (k : ℕ). is_upheld sub passed (clause_at_place clauses k).lits (watch_at s.watches.items k) ≡ true) y old in
+              let made = moved_upheld trail sub passed c (watch_at s.watches.items place) l r passed_part there m.it m.free in
+              subst (λ (k : ℕ). is_upheld sub passed (clause_at_place clauses k).lits (watch_at s'.watches.items k) ≡ true) (sym y)
+              (subst (λ (x : Watch). is_upheld sub passed c x ≡ true) (sym (watch_here s s' place l r at lt d)) made)
+          | inr y ↦ subst (λ (x : Watch). is_upheld sub passed (clause_at_place clauses p).lits x ≡ true) (sym (watch_there s s' place l r at p d y)) old
         ];
   };
 }
@@ -206,6 +212,7 @@ moved_upholds clauses trail s s' place l r at lt d m = record {
 pub record ListsNext (s s' : State) (x : Watch) : Type 0 where
   pub watches : s'.watches.items ≡ set s.watches.items (next_waiting s) x
   pub lists : s'.lists.lists ≡ with_watcher (with_watcher s.lists.lists x.first (next_waiting s)) x.second (next_waiting s)
+  pub rows : s'.lists.rows ≡ with_row (with_row s.lists.rows x.first (record { place = next_waiting s; blocker = x.second })) x.second (record { place = next_waiting s; blocker = x.first })
   pub counts : s'.lists.counts ≡ s.lists.counts
   pub waiting : s'.waiting.items ≡ swap_remove s.waiting.items s.satisfied (next_waiting s)
   pub keeps : Keeps s s'
@@ -222,12 +229,13 @@ listed_upholds clauses trail s s' x distinct more lt d f g = record {
     ready = λ p in_clauses out. elim (cases_eq p place) [
       | inl y ↦
           let here : watch_at s'.watches.items place ≡ x = ap (λ (ws : List Watch). watch_at ws place) d.watches ∙ get_or-set_same s.watches.items place x _ lt in
-          subst (λ (k : ℕ). is_upheld sub passed (watch_at s'.watches.items k) ≡ true) (sym y) (subst (λ (w : Watch). is_upheld sub passed w ≡ true) (sym here)
-          (upheld_free sub passed x (not_there passed trail (complement x.first) passed_part f) (not_there passed trail (complement x.second) passed_part g)))
+          subst (λ (k : ℕ). is_upheld sub passed (clause_at_place clauses k).lits (watch_at s'.watches.items k) ≡ true) (sym y)
+          (subst (λ (w : Watch). is_upheld sub passed (clause_at_place clauses place).lits w ≡ true) (sym here)
+          (upheld_free sub passed (clause_at_place clauses place).lits x (not_there passed trail (complement x.first) passed_part f) (not_there passed trail (complement x.second) passed_part g)))
       | inr y ↦
           let there : watch_at s'.watches.items p ≡ watch_at s.watches.items p = ap (λ (ws : List Watch). watch_at ws p) d.watches ∙ get_or-set_other s.watches.items place p x _ y in
           let no : among (swap_remove s.waiting.items s.satisfied place) p ≡ false = not-true _ (subst (λ (xs : List ℕ). not (among xs p) ≡ true) d.waiting out) in
-          subst (λ (w : Watch). is_upheld sub passed w ≡ true) (sym there) (h.ready p in_clauses (rw (left.stay p y no) refl))
+          subst (λ (w : Watch). is_upheld sub passed (clause_at_place clauses p).lits w ≡ true) (sym there) (h.ready p in_clauses (rw (left.stay p y no) refl))
     ];
   };
 }

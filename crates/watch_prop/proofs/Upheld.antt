@@ -5,10 +5,11 @@ use Rattle.std.proofs.lemmas.Bool.{cases_Bool, false_from_ne_true, not-true}
 use Rattle.lk_model.specs.Formulas.Literal.{complement}
 use Rattle.lk_model.proofs.Booleans.{and_true, or_true, or_left, or_right}
 use Rattle.lk_model.proofs.Literals.{same_int}
+use Rattle.lk_model.proofs.Variables.{any_mono}
 use Rattle.watch_prop.specs.declared.entry.Entry.{Entry}
 use Rattle.watch_prop.specs.declared.watch.Watch.{Watch}
 use Rattle.watch_prop.specs.Trail.{true_in, false_in, up_to_level}
-use Rattle.watch_prop.specs.Watch.{other_of, is_upheld}
+use Rattle.watch_prop.specs.Watch.{other_of, has_true, is_upheld}
 use Rattle.watch_prop.specs.Linked.{watches_it}
 use Rattle.watch_prop.proofs.Truths.{same_true, false_apart}
 
@@ -62,39 +63,30 @@ not_there part trail l p n = false_from_ne_true (true_in part l) (λ h. (let f :
 
 -- UPHELD
 
-or_rest : (a b c : Bool) → (a || b || c) ≡ true → a ≡ false → b ≡ false → c ≡ true
-or_rest true b c h e f = absurd (let z : ⊥ = cc in z)
-or_rest false true c h e f = absurd (let z : ⊥ = cc in z)
-or_rest false false c h e f = h
-
--- of a watch that has no true literal neither is false
+-- of a watch neither literal is false
 pub record AreFree (passed : List Entry) (w : Watch) : Type 0 where
   pub first : false_in passed w.first ≡ false
   pub second : false_in passed w.second ≡ false
 
-pub free : (trail passed : List Entry) (w : Watch) → is_upheld trail passed w ≡ true → true_in trail w.first ≡ false → true_in trail w.second ≡ false → AreFree passed w
-free trail passed w h a b =
-    let both = and_true (not (false_in passed w.first)) (not (false_in passed w.second)) (or_rest (true_in trail w.first) (true_in trail w.second) _ h a b) in
+-- so it is where the clause has no true literal
+pub free : (trail passed : List Entry) (c : List ℤ) (w : Watch) → is_upheld trail passed c w ≡ true → has_true trail c ≡ false → AreFree passed w
+free trail passed c w h none =
+    let rest : (not (false_in passed w.first) && not (false_in passed w.second)) ≡ true =
+    subst (λ (b : Bool). (b || not (false_in passed w.first) && not (false_in passed w.second)) ≡ true) none h in
+    let both = and_true (not (false_in passed w.first)) (not (false_in passed w.second)) rest in
     record { first = not-true _ both.0; second = not-true _ both.1 }
 
-pub upheld_first : (trail passed : List Entry) (w : Watch) → true_in trail w.first ≡ true → is_upheld trail passed w ≡ true
-upheld_first trail passed w h = rw h refl
+pub upheld_true : (trail passed : List Entry) (c : List ℤ) (w : Watch) → has_true trail c ≡ true → is_upheld trail passed c w ≡ true
+upheld_true trail passed c w h = or_left (has_true trail c) _ h
 
-pub upheld_second : (trail passed : List Entry) (w : Watch) → true_in trail w.second ≡ true → is_upheld trail passed w ≡ true
-upheld_second trail passed w h = or_left (true_in trail w.first || true_in trail w.second) _ (or_right (true_in trail w.first) (true_in trail w.second) h)
-
-pub upheld_free : (trail passed : List Entry) (w : Watch) → false_in passed w.first ≡ false → false_in passed w.second ≡ false → is_upheld trail passed w ≡ true
-upheld_free trail passed w a b =
-    or_right (true_in trail w.first || true_in trail w.second) (not (false_in passed w.first) && not (false_in passed w.second)) (rw (a, b) refl)
+pub upheld_free : (trail passed : List Entry) (c : List ℤ) (w : Watch) → false_in passed w.first ≡ false → false_in passed w.second ≡ false → is_upheld trail passed c w ≡ true
+upheld_free trail passed c w a b = or_right (has_true trail c) (not (false_in passed w.first) && not (false_in passed w.second)) (rw (a, b) refl)
 
 -- longer trails uphold what shorter ones did
-pub upheld_more : (trail more passed : List Entry) (w : Watch) → is_upheld trail passed w ≡ true → is_upheld (trail ++ more) passed w ≡ true
-upheld_more trail more passed w h = elim (cases_Bool (true_in trail w.first)) [
-  | inl a ↦ upheld_first (trail ++ more) passed w ((part_more trail more).there w.first a)
-  | inr a ↦ elim (cases_Bool (true_in trail w.second)) [
-    | inl b ↦ upheld_second (trail ++ more) passed w ((part_more trail more).there w.second b)
-    | inr b ↦ (let f = free trail passed w h a b in upheld_free (trail ++ more) passed w f.first f.second)
-  ]
+pub upheld_more : (trail more passed : List Entry) (c : List ℤ) (w : Watch) → is_upheld trail passed c w ≡ true → is_upheld (trail ++ more) passed c w ≡ true
+upheld_more trail more passed c w h = elim (cases_Bool (has_true trail c)) [
+  | inl t ↦ upheld_true (trail ++ more) passed c w (any_mono (true_in trail) (true_in (trail ++ more)) c (part_more trail more).there t)
+  | inr none ↦ (let f = free trail passed c w h none in upheld_free (trail ++ more) passed c w f.first f.second)
 ]
 
 -- which of the two
@@ -123,19 +115,19 @@ other_apart w l two it same = at (one_of w l it)
     at (first a b) = apart (sym b ∙ same ∙ a)
     at (second a b) = apart (sym a ∙ sym same ∙ b)
 
--- A clause that watches r in place of l is upheld under a part of the trail: l is not true, and r is not false.
-pub moved_upheld : (trail sub passed : List Entry) (w : Watch) (l r : ℤ) → IsPart sub trail → IsPart passed trail → is_upheld sub passed w ≡ true → watches_it w l ≡ true
-    → true_in trail l ≡ false → false_in trail r ≡ false → is_upheld sub passed (record { first = r; second = other_of w l }) ≡ true
-moved_upheld trail sub passed w l r part passed_part h it no_l no_r = elim (cases_Bool (true_in sub (other_of w l))) [
-  | inl b ↦ upheld_second sub passed (record { first = r; second = other_of w l }) b
-  | inr b ↦ upheld_free sub passed (record { first = r; second = other_of w l }) (not_there passed trail (complement r) passed_part no_r)
-      (at (one_of w l it) b (not_there sub trail l part no_l))
-]
+-- the other literal of a watch of which neither is false
+pub other_free : (passed : List Entry) (w : Watch) (l : ℤ) → AreFree passed w → watches_it w l ≡ true → false_in passed (other_of w l) ≡ false
+other_free passed w l f it = at (one_of w l it)
   where
-    at : IsOneOf w l → true_in sub (other_of w l) ≡ false → true_in sub l ≡ false → false_in passed (other_of w l) ≡ false
-    at (first a b) no_b no_l =
-        let f = free sub passed w h (subst (λ (k : ℤ). true_in sub k ≡ false) a no_l) (subst (λ (k : ℤ). true_in sub k ≡ false) b no_b) in
-        subst (λ (k : ℤ). false_in passed k ≡ false) (sym b) f.second
-    at (second a b) no_b no_l =
-        let f = free sub passed w h (subst (λ (k : ℤ). true_in sub k ≡ false) b no_b) (subst (λ (k : ℤ). true_in sub k ≡ false) a no_l) in
-        subst (λ (k : ℤ). false_in passed k ≡ false) (sym b) f.first
+    at : IsOneOf w l → false_in passed (other_of w l) ≡ false
+    at (first a b) = subst (λ (k : ℤ). false_in passed k ≡ false) (sym b) f.second
+    at (second a b) = subst (λ (k : ℤ). false_in passed k ≡ false) (sym b) f.first
+
+-- A clause that watches r in place of l is upheld under a part of the trail, if r is not false.
+pub moved_upheld : (trail sub passed : List Entry) (c : List ℤ) (w : Watch) (l r : ℤ) → IsPart passed trail → is_upheld sub passed c w ≡ true → watches_it w l ≡ true
+    → false_in trail r ≡ false → is_upheld sub passed c (record { first = r; second = other_of w l }) ≡ true
+moved_upheld trail sub passed c w l r passed_part h it no_r = elim (cases_Bool (has_true sub c)) [
+  | inl t ↦ upheld_true sub passed c (record { first = r; second = other_of w l }) t
+  | inr none ↦ upheld_free sub passed c (record { first = r; second = other_of w l }) (not_there passed trail (complement r) passed_part no_r)
+      (other_free passed w l (free sub passed c w h none) it)
+]

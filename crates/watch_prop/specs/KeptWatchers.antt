@@ -1,18 +1,19 @@
 -- How the lists of watchers are kept: for as many clauses as hold a literal there is room.
 use Rattle.std.specs.Prelude.{◌≡◌, ℕ, ◌<◌, ◌≤◌, List, map, length, slice_index_or, Vec, vec_len, vec_capacity}
 use Rattle.std.specs.declared.alloc.Global.{Global}
+use Rattle.watch_prop.specs.declared.watcher_lists.Watcher.{Watcher}
 use Rattle.watch_prop.specs.declared.watcher_lists.WatcherLists.TheInside.{Inside}
-use Rattle.watch_prop.specs.Watchers.{Watchers}
+use Rattle.watch_prop.specs.Watchers.{Watchers, all_places}
 
-abbrev pub items_of : List (Vec ℕ Global) → List (List ℕ)
-items_of lists = map (λ (v : Vec ℕ Global). v.items) lists
+abbrev pub rows_of : List (Vec Watcher Global) → List (List Watcher)
+rows_of lists = map (λ (v : Vec Watcher Global). v.items) lists
 
 abbrev pub watchers_seen : Inside → Watchers
-watchers_seen w = record { lists = items_of w.lists; counts = w.counts }
+watchers_seen w = record { lists = all_places (rows_of w.lists); rows = rows_of w.lists; counts = w.counts }
 
-abbrev pub HasRoom : Vec ℕ Global → ℕ → Type 0
+abbrev pub HasRoom : Vec Watcher Global → ℕ → Type 0
 HasRoom v n = (vec_len v ≤ n) × (n ≤ vec_capacity v)
 
 pub record HaveRoom (w : Inside) : Type 0 where
   pub same : length w.lists ≡ length w.counts
-  pub each : (r : ℕ) (d : Vec ℕ Global) → r < length w.lists → HasRoom (slice_index_or w.lists r d) (slice_index_or w.counts r 0)
+  pub each : (r : ℕ) (d : Vec Watcher Global) → r < length w.lists → HasRoom (slice_index_or w.lists r d) (slice_index_or w.counts r 0)

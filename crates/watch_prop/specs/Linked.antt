@@ -1,13 +1,14 @@
 -- How clauses, the literals that they watch, and the lists of watchers go together.
 use Rattle.std.specs.Prelude.{◌≡◌, ℕ, ◌+◌, ◌*◌, ◌<◌, ◌||◌, List, [], filter, length, not, ℤ, pos, Bool, slice_index_or, slice_set, IsTrue}
-use Rattle.std.specs.List.{swap_remove}
+use Rattle.std.specs.List.{swap_remove, list_all}
 use Rattle.std.specs.Ordering.{int_eq}
 use Rattle.lk_model.specs.Lists.{among}
 use Rattle.lk_model.specs.Formulas.Literal.{contains, is_literal, rank_of}
 use Rattle.watch_prop.specs.declared.entry.NumberedClause.{NumberedClause}
 use Rattle.watch_prop.specs.declared.watch.Watch.{Watch}
 use Rattle.watch_prop.specs.Propagation.{are_distinct}
-use Rattle.watch_prop.specs.Watchers.{Watchers, watchers, count_of, with_watcher}
+use Rattle.watch_prop.specs.declared.watcher_lists.Watcher.{Watcher}
+use Rattle.watch_prop.specs.Watchers.{Watchers, watchers, row_of, count_of, with_watcher, with_row}
 
 abbrev pub clause_at_place : List NumberedClause → ℕ → NumberedClause
 clause_at_place clauses place = slice_index_or clauses place (record { number = 0; lits = [] })
@@ -51,3 +52,25 @@ moved lists l at to =
     let place = slice_index_or (watchers lists l) at 0 in
     let without = slice_set lists (rank_of l) (swap_remove (watchers lists l) at place) in
     with_watcher without to place
+
+-- and with their blockers, where the clause gets another one
+abbrev pub moved_rows : List (List Watcher) → ℤ → ℕ → ℤ → ℤ → List (List Watcher)
+moved_rows rows l at to blocker =
+    let w = slice_index_or (row_of rows l) at (record { place = 0; blocker = pos 0 }) in
+    let without = slice_set rows (rank_of l) (swap_remove (row_of rows l) at w) in
+    with_row without to (record { place = w.place; blocker = blocker })
+
+-- a row, and the rows, when the watcher at a place of one has another blocker
+abbrev pub with_blocker : List Watcher → ℕ → ℤ → List Watcher
+with_blocker row at blocker = slice_set row at (record { place = (slice_index_or row at (record { place = 0; blocker = pos 0 })).place; blocker = blocker })
+
+abbrev pub blocked_rows : List (List Watcher) → ℤ → ℕ → ℤ → List (List Watcher)
+blocked_rows rows l at blocker = slice_set rows (rank_of l) (with_blocker (row_of rows l) at blocker)
+
+-- the blocker is a literal of the clause
+abbrev pub blocks : List NumberedClause → Watcher → Bool
+blocks clauses w = contains (clause_at_place clauses w.place).lits w.blocker
+
+-- each blocker is
+abbrev pub AreBlocked : List NumberedClause → List (List Watcher) → Type 0
+AreBlocked clauses rows = (r : ℕ) → IsTrue (list_all (blocks clauses) (slice_index_or rows r []))

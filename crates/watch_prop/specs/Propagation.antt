@@ -1,12 +1,12 @@
 -- Unit propagation over numbered clauses.
-use Rattle.std.specs.Prelude.{◌≡◌, ℕ, ◌+◌, Bool, true, false, not, ◌&&◌, ◌==◌, nat_le, List, [], ◌∷◌, ◌++◌, map, filter, length, ℤ, None, is_some, IsTrue}
+use Rattle.std.specs.Prelude.{◌≡◌, ℕ, ◌+◌, Bool, true, false, not, ◌&&◌, ◌==◌, nat_le, List, [], ◌∷◌, ◌++◌, map, filter, ℤ, None, is_some, IsTrue}
 use Rattle.std.specs.List.{list_all}
 use Rattle.std.specs.Option.{option_map_or}
 use Rattle.lk_model.specs.Lists.{is_empty, among}
-use Rattle.lk_model.specs.Formulas.Literal.{variable, complement, is_clause, is_tautology}
+use Rattle.lk_model.specs.Formulas.Literal.{is_clause, is_tautology}
 use Rattle.lk_model.specs.Limits.{max_vars}
 use Rattle.lk_model.specs.Formulas.Formula.{clause_at}
-use Rattle.lk_model.specs.Formulas.Assignment.{Assignment, makes_true, satisfies}
+use Rattle.lk_model.specs.Formulas.Assignment.{Assignment}
 use Rattle.lk_model.specs.Formulas.Units.{is_false, is_unit}
 use Rattle.lk_model.specs.Formulas.Crossed.{crossed_out}
 use Rattle.lk_model.specs.Held.VariableSets.{is_in}

@@ -1,7 +1,7 @@
 -- What is known of clauses under a trail.
-use Rattle.std.specs.Prelude.{◌≡◌, ◌≢◌, ℕ, ◌+◌, ◌-◌, ◌<◌, ◌≤◌, Bool, not, false, List, length, take, drop, ℤ, pos, slice_index_or, vec_capacity, IsTrue, ⊤}
+use Rattle.std.specs.Prelude.{◌≡◌, ◌≢◌, ℕ, ◌+◌, ◌-◌, ◌<◌, ◌≤◌, not, false, List, length, take, drop, ℤ, pos, slice_index_or, vec_capacity, IsTrue, ⊤}
 use Rattle.std.specs.Option.{option_map_or}
-use Rattle.std.specs.List.{list_all, list_any}
+use Rattle.std.specs.List.{list_all}
 use Rattle.std.specs.Ordering.{int_eq}
 use Rattle.lk_model.specs.Lists.{among}
 use Rattle.lk_model.specs.Formulas.Literal.{complement}
@@ -13,10 +13,10 @@ use Rattle.watch_prop.specs.declared.watch.Watch.{Watch}
 use Rattle.watch_prop.specs.declared.state.State.{State}
 use Rattle.watch_prop.specs.declared.state.Settled.{Settled}
 use Rattle.watch_prop.specs.declared.state.Settled.TheVariants.{Stays, Moves, IsFalse}
-use Rattle.watch_prop.specs.Trail.{Path, literals_of, true_in, false_in, present_level, up_to_level, clause_numbered}
-use Rattle.watch_prop.specs.Watch.{other_of, is_upheld}
+use Rattle.watch_prop.specs.Trail.{Path, literals_of, false_in, present_level, up_to_level, clause_numbered}
+use Rattle.watch_prop.specs.Watch.{other_of, has_true, is_upheld}
 use Rattle.watch_prop.specs.Watchers.{watchers}
-use Rattle.watch_prop.specs.Linked.{IsLinked, clause_at_place, watch_at}
+use Rattle.watch_prop.specs.Linked.{IsLinked, AreBlocked, clause_at_place, watch_at}
 use Rattle.watch_prop.specs.Propagation.{Propagation, IsPropagation, GoesOn, assigned}
 use Rattle.lk_model.specs.Formulas.Units.{is_false}
 
@@ -35,15 +35,11 @@ unseen s = length s.waiting.items - s.satisfied
 abbrev pub mark_at : List ℕ → ℕ → ℕ
 mark_at marks level = slice_index_or marks level 0
 
--- a clause has a true literal
-abbrev pub has_true : List Entry → List ℤ → Bool
-has_true trail c = list_any (true_in trail) c
-
 -- Under a trail of which the literals of one part were passed on, the first clauses that wait have a true literal, so many as
 -- are given, and those that don't wait are upheld.
 pub record AreUpheld (clauses : List NumberedClause) (s : State) (trail passed : List Entry) (count : ℕ) : Type 0 where
   pub waiting : (n : ℕ) → n < count → IsTrue (has_true trail (clause_at_place clauses (waiting_at s.waiting.items n)).lits)
-  pub ready : (place : ℕ) → place < length clauses → IsTrue (not (among s.waiting.items place)) → IsTrue (is_upheld trail passed (watch_at s.watches.items place))
+  pub ready : (place : ℕ) → place < length clauses → IsTrue (not (among s.waiting.items place)) → IsTrue (is_upheld trail passed (clause_at_place clauses place).lits (watch_at s.watches.items place))
 
 -- what is known of a level below the present one: all that stands up to it was passed on
 pub record IsKnownBelow (clauses : List NumberedClause) (trail : List Entry) (s : State) (level : ℕ) : Type 0 where
@@ -53,6 +49,7 @@ pub record IsKnownBelow (clauses : List NumberedClause) (trail : List Entry) (s 
 
 pub record IsKnown (vars : ℕ) (clauses : List NumberedClause) (trail : List Entry) (s : State) : Type 0 where
   pub linked : IsLinked vars clauses s.watches.items s.lists s.waiting.items
+  pub blocked : AreBlocked clauses s.lists.rows
   pub satisfied : s.satisfied ≤ length s.waiting.items
   pub head : s.head ≤ length trail
   pub marks : length s.marks.items ≡ present_level trail
@@ -79,12 +76,11 @@ pub record Leads (clauses : List NumberedClause) (path path' : Path) (s s' : Sta
 abbrev pub IsAtHead : List Entry → ℕ → ℤ → Type 0
 IsAtHead trail head l = (head < length trail) × (slice_index_or (literals_of trail) head (pos 0) ≡ complement l)
 
--- What becomes of a clause that watches the false literal l and another one, b. It keeps its watch, and b is true. Or b was not
--- true, and it watches a literal in place of l that is not b and not false. Or it is false.
+-- What becomes of a clause that watches the false literal l and another one, b. It keeps its watch, and has a true literal. Or it
+-- watches a literal in place of l that is not b and not false. Or it is false.
 abbrev pub IsSettled : List NumberedClause → List Entry → List Entry → Watch → Watch → ℕ → ℤ → Settled → Type 0
-IsSettled clauses trail trail' w w' place l Stays = (w' ≡ w) × IsTrue (true_in trail' (other_of w l))
-IsSettled clauses trail trail' w w' place l Moves = (trail' ≡ trail) × (w'.second ≡ other_of w l) × IsTrue (not (true_in trail (other_of w l)))
-    × IsTrue (not (int_eq w'.first (other_of w l))) × IsTrue (not (false_in trail w'.first))
+IsSettled clauses trail trail' w w' place l Stays = (w' ≡ w) × IsTrue (has_true trail' (clause_at_place clauses place).lits)
+IsSettled clauses trail trail' w w' place l Moves = (trail' ≡ trail) × (w'.second ≡ other_of w l) × IsTrue (not (int_eq w'.first (other_of w l))) × IsTrue (not (false_in trail w'.first))
 IsSettled clauses trail trail' w w' place l IsFalse = IsTrue (list_all (false_in trail') (clause_at_place clauses place).lits)
 
 -- what becomes of the list of l: it stays, or the clause leaves it, and no other one leaves what comes from its place on

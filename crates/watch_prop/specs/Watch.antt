@@ -1,6 +1,6 @@
 -- The two literals that a clause watches, and what a clause asks for.
 use Rattle.std.specs.Prelude.{◌≡◌, ◌&&◌, ◌||◌, Bool, not, if◌then◌else◌, List, ℤ, IsTrue, Option, Some, None, ℕ, pos, ◌<◌, ◌≤◌, length, slice_index_or}
-use Rattle.std.specs.List.{list_all}
+use Rattle.std.specs.List.{list_all, list_any}
 use Rattle.std.specs.Ordering.{int_eq}
 use Rattle.lk_model.specs.Formulas.Literal.{contains}
 use Rattle.watch_prop.specs.declared.entry.Entry.{Entry}
@@ -15,10 +15,14 @@ use Rattle.watch_prop.specs.Trail.{true_in, false_in}
 abbrev pub other_of : Watch → ℤ → ℤ
 other_of w l = if int_eq w.first l then w.second else w.first
 
--- A watch is upheld under a trail of which the literals of one part were passed on: one of its literals is true, or neither
--- is false by what was passed on.
-abbrev pub is_upheld : List Entry → List Entry → Watch → Bool
-is_upheld trail passed w = true_in trail w.first || true_in trail w.second || not (false_in passed w.first) && not (false_in passed w.second)
+-- a clause has a true literal
+abbrev pub has_true : List Entry → List ℤ → Bool
+has_true trail c = list_any (true_in trail) c
+
+-- The watch of a clause is upheld under a trail of which the literals of one part were passed on: the clause has a true literal,
+-- or neither literal of the watch is false by what was passed on.
+abbrev pub is_upheld : List Entry → List Entry → List ℤ → Watch → Bool
+is_upheld trail passed c w = has_true trail c || not (false_in passed w.first) && not (false_in passed w.second)
 
 -- the literal at a place is false
 abbrev pub false_at : List Entry → List ℤ → ℕ → Bool
@@ -29,11 +33,11 @@ abbrev pub IsFirstNotFalse : List Entry → List ℤ → Option ℕ → Type 0
 IsFirstNotFalse trail c (Some at) = (at < length c) × IsTrue (not (false_at trail c at)) × ((k : ℕ) → k < at → IsTrue (false_at trail c k))
 IsFirstNotFalse trail c None = (k : ℕ) → k < length c → IsTrue (false_at trail c k)
 
--- A place of the clause at which a literal stands that is not false, other than one; none where each from a first place on is
--- false or that one.
-abbrev pub IsPlaceOfAnother : List Entry → List ℤ → ℤ → ℕ → Option ℕ → Type 0
-IsPlaceOfAnother trail c b begin (Some at) = (at < length c) × IsTrue (not (int_eq (slice_index_or c at (pos 0)) b) && not (false_at trail c at))
-IsPlaceOfAnother trail c b begin None = (k : ℕ) → begin ≤ k → k < length c → IsTrue (int_eq (slice_index_or c k (pos 0)) b || false_at trail c k)
+-- A place of the clause at which a literal stands that is not false, other than one; none where each from a first place on up to
+-- an end is false or that one.
+abbrev pub IsPlaceOfAnother : List Entry → List ℤ → ℤ → ℕ → ℕ → Option ℕ → Type 0
+IsPlaceOfAnother trail c b begin end (Some at) = (at < length c) × IsTrue (not (int_eq (slice_index_or c at (pos 0)) b) && not (false_at trail c at))
+IsPlaceOfAnother trail c b begin end None = (k : ℕ) → begin ≤ k → k < end → IsTrue (int_eq (slice_index_or c k (pos 0)) b || false_at trail c k)
 
 -- each literal of the clause but one is false
 abbrev pub all_false_but : List Entry → List ℤ → ℤ → Bool
@@ -49,6 +53,6 @@ IsFound trail c (Two w) = IsTrue (contains c w.first) × IsTrue (contains c w.se
 -- What a clause asks for of which one watched literal is false, and the other one, b, is not true: to watch a literal that is
 -- not false, if there is one but b; else that b becomes true, or it is false.
 abbrev pub IsDemand : List Entry → List ℤ → ℤ → Demand → Type 0
-IsDemand trail c b (Move r) = IsTrue (contains c r) × IsTrue (not (int_eq r b)) × IsTrue (not (false_in trail r))
+IsDemand trail c b (Move r at) = IsTrue (contains c r) × IsTrue (not (int_eq r b)) × IsTrue (not (false_in trail r))
 IsDemand trail c b (Truth f) = (f ≡ b) × IsTrue (not (false_in trail b)) × IsTrue (all_false_but trail c b)
 IsDemand trail c b Conflict = IsTrue (list_all (false_in trail) c)

@@ -171,6 +171,7 @@ impl Propagator {
             clauses: Clauses::new(alloc),
             state: State {
                 watches: Vec::new(alloc),
+                saved: Vec::new(alloc),
                 lists,
                 waiting: Vec::new(alloc),
                 satisfied: 0,
@@ -192,19 +193,24 @@ impl Propagator {
         Ok(())
     }
 
-    // Holds one more clause. Where there is no room for it in the lists, it is taken back.
+    // Holds one more clause. Where there is no room for it in the lists, it is taken back; and there is none for a clause
+    // whose place needs more than 32 bits.
     fn hold(&mut self, number: u64, lits: &[Lit]) -> Result<(), OutOfMemory>
         requires clause { IsTrue (not (is_empty lits.now) && is_clause self.old.vars lits.now) }
         requires fresh { IsTrue (not (among (numbers_of self.old.clauses) number)) }
         ensures ok { OnOk result (self.new ≡ with_held self.old number lits.now) }
         ensures err { OnErr result (self.new ≡ self.old) }
     {
+        let len = self.clauses.len();
+        let Ok(place) = u32::try_from(len) else {
+            return Err(OutOfMemory);
+        };
         self.state.watches.reserve(1)?;
         self.state.waiting.reserve(1)?;
-        let place = self.clauses.len();
+        self.state.saved.reserve(1)?;
         self.clauses.push(number, lits)?;
         if let Err(error) = self.state.lists.count(lits) {
-            self.clauses.truncate(place);
+            self.clauses.truncate(len);
             return Err(error);
         }
         let l = lits[0];
@@ -213,6 +219,7 @@ impl Propagator {
             second: l,
         });
         self.state.waiting.push_reserved(place);
+        self.state.saved.push_reserved(0);
         Ok(())
     }
 }

@@ -11,9 +11,9 @@
 //! goes to the end, and one that leaves is at hand, since the list is being walked.
 ghost use Rattle.std.specs.Prelude.{◌≡◌, ◌≢◌, ℕ, ◌+◌, ◌-◌, ◌<◌, length, slice_index_or, slice_set, IsTrue};
 ghost use Rattle.std.specs.List.{swap_remove};
-ghost use Rattle.lk_model.specs.Formulas.Literal.{rank_of, is_literal};
+ghost use Rattle.lk_model.specs.Formulas.Literal.{contains, rank_of, is_literal};
 ghost use Rattle.watch_prop.specs.Propagation.{IsAnswered};
-ghost use Rattle.watch_prop.specs.Watchers.{watchers, count_of, with_watcher};
+ghost use Rattle.watch_prop.specs.Watchers.{places, row_of, watchers, count_of, with_watcher, with_row};
 ghost use Rattle.watch_prop.specs.Linked.{clause_at_place, watch_at};
 ghost use Rattle.watch_prop.specs.Watch.{other_of};
 ghost use Rattle.watch_prop.specs.States.{propagation_of, unseen, next_waiting, IsState, Leads, IsAtHead, Settles, Passes};
@@ -22,18 +22,24 @@ use crate::clauses::Clauses;
 use crate::entry::Propagated;
 use crate::trail::Trail;
 use crate::watch::{Demand, Found, Watch, demand_of, find};
-use crate::watcher_lists::WatcherLists;
+use crate::watcher_lists::{Watcher, WatcherLists};
 use lk_model::Lit;
+
+// Clauses of more literals than this are long. Short ones are faster searched from the front each time.
+const LONG: usize = 32;
 
 /// What is known of clauses under a trail.
 #[derive(Drop)]
 pub(crate) struct State {
     /// For each clause that does not wait the literals that it watches.
     pub watches: Vec<Watch>,
+    /// For each clause the place in it of the literal that came to be watched last, if the clause is long: there the next
+    /// search begins. It is a matter of speed alone where that is.
+    pub saved: Vec<u32>,
     /// For each literal its watchers.
     pub lists: WatcherLists,
     /// The clauses that watch nothing, since they had no two literals that are not false.
-    pub waiting: Vec<usize>,
+    pub waiting: Vec<u32>,
     /// So many of these, the first ones, have a true literal.
     pub satisfied: usize,
     /// So many literals of the trail were passed on to the watchers of their complements.
@@ -51,6 +57,29 @@ impl State {
         self.watches[place].other(l)
     }
 
+    // Where in a clause of so many literals the next search begins.
+    fn search_from(&self, place: usize, len: usize) -> usize {
+        if len > LONG {
+            self.saved.get(place).copied().unwrap_or(0) as usize
+        } else {
+            0
+        }
+    }
+
+    // The next search of a long clause begins where the last one ended.
+    fn save(&mut self, place: usize, len: usize, found: usize)
+        ensures { self.new ≡ record self.old { saved = self.new.saved } }
+    {
+        let Ok(found) = u32::try_from(found) else {
+            return;
+        };
+        if len > LONG {
+            if let Some(saved) = self.saved.get_mut(place) {
+                *saved = found;
+            }
+        }
+    }
+
     // The next clause that waits comes to watch two literals.
     fn list_next(&mut self, watch: Watch)
         requires next { self.old.satisfied < length self.old.waiting.items }
@@ -62,6 +91,7 @@ impl State {
         requires second_room { length (watchers self.old.lists.lists watch.second) < count_of self.old.lists.counts watch.second }
         ensures watches { self.new.watches.items ≡ slice_set self.old.watches.items (next_waiting self.old) watch }
         ensures lists { self.new.lists.lists ≡ with_watcher (with_watcher self.old.lists.lists watch.first (next_waiting self.old)) watch.second (next_waiting self.old) }
+        ensures rows { self.new.lists.rows ≡ with_row (with_row self.old.lists.rows watch.first (record { place = next_waiting self.old; blocker = watch.second })) watch.second (record { place = next_waiting self.old; blocker = watch.first }) }
         ensures counts { self.new.lists.counts ≡ self.old.lists.counts }
         ensures waiting { self.new.waiting.items ≡ swap_remove self.old.waiting.items self.old.satisfied (next_waiting self.old) }
         ensures satisfied { self.new.satisfied ≡ self.old.satisfied }
@@ -70,9 +100,9 @@ impl State {
     {
         let place = self.waiting.swap_remove(self.satisfied);
         let Watch { first, second } = watch;
-        self.lists.push(first, place);
-        self.lists.push(second, place);
-        self.watches[place] = Watch { first, second };
+        self.lists.push(first, place, second);
+        self.lists.push(second, place, first);
+        self.watches[place as usize] = Watch { first, second };
     }
 }
 
@@ -119,7 +149,7 @@ fn look_at_next(clauses: &Clauses, trail: &mut Trail, state: &mut State) -> Prop
     ensures leads { Leads clauses.now trail.old trail.new state.old state.new }
     ensures done { Passes clauses.now trail.new result (unseen state.new + 1 ≡ unseen state.old) }
 {
-    let place = state.waiting[state.satisfied];
+    let place = state.waiting[state.satisfied] as usize;
     match find(trail, clauses.lits(place)) {
         Found::AllFalse => Propagated::Conflict(clauses.number(place)),
         Found::Two(watch) => {
@@ -160,8 +190,10 @@ fn pass_on(clauses: &Clauses, trail: &mut Trail, state: &mut State) -> Propagate
     let l = trail.lits()[state.head].negated();
     let mut at = 0;
     'watchers: while at < state.lists.of(l).len() {
-        let place = state.lists.of(l)[at];
-        match settle(clauses, trail, state, place, l, at) {
+        let watcher = state.lists.of(l)[at];
+        let Watcher { place, blocker } = watcher;
+        let place = place as usize;
+        match settle(clauses, trail, state, place, blocker, l, at) {
             Settled::Stays => at += 1,
             Settled::Moves => {}
             Settled::IsFalse => return Propagated::Conflict(clauses.number(place)),
@@ -171,35 +203,45 @@ fn pass_on(clauses: &Clauses, trail: &mut Trail, state: &mut State) -> Propagate
     Propagated::Quiet
 }
 
-// Gives a clause what it asks for when a literal that it watches is false.
+// Gives a clause what it asks for when a literal that it watches is false. Where its blocker is true it asks for nothing.
 fn settle(
     clauses: &Clauses,
     trail: &mut Trail,
     state: &mut State,
     place: usize,
+    blocker: Lit,
     l: Lit,
     at: usize,
 ) -> Settled
     requires state { IsState clauses.now trail.old state.old }
     requires place { place < length clauses.now }
+    requires blocker { IsTrue (contains (clause_at_place clauses.now place).lits blocker) }
     requires within { at < length (watchers state.old.lists.lists l) }
     requires stands { slice_index_or (watchers state.old.lists.lists l) at 0 ≡ place }
+    requires row { places (row_of state.old.lists.rows l) ≡ watchers state.old.lists.lists l }
     requires head { IsAtHead trail.old.entries state.old.head l }
     requires literal { IsTrue (is_literal trail.old.vars l) }
     ensures leads { Leads clauses.now trail.old trail.new state.old state.new }
     ensures settles { Settles clauses.now trail.old trail.new state.old state.new place l at result }
 {
-    let other = state.other(place, l);
-    if trail.is_true(other) {
+    if trail.is_true(blocker) {
         return Settled::Stays;
     }
-    match demand_of(trail, clauses.lits(place), other) {
-        Demand::Move(to) => {
+    let other = state.other(place, l);
+    if trail.is_true(other) {
+        state.lists.block(l, at, other);
+        return Settled::Stays;
+    }
+    let lits = clauses.lits(place);
+    let begin = state.search_from(place, lits.len());
+    match demand_of(trail, lits, other, begin) {
+        Demand::Move(to, found) => {
             state.watches[place] = Watch {
                 first: to,
                 second: other,
             };
-            state.lists.shift(l, at, to);
+            state.lists.shift(l, at, to, other);
+            state.save(place, lits.len(), found);
             Settled::Moves
         }
         Demand::Truth(l) => {

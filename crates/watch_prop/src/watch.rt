@@ -1,7 +1,9 @@
 //! The two literals that a clause watches, and what a clause asks for.
 //!
-//! Another literal is searched from the front. Where variables are decided in their order, and the literals of clauses
-//! ascend, those at the front seldom change, and what is found there is not false for long.
+//! Another literal is searched from the front of a short clause. Where variables are decided in their order, and the literals
+//! of clauses ascend, those at the front seldom change, and what is found there is not false for long. A long clause whose
+//! literals become false one after another would be gone through from its front each time, so it is searched on from where the
+//! last search ended, and around (Gent, "Optimal Implementation of Watched Literals and More General Techniques", 2013).
 ghost use Rattle.std.specs.Prelude.{◌≡◌, ◌≤◌, length, IsTrue};
 ghost use Rattle.std.specs.List.{list_all};
 ghost use Rattle.lk_model.specs.Formulas.Literal.{is_literal};
@@ -47,7 +49,7 @@ pub(crate) fn find(trail: &Trail, lits: &[Lit]) -> Found
         return Found::AllFalse
     };
     let l = lits[one];
-    match place_of_another(trail, lits, l, one + 1) {
+    match place_of_another(trail, lits, l, one + 1, lits.len()) {
         Some(two) => Found::Two(Watch {
             first: l,
             second: lits[two],
@@ -59,33 +61,54 @@ pub(crate) fn find(trail: &Trail, lits: &[Lit]) -> Found
 /// What a clause asks for when a literal that it watches is false and the other one is not true.
 #[derive(Clone, Copy)]
 pub(crate) enum Demand {
-    /// To watch another literal instead of the false one.
-    Move(Lit),
+    /// To watch another literal instead of the false one, with the place at which it stands.
+    Move(Lit, usize),
     /// That its only unset literal becomes true.
     Truth(Lit),
     /// What can't be: each of its literals is false.
     Conflict,
 }
 
-/// What a clause asks for of which one watched literal is false and the other one is not true.
-pub(crate) fn demand_of(trail: &Trail, lits: &[Lit], other: Lit) -> Demand
+/// What a clause asks for of which one watched literal is false and the other one is not true. Another literal is searched
+/// from a place on.
+pub(crate) fn demand_of(trail: &Trail, lits: &[Lit], other: Lit, begin: usize) -> Demand
     requires lits { IsTrue (list_all (is_literal trail.now.vars) lits.now) }
     requires other { IsTrue (is_literal trail.now.vars other) }
     ensures { IsDemand trail.now.entries lits.now other result }
 {
-    match place_of_another(trail, lits, other, 0) {
-        Some(at) => Demand::Move(lits[at]),
+    match place_around(trail, lits, other, begin) {
+        Some(at) => Demand::Move(lits[at], at),
         None if trail.is_false(other) => Demand::Conflict,
         None => Demand::Truth(other),
     }
 }
 
-// The first place from one on of a literal that is not false, but not that of a given one.
-fn place_of_another(trail: &Trail, lits: &[Lit], but: Lit, begin: usize) -> Option<usize>
+// A place of a literal that is not false, but not that of a given one, searched from one place to the end, and then from
+// the front to that place.
+fn place_around(trail: &Trail, lits: &[Lit], but: Lit, begin: usize) -> Option<usize>
     requires { IsTrue (list_all (is_literal trail.now.vars) lits.now) }
-    ensures { IsPlaceOfAnother trail.now.entries lits.now but begin result }
+    ensures { IsPlaceOfAnother trail.now.entries lits.now but 0 (length lits.now) result }
 {
-    for at in begin..lits.len() {
+    let begin = if begin < lits.len() { begin } else { 0 };
+    match place_of_another(trail, lits, but, begin, lits.len()) {
+        Some(at) => Some(at),
+        None => place_of_another(trail, lits, but, 0, begin),
+    }
+}
+
+// The first place between two of a literal that is not false, but not that of a given one.
+fn place_of_another(
+    trail: &Trail,
+    lits: &[Lit],
+    but: Lit,
+    begin: usize,
+    end: usize,
+) -> Option<usize>
+    requires lits { IsTrue (list_all (is_literal trail.now.vars) lits.now) }
+    requires end { end ≤ length lits.now }
+    ensures { IsPlaceOfAnother trail.now.entries lits.now but begin end result }
+{
+    for at in begin..end {
         if lits[at] != but && !trail.is_false(lits[at]) {
             return Some(at);
         }

@@ -1,20 +1,29 @@
-//! The watchers of a literal: the clauses that watch it.
-ghost use Rattle.std.specs.Prelude.{◌≡◌, ◌≢◌, ℕ, ◌+◌, ◌*◌, ◌^◌, ◌<◌, ◌≤◌, [], length, replicate, slice_index_or, nat_lt, ℤ, Vec, vec_capacity, IfOk, OnOk, OnErr, IsTrue};
+//! The watchers of a literal: the clauses that watch it, each with a literal to look at first.
+ghost use Rattle.std.specs.Prelude.{◌≡◌, ◌≢◌, ℕ, ◌+◌, ◌*◌, ◌^◌, ◌<◌, ◌≤◌, [], length, replicate, slice_index_or, nat_lt, ℤ, Vec, vec_len, vec_capacity, IfOk, OnOk, OnErr, IsTrue};
 ghost use Rattle.std.specs.List.{list_all};
 ghost use Rattle.lk_model.specs.Formulas.Literal.{contains, is_distinct, rank_of};
-ghost use Rattle.watch_prop.specs.Watchers.{watchers, count_of, with_watcher, with_counted};
-ghost use Rattle.watch_prop.specs.Linked.{moved};
-ghost use Rattle.watch_prop.specs.KeptWatchers.{items_of, HasRoom};
+ghost use Rattle.watch_prop.specs.Watchers.{row_of, places, watchers, count_of, with_watcher, with_row, with_counted};
+ghost use Rattle.watch_prop.specs.Linked.{moved, moved_rows, with_blocker, blocked_rows};
+ghost use Rattle.watch_prop.specs.declared.watcher_lists.Watcher.{Watcher};
+ghost use Rattle.watch_prop.specs.KeptWatchers.{rows_of, HasRoom};
 
 use lk_model::{Lit, LitTable, OutOfMemory};
 use std::alloc::Global;
 use std::marker::Model;
 
-/// For each literal the places of the clauses that watch it, and how many clauses have it. So many may come
-/// to watch it, and for so many there is room.
+/// A clause that watches a literal, by its place, and the blocker: a literal of that clause. Where the blocker is true, the
+/// clause forces nothing and need not be looked at.
+#[derive(Clone, Copy)]
+pub(crate) struct Watcher {
+    pub place: u32,
+    pub blocker: Lit,
+}
+
+/// For each literal its watchers, and how many clauses have it. So many may come to watch it, and for so many there is
+/// room.
 #[derive(Drop)]
 pub(crate) struct WatcherLists {
-    lists: LitTable<Vec<usize>>,
+    lists: LitTable<Vec<Watcher>>,
     counts: LitTable<usize>,
 }
 
@@ -35,6 +44,7 @@ impl WatcherLists {
     pub fn new(alloc: Global, n: u32) -> Result<WatcherLists, OutOfMemory>
         requires { n ≤ 1000000 }
         ensures lists { IfOk result (λ w. w.lists ≡ replicate (2 * n + 2) []) }
+        ensures rows { IfOk result (λ w. w.rows ≡ replicate (2 * n + 2) []) }
         ensures counts { IfOk result (λ w. w.counts ≡ replicate (2 * n + 2) 0) }
     {
         Ok(WatcherLists {
@@ -44,9 +54,10 @@ impl WatcherLists {
     }
 
     /// The watchers of a literal.
-    pub fn of(&self, l: Lit) -> &[usize]
+    pub fn of(&self, l: Lit) -> &[Watcher]
         requires { rank_of l < length self.now.lists }
-        ensures { result.now ≡ watchers self.now.lists l }
+        ensures row { result.now ≡ row_of self.now.rows l }
+        ensures places { places result.now ≡ watchers self.now.lists l }
     {
         self.lists[l].as_slice()
     }
@@ -57,6 +68,7 @@ impl WatcherLists {
         requires ranks { IsTrue (list_all (λ l. nat_lt (rank_of l) (length self.old.lists)) lits.now) }
         requires distinct { IsTrue (is_distinct lits.now) }
         ensures lists { self.new.lists ≡ self.old.lists }
+        ensures rows { self.new.rows ≡ self.old.rows }
         ensures counts { OnOk result (self.new.counts ≡ with_counted self.old.counts lits.now) }
         ensures err { OnErr result (self.new ≡ self.old) }
     {
@@ -66,42 +78,66 @@ impl WatcherLists {
     }
 
     /// Puts a clause at the end of a literal's list.
-    pub fn push(&mut self, l: Lit, place: usize)
+    pub fn push(&mut self, l: Lit, place: u32, blocker: Lit)
         requires rank { rank_of l < length self.old.lists }
         requires room { length (watchers self.old.lists l) < count_of self.old.counts l }
         ensures lists { self.new.lists ≡ with_watcher self.old.lists l place }
+        ensures rows { self.new.rows ≡ with_row self.old.rows l (record { place = place; blocker = blocker }) }
         ensures counts { self.new.counts ≡ self.old.counts }
     {
-        self.lists[l].push_reserved(place);
+        self.lists[l].push_reserved(Watcher { place, blocker });
     }
 
-    /// Moves the clause that stands at a place of one literal's list to that of another literal.
-    pub fn shift(&mut self, l: Lit, at: usize, to: Lit)
+    /// Gives the clause that stands at a place of a literal's list another blocker.
+    pub fn block(&mut self, l: Lit, at: usize, blocker: Lit)
+        requires rank { rank_of l < length self.old.lists }
+        requires within { at < length (watchers self.old.lists l) }
+        ensures lists { self.new.lists ≡ self.old.lists }
+        ensures rows { self.new.rows ≡ blocked_rows self.old.rows l at blocker }
+        ensures counts { self.new.counts ≡ self.old.counts }
+    {
+        set_blocker(&mut self.lists[l], at, blocker);
+    }
+
+    /// Moves the clause that stands at a place of one literal's list to that of another literal, with another blocker.
+    pub fn shift(&mut self, l: Lit, at: usize, to: Lit, blocker: Lit)
         requires from { rank_of l < length self.old.lists }
         requires to { rank_of to < length self.old.lists }
         requires apart { l ≢ to }
         requires within { at < length (watchers self.old.lists l) }
         requires room { length (watchers self.old.lists to) < count_of self.old.counts to }
         ensures lists { self.new.lists ≡ moved self.old.lists l at to }
+        ensures rows { self.new.rows ≡ moved_rows self.old.rows l at to blocker }
         ensures counts { self.new.counts ≡ self.old.counts }
     {
-        let place = self.lists[l].swap_remove(at);
-        self.lists[to].push_reserved(place);
+        let place = self.lists[l].swap_remove(at).place;
+        self.lists[to].push_reserved(Watcher { place, blocker });
     }
+}
+
+// Gives the watcher at a place another blocker.
+fn set_blocker(list: &mut Vec<Watcher>, at: usize, blocker: Lit)
+    requires { at < length list.old.items }
+    ensures items { list.new.items ≡ with_blocker list.old.items at blocker }
+    ensures len { vec_len list.new ≡ vec_len list.old }
+    ensures capacity { vec_capacity list.new ≡ vec_capacity list.old }
+{
+    let place = list[at].place;
+    list[at] = Watcher { place, blocker };
 }
 
 // Makes room for one clause more that has these literals.
 fn make_room(
-    lists: &mut LitTable<Vec<usize>>,
+    lists: &mut LitTable<Vec<Watcher>>,
     counts: &LitTable<usize>,
     lits: &[Lit],
 ) -> Result<(), OutOfMemory>
     requires same { length lists.old ≡ length counts.now }
     requires ranks { IsTrue (list_all (λ l. nat_lt (rank_of l) (length lists.old)) lits.now) }
-    requires room { (r : ℕ) (d : Vec ℕ Global) → r < length lists.old → HasRoom (slice_index_or lists.old r d) (slice_index_or counts.now r 0) }
-    ensures items { items_of lists.new ≡ items_of lists.old }
-    ensures room { (r : ℕ) (d : Vec ℕ Global) → r < length lists.old → HasRoom (slice_index_or lists.new r d) (slice_index_or counts.now r 0) }
-    ensures more { OnOk result ((l : ℤ) (d : Vec ℕ Global) → IsTrue (contains lits.now l) → count_of counts.now l < vec_capacity (slice_index_or lists.new (rank_of l) d)) }
+    requires room { (r : ℕ) (d : Vec Watcher Global) → r < length lists.old → HasRoom (slice_index_or lists.old r d) (slice_index_or counts.now r 0) }
+    ensures rows { rows_of lists.new ≡ rows_of lists.old }
+    ensures room { (r : ℕ) (d : Vec Watcher Global) → r < length lists.old → HasRoom (slice_index_or lists.new r d) (slice_index_or counts.now r 0) }
+    ensures more { OnOk result ((l : ℤ) (d : Vec Watcher Global) → IsTrue (contains lits.now l) → count_of counts.now l < vec_capacity (slice_index_or lists.new (rank_of l) d)) }
 {
     for l in lits {
         let more = counts[*l] - lists[*l].len() + 1;

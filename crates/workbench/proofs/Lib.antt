@@ -12,10 +12,12 @@ pub mod SolveOutcomes
 pub mod VerifyOutcomes
 pub mod DeficiencyOutcomes
 pub mod EditsOutcomes
+pub mod MusOutcomes
 pub mod QuietEndings
 pub mod KeptClauses
 pub mod WrittenChecks
 pub mod WrittenAnswers
+pub mod WrittenCores
 pub mod Names
 pub mod Writes
 pub mod Performing

@@ -39,7 +39,7 @@ one_of options F status.Memory written said w = refl
 one_of options F Satisfiable written said w = refl
 one_of options F Unsatisfiable written said w = refl
 
-satisfied : (told : Option (List ℕ)) (F : Cnf) (text : List ℕ) → IfSome told (λ bytes. Spells bytes F) → WritesModel F text → IfSome told (λ bytes. IsSatisfied bytes text)
+pub satisfied : (told : Option (List ℕ)) (F : Cnf) (text : List ℕ) → IfSome told (λ bytes. Spells bytes F) → WritesModel F text → IfSome told (λ bytes. IsSatisfied bytes text)
 satisfied None F text s w = tt
 satisfied (Some bytes) F text s w = record { formula = F; spells = s; writes = w }
 
@@ -53,7 +53,7 @@ undecided (Some bytes) F options text s w = record { formula = F; spells = s; wr
 
 -- WHAT IS DECIDED
 
-told_form : (told : Option (List ℕ)) (F : Cnf) → IsSomeAnd told (λ bytes. Spells bytes F) → IsTrue (is_formula F)
+pub told_form : (told : Option (List ℕ)) (F : Cnf) → IsSomeAnd told (λ bytes. Spells bytes F) → IsTrue (is_formula F)
 told_form None F h = absurd h
 told_form (Some bytes) F h = spelled_form bytes F h
 

@@ -30,7 +30,7 @@ use Rattle.workbench.proofs.WrittenChecks.{whole, decided_by, checks_as}
 
 -- OF THE TEXTS
 
-verified_for : (text written : List ℕ) (F : Cnf) (a : Answer) → Spells text F → WritesAnswer F a written → IsVerifiedFor text written
+pub verified_for : (text written : List ℕ) (F : Cnf) (a : Answer) → Spells text F → WritesAnswer F a written → IsVerifiedFor text written
 verified_for text written F a spells w = record { F = F; a = a; spells = spells; read = record { form = w.form; text = w.written_is }; passes = w.checks }
 
 pub solved_verified : SolvedIsVerified
@@ -64,7 +64,7 @@ written_verified options text answer written (inr e) h = solved_verified.refutat
 -- WHAT IT COMES TO
 
 -- where the answer that is verified is known
-verifies_as : (text written : List ℕ) → IsVerifiedFor text written → (words : List Word) (shelf : Shelved) (out say : Sunk) → AsksVerify words shelf.told text written → ChecksAs words shelf out say verdict.Accepted
+pub verifies_as : (text written : List ℕ) → IsVerifiedFor text written → (words : List Word) (shelf : Shelved) (out say : Sunk) → AsksVerify words shelf.told text written → ChecksAs words shelf out say verdict.Accepted
 verifies_as text written v words shelf out say a = record {
   decided = subst (λ (o : Option Request). IsDecided o shelf.told (verdict_status verdict.Accepted)) (sym a.asks)
       (decided_by _ shelf.told verdict.Accepted (record {

@@ -9,8 +9,10 @@ pub mod SolveOutcomes
 pub mod VerifyOutcomes
 pub mod DeficiencyOutcomes
 pub mod EditsOutcomes
+pub mod MusOutcomes
 pub mod KeptClauses
 pub mod WrittenChecks
 pub mod WrittenAnswers
+pub mod WrittenCores
 pub mod QuietEndings
 pub mod Performing

@@ -32,7 +32,7 @@ pub record IsVerified (formula answer : Option (List ℕ)) : Type 0 where
   pub passes : first_failure_of_answer F a ≡ None
 
 -- So its literals satisfy each clause of the formula; or this has no model, and the positions that the refutation uses are in
--- its general kernel.
+-- its general kernel, or those of the core, which is minimally unsatisfiable.
 pub record IsShown (formula answer : Option (List ℕ)) : Type 0 where
   pub verified : IsVerified formula answer
   pub proved : IsProved verified.F verified.a
@@ -51,8 +51,8 @@ pub record IsNoAnswerText (formula answer : Option (List ℕ)) : Type 0 where
   pub faulty : IsSomeAnd answer (λ bytes. (a : Answer) → IsAnswerText F.vars (length F.clauses) bytes a → ⊥)
 
 -- With status 0 `out` has `accepted`, and the answer is shown; with 8 it has the first check that fails. Nothing is said with
--- these. No status but these comes, and told texts decide between 0, 8 and 2. A model whose literals satisfy each clause, and a
--- refutation, are accepted.
+-- these. No status but these comes, and told texts decide between 0, 8 and 2. A model whose literals satisfy each clause, a
+-- refutation, and a core that is shown to be minimally unsatisfiable, are accepted.
 pub record VerifyMeans (words : List Word) (shelf : Shelved) (out say : Sunk) (formula answer : Option (List ℕ)) : Type 0 where
   pub done : Ends words shelf out say 0 → IsShown formula answer × Takes out (line (codes "accepted" ∷ [])) × (say.after ≡ say.before)
   pub refused : Ends words shelf out say 8 → (why : Why) × IsNotVerified formula answer why × Takes out (line (refused_words why)) × (say.after ≡ say.before)

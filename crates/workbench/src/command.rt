@@ -8,6 +8,7 @@ ghost use Rattle.workbench.specs.Performing.{Performs};
 mod check;
 mod edits;
 mod extend;
+mod extract;
 mod measure;
 mod reduce;
 mod reduce_general;
@@ -55,5 +56,6 @@ pub(crate) fn perform<R: Threads + Sync, H: Shelf, G: Gate>(
         Command::Verify => verify::perform(alloc, shelf, names, options),
         Command::Deficiency => measure::perform(alloc, shelf, names, options),
         Command::Edits => edits::perform(alloc, shelf, names, options),
+        Command::Mus => extract::perform(alloc, shelf, names, options),
     }
 }

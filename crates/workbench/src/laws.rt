@@ -8,6 +8,7 @@ ghost use Rattle.workbench.specs.EditsOutcomes.{EditsOutcomes};
 ghost use Rattle.workbench.specs.GeneralOutcomes.{GeneralOutcomes};
 ghost use Rattle.workbench.specs.KeptClauses.{KeptLaw};
 ghost use Rattle.workbench.specs.LinearOutcomes.{LinearOutcomes};
+ghost use Rattle.workbench.specs.MusOutcomes.{MusOutcomes};
 ghost use Rattle.workbench.specs.QuietEndings.{QuietOutcomes};
 ghost use Rattle.workbench.specs.StopOutcomes.{StopOutcomes};
 ghost use Rattle.workbench.specs.Outcomes.{ReduceOutcomes, CheckOutcomes, ExtendOutcomes, ReportOutcomes};
@@ -15,6 +16,7 @@ ghost use Rattle.workbench.specs.SolveOutcomes.{SolveOutcomes};
 ghost use Rattle.workbench.specs.VerifyOutcomes.{VerifyOutcomes};
 ghost use Rattle.workbench.specs.WrittenAnswers.{SolvedIsVerified, WrittenVerifiesAsAccepted, UnsolvedChecksAsUnfinished};
 ghost use Rattle.workbench.specs.WrittenChecks.{WrittenChecksAsAccepted, StoppedChecksAsUnfinished};
+ghost use Rattle.workbench.specs.WrittenCores.{ExtractedIsVerified, ExtractedVerifiesAsAccepted, UnextractedChecksAsUnfinished};
 
 /// Of `reduce`: with status 0 the document of a reduction for the class stands on `out`. For pure and matching
 /// each text without a fault is reduced; for linear exactly by the size of its rows and the end of its run, and
@@ -81,8 +83,8 @@ pub fn solve_law()
     ensures { SolveOutcomes }
 {}
 
-/// Of `verify`: with status 0 no check of the answer fails, and so its literals satisfy the formula, or this has no model; with 8
-/// a check of it fails. Told texts decide between these and 2, unless a call or memory fails.
+/// Of `verify`: with status 0 no check of the answer fails, and so its literals satisfy the formula, or this has no model, and a
+/// core is minimally unsatisfiable; with 8 a check of it fails. Told texts decide between these and 2, unless a call or memory fails.
 pub fn verify_law()
     ensures { VerifyOutcomes }
 {}
@@ -108,6 +110,23 @@ pub fn solved_law()
     ensures texts { SolvedIsVerified }
     ensures accepted { WrittenVerifiesAsAccepted }
     ensures unfinished { UnsolvedChecksAsUnfinished }
+{}
+
+/// Of `mus`: with status 0 a minimally unsatisfiable core of the formula stands on `out`, within the general kernel, with what
+/// shows it, and with 10 a model; with 5 an unfinished document of some of its clauses. With a budget of 3^n for n variables a
+/// text of a formula decides between 0 and 10. Each other text is refused, unless a call or memory fails.
+pub fn mus_law()
+    ensures { MusOutcomes }
+{}
+
+/// What `mus` writes of a text with status 0 or 10 is an answer for that text of which no check fails. So where the one text is
+/// told and the other as well, `verify` of the two is decided: status 0 and `accepted`. Up to 2^30 bytes, a core that it writes
+/// is DIMACS of the core's clauses, and `check` of what it writes with 5 as the formula and as the document is decided: 5, and
+/// `unfinished` with the number of learned clauses.
+pub fn extracted_law()
+    ensures texts { ExtractedIsVerified }
+    ensures accepted { ExtractedVerifiesAsAccepted }
+    ensures unfinished { UnextractedChecksAsUnfinished }
 {}
 
 /// What is kept of a text is a function of the text, the class and the list of protected variables: two documents that are

@@ -28,9 +28,10 @@ use std::thread::Threads;
 ///   exactly the clauses of F outside K; a model of K, overridden by φ, is one of F; the checks accept the document.
 ///   Of `check` the document is accepted, and so all this holds of it, whoever made it. Of `extend` it is the line of
 ///   a model of the formula; of `report` nine numbers of the formula; of `demo` six lines on the formula of a number.
-///   Of `verify` the answer is accepted: its literals satisfy the formula, or this has no model. Of `deficiency` it is the
-///   greatest number of clauses less occurring variables, with what shows it. Of `edits` these are the matching kernels
-///   of the formula and of what is live behind each edit.
+///   Of `verify` the answer is accepted: its literals satisfy the formula, or this has no model, and a core is minimally
+///   unsatisfiable. Of `deficiency` it is the greatest number of clauses less occurring variables, with what shows it. Of
+///   `edits` these are the matching kernels of the formula and of what is live behind each edit. Of `mus` it is a
+///   minimally unsatisfiable core of the formula that was read, within the general kernel, with what shows it.
 /// - 1: the command line is not valid. `say` has the number of the refused word.
 /// - 2: an input is outside its grammar, and those before it are within theirs. `say` has the line of its first
 ///   fault, and of a formula and of edits the kind.
@@ -38,14 +39,15 @@ use std::thread::Threads;
 /// - 4: a call on `out` or `say` failed: its count of faults rose, and it took a proper prefix of its text. If it was
 ///   `out`, `say` is as it was.
 /// - 5: the document that was read is unfinished: of `check` no check of it fails, and `out` has how many clauses it
-///   learned; of `extend` `say` has this. Or `reduce general`, `solve` or `demo` used up its budget: `out` has a sound
-///   unfinished document of as many learned clauses as were allowed, and `say` their number. Or `reduce linear`
-///   needs more pivots than it may make, and `say` has how many it may make.
+///   learned; of `extend` `say` has this. Or `reduce general`, `solve`, `demo` or `mus` used up its budget: `out` has a
+///   sound unfinished document of as many learned clauses as were allowed, of `mus` for some of the clauses, and `say`
+///   their number. Or `reduce linear` needs more pivots than it may make, and `say` has how many it may make.
 /// - 6: a number of the linear run is too wide. `say` has its operands, and the number of pivots before.
 /// - 7: the rows of the linear run are too large. `say` has the numbers of variables and clauses.
 /// - 8: a check fails. `out` has the kind and the place of the first one, and of `extend` `say`.
 /// - 9: out of memory. `say` has this, and `out` nothing.
-/// - 10: of `solve`: `out` has a model of the formula that was read, a literal on each variable. `say` has nothing.
+/// - 10: of `solve` and `mus`: `out` has a model of the formula that was read, a literal on each variable. `say` has
+///   nothing.
 /// - 20: of `solve`: the formula that was read has no model, and `out` has a refutation of it. The clauses that this uses
 ///   are in the general kernel. `say` has nothing.
 ///

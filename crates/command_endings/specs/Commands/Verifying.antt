@@ -5,7 +5,7 @@ use Rattle.lk_model.specs.Formulas.Formula.{Cnf}
 use Rattle.lk_model.specs.Formulas.Assignment.{assignment_of}
 use Rattle.lk_model.specs.Formulas.Autarky.{Within}
 use Rattle.lk_model.specs.Formulas.Lean.{Kernel, all_of}
-use Rattle.lk_model.specs.Formulas.Minimal.{IsUnsatisfiable}
+use Rattle.lk_model.specs.Formulas.Minimal.{IsUnsatisfiable, IsMinimallyUnsatisfiable}
 use Rattle.lk_model.specs.Chains.Rounds.{used_positions}
 use Rattle.lk_model.specs.Texts.PlainText.{line}
 use Rattle.lk_model.specs.Reduction.{IsModel}
@@ -34,10 +34,19 @@ pub record IsRefuted (F : Cnf) (round : Round) : Type 0 where
   pub no_model : IsUnsatisfiable F (all_of F)
   pub used : (kept : List ℕ) → Kernel General F kept → Within (among (used_positions F round)) (among kept)
 
--- What an accepted answer shows, whoever made it: its literals satisfy each clause, or the formula has no model.
+-- A core shows that the formula has no model: its clauses have none, each set of them that lacks one has one, and they are in the
+-- general kernel.
+pub record IsMinimalCore (F : Cnf) (core : List ℕ) : Type 0 where
+  pub no_model : IsUnsatisfiable F (all_of F)
+  pub minimal : IsMinimallyUnsatisfiable F (among core)
+  pub kernel : (kept : List ℕ) → Kernel General F kept → Within (among core) (among kept)
+
+-- What an accepted answer shows, whoever made it: its literals satisfy each clause, or the formula has no model, or besides the
+-- core is minimally unsatisfiable.
 abbrev pub IsProved : Cnf → AnyAnswer → Type 0
 IsProved F (answer.Model literals) = IsModel F (all_of F) (assignment_of literals)
 IsProved F (answer.Refuted round) = IsRefuted F round
+IsProved F (answer.Core core) = IsMinimalCore F core.core
 
 -- It writes the verdict.
 pub record Answers (F : Cnf) (a : AnyAnswer) (status : Status) (written said : List ℕ) : Type 0 where

@@ -2,7 +2,8 @@ use Rattle.std.proofs.Common.{◌∙◌, sym, refl}
 use Rattle.std.specs.Prelude.{codes}
 use Rattle.std.specs.Str.{bytes_eq}
 use Rattle.std.proofs.lemmas.Bool.{not-true}
-use Rattle.answer_check.proofs.ReadWords.{other_line, no_next_round}
+use Rattle.core_text.proofs.LineForms.{other_line}
+use Rattle.answer_check.proofs.ReadWords.{no_next_round}
 use Rattle.answer_check.proofs.draft.round_in.Goals as goal
 
 pub returns-then-ne : goal.returns-then-ne

@@ -1,5 +1,4 @@
-use Rattle.std.proofs.Common.{◌≡◌, ◌∙◌, ◌<◌, ◌^◌, ℕ, List, length, sym, ap, subst, arith}
-use Rattle.lk_model.specs.declared.document.Step.{Step}
+use Rattle.std.proofs.Common.{◌≡◌, ◌∙◌, ◌<◌, ◌^◌, ℕ, length, sym, subst, arith}
 use Rattle.watch_prop.specs.declared.entry.Propagated.{Propagated}
 use Rattle.watch_prop.specs.Propagation.{IsAnswered}
 use Rattle.learning_laws.proofs.Solving.{solve_law}
@@ -17,11 +16,11 @@ turns-smaller-else-not-branch c =
 pub refute-requires-clause-search : goal.refute-requires-clause-search
 refute-requires-clause-search c = search_forced c.args.over.now c.turns.search c.propagate.new.self c.turns.invariant.search c.propagate.ensures.goes_on c.propagate.ensures.held
 
-pub returns-then-steps-left : goal.returns-then-steps-left
-returns-then-steps-left c =
+pub returns-then-len-left : goal.returns-then-len-left
+returns-then-len-left c =
     let h = c.turns.invariant.search in
     let forced = search_forced c.args.over.now c.turns.search c.propagate.new.self h c.propagate.ensures.goes_on c.propagate.ensures.held in
-    let all : length c.turns.search.log.steps ≡ c.args.left = sym (ap (λ (xs : List Step). length xs) c.steps.ensures) ∙ c.if-steps-left.true in
+    let all : length c.turns.search.log.steps ≡ c.args.left = sym c.len.ensures.count ∙ c.if-len-left.true in
     record {
       decided = record {
         numbered = c.turns.invariant.first;

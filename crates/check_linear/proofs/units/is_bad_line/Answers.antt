@@ -31,10 +31,13 @@ returns-clause-bad c =
     let read : c.index_mut.result.now ≡ numbers_of filled u.var = get_or_read filled (u.var - 1) c.index_mut.result.now inside c.index_mut.ensures.value [] in
     let pushed : c.push.new.self ≡ numbers_of filled u.var ++ neg_ℤ u.d ∷ [] = (let fits_too : SFits w128 c.opposite.result = search rules in simp to_z-of_z at c.in_ok-push.ensures.ok) ∙ (λ j. read j ++ sign j ∷ []) in
     let told : AreUnitNumbers F u (slice_set filled (u.var - 1) c.push.new.self) = unit_told F u filled c.push.new.self numbers c.requires.first c.requires.last pushed in
-    let seen : c.is_out_of_balance-bad.result ≡ (is_unbalanced occurring (slice_set filled (u.var - 1) c.push.new.self) u.var || is_unbalanced_share F occurring (slice_set filled (u.var - 1) c.push.new.self) u.shares) =
-    subst (λ (table : List (List ℤ)). c.is_out_of_balance-bad.result ≡ (is_unbalanced occurring table u.var || is_unbalanced_share F occurring table u.shares)) c.deref.ensures.value c.is_out_of_balance-bad.ensures in
-    line_told F c.args.kept.now occurring u c.is_void.result c.is_out_of_balance-bad.result c.is_void.ensures c.if-is_void.false
-    (seen ∙ balanced_is F occurring u (slice_set filled (u.var - 1) c.push.new.self) c.in_ok-fill.ensures.formula told c.requires.first c.requires.last)
+    let table = slice_set filled (u.var - 1) c.push.new.self in
+    let own : c.is_unbalanced-unbalanced.result ≡ is_unbalanced occurring table u.var =
+    subst (λ (numbers : List (List ℤ)). c.is_unbalanced-unbalanced.result ≡ is_unbalanced occurring numbers u.var) c.deref.ensures.value c.is_unbalanced-unbalanced.ensures in
+    let shared : c.clear_shares-unbalanced.result ≡ is_unbalanced_share F occurring table u.shares =
+    subst (λ (shares : List Share). c.clear_shares-unbalanced.result ≡ is_unbalanced_share F occurring table shares) c.as_slice-2.ensures c.clear_shares-unbalanced.ensures.unbalanced in
+    line_told F c.args.kept.now occurring u c.is_void.result (c.is_unbalanced-unbalanced.result || c.clear_shares-unbalanced.result) c.is_void.ensures c.if-is_void.false
+    ((λ j. own j || shared j) ∙ balanced_is F occurring u table c.in_ok-fill.ensures.formula told c.requires.first c.requires.last)
 
 pub returns-clause-none : goal.returns-clause-none
 returns-clause-none c =
@@ -49,7 +52,7 @@ returns-clause-none c =
     let read : c.index_mut.result.now ≡ numbers_of filled u.var = get_or_read filled (u.var - 1) c.index_mut.result.now inside c.index_mut.ensures.value [] in
     let pushed : c.push.new.self ≡ numbers_of filled u.var ++ neg_ℤ u.d ∷ [] = (let fits_too : SFits w128 c.opposite.result = search rules in simp to_z-of_z at c.in_ok-push.ensures.ok) ∙ (λ j. read j ++ sign j ∷ []) in
     let told : AreUnitNumbers F u (slice_set filled (u.var - 1) c.push.new.self) = unit_told F u filled c.push.new.self numbers c.requires.first c.requires.last pushed in
-    let cleared : ClearsShares F u.shares (slice_set filled (u.var - 1) c.push.new.self) c.clear.new.numbers.items =
-    subst (λ (shares : List Share). ClearsShares F shares (slice_set filled (u.var - 1) c.push.new.self) c.clear.new.numbers.items) c.as_slice-2.ensures c.clear.ensures in
-    subst (λ (xs : List ℤ). AreNone F.vars (slice_set c.clear.new.numbers.items (u.var - 1) xs)) (sym c.new.ensures)
-    (none_again F u (slice_set filled (u.var - 1) c.push.new.self) c.clear.new.numbers.items c.requires.first c.requires.last told cleared)
+    let cleared : ClearsShares F u.shares (slice_set filled (u.var - 1) c.push.new.self) c.clear_shares-unbalanced.new.numbers.items =
+    subst (λ (shares : List Share). ClearsShares F shares (slice_set filled (u.var - 1) c.push.new.self) c.clear_shares-unbalanced.new.numbers.items) c.as_slice-2.ensures c.clear_shares-unbalanced.ensures.cleared in
+    subst (λ (xs : List ℤ). AreNone F.vars (slice_set c.clear_shares-unbalanced.new.numbers.items (u.var - 1) xs)) (sym c.new.ensures)
+    (none_again F u (slice_set filled (u.var - 1) c.push.new.self) c.clear_shares-unbalanced.new.numbers.items c.requires.first c.requires.last told cleared)

@@ -42,7 +42,7 @@ returns-in-Stopped c =
     let kept = ap (λ (ps : List ℕ). length ps) c.in_ok-kept.ensures in
     stops c.args.f.now c.args.part.now c.args.rounds.now.left c.rounds.rounds _ c.in_ok-values.field-0 c.in-Stopped.log
     (record { over = _; decided = c.in_ok-values.ensures; formula = refl; positions = refl; blocked = refl }) c.in-Stopped.is c.requires.part c.requires.some c.requires.most c.rounds.invariant
-    (ap (λ (us : List Step). c.rounds.rounds.whole ++ record { steps = us } ∷ []) c.into_round.ensures.steps)
+    (ap (λ (us : List Step). c.rounds.rounds.whole ++ record { steps = us } ∷ []) c.in_ok-into_round-in-Stopped.ensures.steps)
     (λ e. c.if-len-part.false (omega (arith, kept, c.len.ensures, e)))
 
 pub rounds-smaller : goal.rounds-smaller

@@ -13,8 +13,8 @@ pub trim-requires-clause-positions : goal.trim-requires-clause-positions
 trim-requires-clause-positions c =
     let i = c.loop-round.invariant in
     let one = subst (λ (rs : List Round). AreRefuting c.args.low c.loop-round.first rs) c.in-Some.ensures.steps.0 i.logs in
-    let log = c.from_round-log.ensures in
-    subst (λ (k : ℕ). names_positions_below c.loop-round.next k c.from_round-log.result.steps ≡ true) (sym log.first)
+    let log = c.in_ok-log.ensures in
+    subst (λ (k : ℕ). names_positions_below c.loop-round.next k c.in_ok-log.log.steps ≡ true) (sym log.first)
     (subst (λ (us : List Step). names_positions_below c.loop-round.next c.loop-round.first us ≡ true) (sym log.steps)
     (names_above c.args.low c.loop-round.next c.loop-round.first c.in-Some.round.steps i.above one.0.positions))
 
@@ -25,8 +25,8 @@ overflow_add-next c =
     let order = i.order in
     let room = one.0.log.room in
     let shorter = trimmed_shorter c.loop-round.next c.in-Some.round.steps in
-    let steps = ap (λ (us : List Step). length us) (c.in_ok-needed.ensures.steps ∙ ap (trimmed c.loop-round.next) c.from_round-log.ensures.steps) in
-    omega (arith, c.len.ensures, steps, shorter, order, room)
+    let steps = ap (λ (us : List Step). length us) (c.in_ok-needed.ensures.steps ∙ ap (trimmed c.loop-round.next) c.in_ok-log.ensures.steps) in
+    omega (arith, c.len-in-loop-round.ensures, steps, shorter, order, room)
 
 pub loop-round-preserved : goal.loop-round-preserved
 loop-round-preserved c =
@@ -39,9 +39,9 @@ loop-round-preserved c =
     let at = i.next in
     let above = i.above in
     let shorter = trimmed_shorter c.loop-round.next r.steps in
-    let is = c.in_ok-needed.ensures.steps ∙ ap (trimmed c.loop-round.next) c.from_round-log.ensures.steps in
+    let is = c.in_ok-needed.ensures.steps ∙ ap (trimmed c.loop-round.next) c.in_ok-log.ensures.steps in
     let steps = ap (λ (us : List Step). length us) is in
-    let all = ap (λ (us : List Step). length us) (c.steps.ensures ∙ c.from_round-log.ensures.steps) in
+    let all = c.len.ensures.count ∙ ap (λ (us : List Step). length us) c.in_ok-log.ensures.steps in
     let count = count_more (trimmed_rounds low before) (round_of (trimmed c.loop-round.next r.steps)) in
     let so_far = ap (λ (rs : List Round). length (steps_of rs)) i.trimmed in
     let place : c.loop-round.next ≡ low + length (steps_of (trimmed_rounds low before)) = omega (arith, at, so_far) in
@@ -50,8 +50,8 @@ loop-round-preserved c =
     let now = ap (λ (rs : List Round). length (steps_of rs)) pushed in
     record {
       trimmed = pushed ∙ ap (λ (k : ℕ). trimmed_rounds low before ++ round_of (trimmed k r.steps) ∷ []) place ∙ sym (trimmed_rounds_more low before r);
-      next = omega (arith, c.len.ensures, steps, place, now, count);
+      next = omega (arith, c.len-in-loop-round.ensures, steps, place, now, count);
       above = omega (arith, above);
-      order = omega (arith, c.len.ensures, steps, shorter, order, all);
+      order = omega (arith, c.len-in-loop-round.ensures, steps, shorter, order, all);
       logs = subst (λ (k : ℕ). AreRefuting low (c.loop-round.first + k) (into_iter_items c.next.new.self)) (sym all) one.1;
     }

@@ -65,7 +65,7 @@ returns c =
     let h = first F part c.in_ok-blocked.blocked (c.from-next.result + 1) c.get.result c.in_ok-values.field-0 t
     (c.in_ok-blocked.ensures ∙ ap (λ (n : ℕ). replicate n false) c.vars.ensures.value) next
     c.len.ensures.formula c.len.ensures.limits (subst (λ (ps : List ℕ). are_positions F ps ≡ true) (sym c.as_slice.ensures) c.in_ok-all.ensures.part) c.get.ensures.some c.get.ensures.most in
-    subst (λ (k : ℕ). IsUnfinished F (positions_of F) k (c.into_round.result ∷ [])) c.get.ensures.value
-    (subst (λ (ps : List ℕ). IsUnfinished F ps c.get.result (c.into_round.result ∷ [])) e
-    (stopped_found F part c.get.result c.in_ok-values.field-0 c.in-Stopped.log c.into_round.result h c.in-Stopped.is
-    (subst (λ (ps : List ℕ). are_filled F ps ≡ true) (sym e) c.requires) c.into_round.ensures.steps))
+    subst (λ (k : ℕ). IsUnfinished F (positions_of F) k (c.in_ok-into_round-in-Stopped.field-0 ∷ [])) c.get.ensures.value
+    (subst (λ (ps : List ℕ). IsUnfinished F ps c.get.result (c.in_ok-into_round-in-Stopped.field-0 ∷ [])) e
+    (stopped_found F part c.get.result c.in_ok-values.field-0 c.in-Stopped.log c.in_ok-into_round-in-Stopped.field-0 h c.in-Stopped.is
+    (subst (λ (ps : List ℕ). are_filled F ps ≡ true) (sym e) c.requires) c.in_ok-into_round-in-Stopped.ensures.steps))

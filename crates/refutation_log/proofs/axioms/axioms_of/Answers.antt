@@ -5,4 +5,4 @@ use Rattle.refutation_log.proofs.axioms.axioms_of.Goals as goal
 pub positions_used-requires-clause-names : goal.positions_used-requires-clause-names
 positions_used-requires-clause-names c =
     let steps = c.args.round.now.steps in
-    rw (c.as_slice-steps.ensures) (chains_lower c.args.over.now (first_number steps) steps c.requires.past c.requires.numbers c.requires.chains)
+    chains_lower c.args.over.now (first_number steps) steps c.requires.past c.requires.numbers c.requires.chains

@@ -7,10 +7,10 @@ use Rattle.refutation_log.proofs.Renumbering.{same_in_range}
 use Rattle.refutation_log.proofs.axioms.positions_used.Goals as goal
 
 pub returns : goal.returns
-returns c =
+returns g c =
     let m = c.in_ok-marks.marks in
     let marks = c.deref.result.now in
-    let steps = c.args.steps.now in
+    let steps = g.S.Chains.steps c.args.steps.now in
     let are : marks ≡ m.positions.items = c.deref.ensures.value in
     let reach : AreMarks (reached steps) m = c.in_ok-marks.ensures.marks in
     let count : length marks - 1 ≡ length c.args.over.now.formula.now.clauses =

@@ -12,7 +12,7 @@ use Rattle.watch_prop.proofs.state.look_at_next.Goals as goal
 pub lits-requires : goal.lits-requires
 lits-requires c =
     let next : IsNext c.args.clauses.now c.args.trail.now c.args.state.now = record { state = c.requires.state; more = c.requires.more } in
-    subst (λ (n : ℕ). n < length c.args.clauses.now) (sym (get_or_read c.args.state.now.waiting.items c.args.state.now.satisfied c.index-place.result.now c.requires.more c.index-place.ensures 0))
+    subst (λ (n : ℕ). n < length c.args.clauses.now) (sym (get_or_read c.args.state.now.waiting.items c.args.state.now.satisfied c.index.result.now c.requires.more c.index.ensures 0))
     (next_within c.args.clauses.now c.args.trail.now c.args.state.now next)
 
 pub find-requires : goal.find-requires
@@ -20,52 +20,53 @@ find-requires c =
     let clauses = c.args.clauses.now in
     let s = c.args.state.now in
     let next : IsNext clauses c.args.trail.now s = record { state = c.requires.state; more = c.requires.more } in
-    let place = get_or_read s.waiting.items s.satisfied c.index-place.result.now c.requires.more c.index-place.ensures 0 in
+    let place = get_or_read s.waiting.items s.satisfied c.index.result.now c.requires.more c.index.ensures 0 in
     subst (λ (ls : List ℤ). list_all (is_literal c.args.trail.now.vars) ls ≡ true) (sym (c.lits.ensures ∙ ap (λ (n : ℕ). (clause_at_place clauses n).lits) place))
     (next_literals clauses c.args.trail.now s next)
 
 pub list_next-requires-clause-first : goal.list_next-requires-clause-first
 list_next-requires-clause-first c =
-    let x = seen _ _ _ _ _ _ _ (record { state = c.requires.state; more = c.requires.more }) c.index-place.ensures c.lits.ensures c.find.ensures c.in-Two.is in
+    let x = seen _ _ _ _ _ _ _ (record { state = c.requires.state; more = c.requires.more }) c.index.ensures c.lits.ensures c.find.ensures c.in-Two.is in
     (is_free _ _ _ _ _ _ _ _ (lists _ _ _ c.in-Two.watch x.next x.found) c.in-Two.watch.first x.found.0).rank
 
 pub list_next-requires-clause-second : goal.list_next-requires-clause-second
 list_next-requires-clause-second c =
-    let x = seen _ _ _ _ _ _ _ (record { state = c.requires.state; more = c.requires.more }) c.index-place.ensures c.lits.ensures c.find.ensures c.in-Two.is in
+    let x = seen _ _ _ _ _ _ _ (record { state = c.requires.state; more = c.requires.more }) c.index.ensures c.lits.ensures c.find.ensures c.in-Two.is in
     (is_free _ _ _ _ _ _ _ _ (lists _ _ _ c.in-Two.watch x.next x.found) c.in-Two.watch.second x.found.1).rank
 
 pub list_next-requires-clause-first_room : goal.list_next-requires-clause-first_room
 list_next-requires-clause-first_room c =
-    let x = seen _ _ _ _ _ _ _ (record { state = c.requires.state; more = c.requires.more }) c.index-place.ensures c.lits.ensures c.find.ensures c.in-Two.is in
+    let x = seen _ _ _ _ _ _ _ (record { state = c.requires.state; more = c.requires.more }) c.index.ensures c.lits.ensures c.find.ensures c.in-Two.is in
     (is_free _ _ _ _ _ _ _ _ (lists _ _ _ c.in-Two.watch x.next x.found) c.in-Two.watch.first x.found.0).room
 
 pub list_next-requires-clause-second_room : goal.list_next-requires-clause-second_room
 list_next-requires-clause-second_room c =
-    let x = seen _ _ _ _ _ _ _ (record { state = c.requires.state; more = c.requires.more }) c.index-place.ensures c.lits.ensures c.find.ensures c.in-Two.is in
+    let x = seen _ _ _ _ _ _ _ (record { state = c.requires.state; more = c.requires.more }) c.index.ensures c.lits.ensures c.find.ensures c.in-Two.is in
     (is_free _ _ _ _ _ _ _ _ (lists _ _ _ c.in-Two.watch x.next x.found) c.in-Two.watch.second x.found.1).room
 
 pub force-requires-clause-literal : goal.force-requires-clause-literal
 force-requires-clause-literal c =
-    let x = seen _ _ _ _ _ _ _ (record { state = c.requires.state; more = c.requires.more }) c.index-place.ensures c.lits.ensures c.find.ensures c.in-One.is in
+    let x = seen _ _ _ _ _ _ _ (record { state = c.requires.state; more = c.requires.more }) c.index.ensures c.lits.ensures c.find.ensures c.in-One.is in
     (may_be_forced _ _ _ _ _ _ c.requires.state (only_one _ _ _ _ x.next x.found) (c.number-in-One.ensures ∙ ap (λ (n : ℕ). (clause_at_place c.args.clauses.now n).number) x.place_is)).literal
 
 pub force-requires-clause-comes : goal.force-requires-clause-comes
 force-requires-clause-comes c =
-    let x = seen _ _ _ _ _ _ _ (record { state = c.requires.state; more = c.requires.more }) c.index-place.ensures c.lits.ensures c.find.ensures c.in-One.is in
+    let x = seen _ _ _ _ _ _ _ (record { state = c.requires.state; more = c.requires.more }) c.index.ensures c.lits.ensures c.find.ensures c.in-One.is in
     (may_be_forced _ _ _ _ _ _ c.requires.state (only_one _ _ _ _ x.next x.found) (c.number-in-One.ensures ∙ ap (λ (n : ℕ). (clause_at_place c.args.clauses.now n).number) x.place_is)).comes
 
 pub returns-in-AllFalse-clause-done : goal.returns-in-AllFalse-clause-done
 returns-in-AllFalse-clause-done c =
-    let x = seen _ _ _ _ _ _ _ (record { state = c.requires.state; more = c.requires.more }) c.index-place.ensures c.lits.ensures c.find.ensures c.in-AllFalse.is in
+    let x = seen _ _ _ _ _ _ _ (record { state = c.requires.state; more = c.requires.more }) c.index.ensures c.lits.ensures c.find.ensures c.in-AllFalse.is in
     conflict_named _ _ _ _ _ c.requires.state (next_within _ _ _ x.next) (c.number.ensures ∙ ap (λ (n : ℕ). (clause_at_place c.args.clauses.now n).number) x.place_is) x.found
 
 pub returns-in-Two-clause-leads : goal.returns-in-Two-clause-leads
 returns-in-Two-clause-leads c =
-    let x = seen _ _ _ _ _ _ _ (record { state = c.requires.state; more = c.requires.more }) c.index-place.ensures c.lits.ensures c.find.ensures c.in-Two.is in
+    let x = seen _ _ _ _ _ _ _ (record { state = c.requires.state; more = c.requires.more }) c.index.ensures c.lits.ensures c.find.ensures c.in-Two.is in
     let e = c.list_next.ensures in
     listed_leads _ _ _ _ _ x.next x.found (record {
       watches = e.watches;
       lists = e.lists;
+      rows = e.rows;
       counts = e.counts;
       waiting = e.waiting;
       keeps = record { satisfied = e.satisfied; head = e.head; marks = e.marks };
@@ -73,5 +74,5 @@ returns-in-Two-clause-leads c =
 
 pub returns-in-One-clause-leads : goal.returns-in-One-clause-leads
 returns-in-One-clause-leads c =
-    let x = seen _ _ _ _ _ _ _ (record { state = c.requires.state; more = c.requires.more }) c.index-place.ensures c.lits.ensures c.find.ensures c.in-One.is in
+    let x = seen _ _ _ _ _ _ _ (record { state = c.requires.state; more = c.requires.more }) c.index.ensures c.lits.ensures c.find.ensures c.in-One.is in
     only_leads _ _ _ _ _ x.next x.found (forced _ _ _ _ _ _ _ c.requires.state (only_one _ _ _ _ x.next x.found) (c.number-in-One.ensures ∙ ap (λ (n : ℕ). (clause_at_place c.args.clauses.now n).number) x.place_is) c.force.ensures)

@@ -3,7 +3,8 @@ use Rattle.watch_prop.specs.declared.state.Settled.TheVariants.{Stays, Moves}
 use Rattle.watch_prop.proofs.Passing.{passing_start, passing_stays, passing_moves, passing_end, picked, settled_once, conflict_named}
 use Rattle.watch_prop.proofs.States.{leads_then}
 use Rattle.watch_prop.proofs.Paths.{length-literals}
-use Rattle.std.proofs.lemmas.List.{get_or_read}
+use Rattle.std.proofs.lemmas.List.{get_or_read, length-map}
+use Rattle.watch_prop.specs.declared.watcher_lists.Watcher.{Watcher}
 use Rattle.lk_model.specs.Formulas.Literal.{complement}
 use Rattle.watch_prop.proofs.state.pass_on.Goals as goal
 
@@ -19,31 +20,31 @@ watchers-init c =
 pub settle-requires-clause-place : goal.settle-requires-clause-place
 settle-requires-clause-place c =
     (picked c.args.clauses.now c.args.trail.now c.watchers.trail c.args.state.now c.watchers.state c.negated-l.result c.watchers.at c.of.result.now c.of-in-watchers.result.now
-    c.watchers.invariant c.of.ensures c.of-in-watchers.ensures c.watchers-test.true).in_clauses
+    _ c.watchers.invariant c.of.ensures.places c.of-in-watchers.ensures.row c.of-in-watchers.ensures.places c.watchers-test.true c.index-of-at.is).in_clauses
 
 pub watchers-preserved-in-Stays : goal.watchers-preserved-in-Stays
 watchers-preserved-in-Stays c =
     let p = picked c.args.clauses.now c.args.trail.now c.watchers.trail c.args.state.now c.watchers.state c.negated-l.result c.watchers.at c.of.result.now c.of-in-watchers.result.now
-    c.watchers.invariant c.of.ensures c.of-in-watchers.ensures c.watchers-test.true in
+    _ c.watchers.invariant c.of.ensures.places c.of-in-watchers.ensures.row c.of-in-watchers.ensures.places c.watchers-test.true c.index-of-at.is in
     passing_stays c.args.clauses.now c.args.trail.now c.watchers.trail c.settle.new.trail c.args.state.now c.watchers.state c.settle.new.state _ c.negated-l.result c.watchers.at
     (settled_once _ _ _ _ _ _ _ _ _ _ Stays c.watchers.invariant p c.in-Stays.ensures.leads c.in-Stays.ensures.settles)
 
 pub watchers-preserved : goal.watchers-preserved
 watchers-preserved c =
     let p = picked c.args.clauses.now c.args.trail.now c.watchers.trail c.args.state.now c.watchers.state c.negated-l.result c.watchers.at c.of.result.now c.of-in-watchers.result.now
-    c.watchers.invariant c.of.ensures c.of-in-watchers.ensures c.watchers-test.true in
+    _ c.watchers.invariant c.of.ensures.places c.of-in-watchers.ensures.row c.of-in-watchers.ensures.places c.watchers-test.true c.index-of-at.is in
     passing_moves c.args.clauses.now c.args.trail.now c.watchers.trail c.settle.new.trail c.args.state.now c.watchers.state c.settle.new.state _ c.negated-l.result c.watchers.at
     (settled_once _ _ _ _ _ _ _ _ _ _ Moves c.watchers.invariant p c.in-Moves.ensures.leads c.in-Moves.ensures.settles)
 
 pub returns-clause-leads : goal.returns-clause-leads
 returns-clause-leads c =
     passing_end c.args.clauses.now c.args.trail.now c.watchers.trail c.args.state.now c.watchers.state c.negated-l.result c.watchers.at c.watchers.invariant
-    (omega (arith, c.watchers-test.false, ap length c.of.ensures))
+    (omega (arith, c.watchers-test.false, ap length c.of.ensures.places, length-map c.of.result.now (λ (w : Watcher). w.place)))
 
 pub number-requires : goal.number-requires
 number-requires c =
     (picked c.args.clauses.now c.args.trail.now c.watchers.trail c.args.state.now c.watchers.state c.negated-l.result c.watchers.at c.of.result.now c.of-in-watchers.result.now
-    c.watchers.invariant c.of.ensures c.of-in-watchers.ensures c.watchers-test.true).in_clauses
+    _ c.watchers.invariant c.of.ensures.places c.of-in-watchers.ensures.row c.of-in-watchers.ensures.places c.watchers-test.true c.index-of-at.is).in_clauses
 
 pub returns-in-IsFalse-clause-leads : goal.returns-in-IsFalse-clause-leads
 returns-in-IsFalse-clause-leads c =
@@ -53,6 +54,21 @@ returns-in-IsFalse-clause-leads c =
 pub returns-in-IsFalse-clause-done : goal.returns-in-IsFalse-clause-done
 returns-in-IsFalse-clause-done c =
     let p = picked c.args.clauses.now c.args.trail.now c.watchers.trail c.args.state.now c.watchers.state c.negated-l.result c.watchers.at c.of.result.now c.of-in-watchers.result.now
-    c.watchers.invariant c.of.ensures c.of-in-watchers.ensures c.watchers-test.true in
+    _ c.watchers.invariant c.of.ensures.places c.of-in-watchers.ensures.row c.of-in-watchers.ensures.places c.watchers-test.true c.index-of-at.is in
     conflict_named c.args.clauses.now c.settle.new.trail c.settle.new.state _ c.number.result c.in-IsFalse.ensures.leads.state p.in_clauses c.number.ensures
     c.in-IsFalse.ensures.settles.settled
+
+pub settle-requires-clause-blocker : goal.settle-requires-clause-blocker
+settle-requires-clause-blocker c =
+    (picked c.args.clauses.now c.args.trail.now c.watchers.trail c.args.state.now c.watchers.state c.negated-l.result c.watchers.at c.of.result.now c.of-in-watchers.result.now
+    _ c.watchers.invariant c.of.ensures.places c.of-in-watchers.ensures.row c.of-in-watchers.ensures.places c.watchers-test.true c.index-of-at.is).blocker
+
+pub settle-requires-clause-row : goal.settle-requires-clause-row
+settle-requires-clause-row c =
+    (picked c.args.clauses.now c.args.trail.now c.watchers.trail c.args.state.now c.watchers.state c.negated-l.result c.watchers.at c.of.result.now c.of-in-watchers.result.now
+    _ c.watchers.invariant c.of.ensures.places c.of-in-watchers.ensures.row c.of-in-watchers.ensures.places c.watchers-test.true c.index-of-at.is).row
+
+pub settle-requires-clause-stands : goal.settle-requires-clause-stands
+settle-requires-clause-stands c =
+    (picked c.args.clauses.now c.args.trail.now c.watchers.trail c.args.state.now c.watchers.state c.negated-l.result c.watchers.at c.of.result.now c.of-in-watchers.result.now
+    _ c.watchers.invariant c.of.ensures.places c.of-in-watchers.ensures.row c.of-in-watchers.ensures.places c.watchers-test.true c.index-of-at.is).stands

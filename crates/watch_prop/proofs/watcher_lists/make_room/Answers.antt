@@ -2,24 +2,25 @@ use Rattle.std.proofs.Common.{◌≡◌, ◌∙◌, ℕ, ◌<◌, List, get_or, 
 use Rattle.std.specs.declared.alloc.Global.{Global}
 use Rattle.std.proofs.lemmas.List.{length-map, get_or_read}
 use Rattle.lk_model.specs.Formulas.Literal.{rank_of}
-use Rattle.watch_prop.specs.KeptWatchers.{items_of, HasRoom}
-use Rattle.watch_prop.proofs.Roomy.{same_items, rooms_set, capacity_set}
+use Rattle.watch_prop.specs.declared.watcher_lists.Watcher.{Watcher}
+use Rattle.watch_prop.specs.KeptWatchers.{rows_of, HasRoom}
+use Rattle.watch_prop.proofs.Roomy.{same_rows, rooms_set, capacity_set}
 use Rattle.watch_prop.proofs.Counts.{contains_more, rank_at}
 use Rattle.watch_prop.proofs.watcher_lists.make_room.Goals as goal
 
-same_length : (lists lists' : List (Vec ℕ Global)) → items_of lists ≡ items_of lists' → length lists ≡ length lists'
+same_length : (lists lists' : List (Vec Watcher Global)) → rows_of lists ≡ rows_of lists' → length lists ≡ length lists'
 same_length lists lists' e =
-    sym (length-map lists (λ (v : Vec ℕ Global). v.items)) ∙ ap (λ (ls : List (List ℕ)). length ls) e ∙ length-map lists' (λ (v : Vec ℕ Global). v.items)
+    sym (length-map lists (λ (v : Vec Watcher Global). v.items)) ∙ ap (λ (rows : List (List Watcher)). length rows) e ∙ length-map lists' (λ (v : Vec Watcher Global). v.items)
 
-pub returns-in_err-reserve-clause-items : goal.returns-in_err-reserve-clause-items
-returns-in_err-reserve-clause-items c =
+pub returns-in_err-reserve-clause-rows : goal.returns-in_err-reserve-clause-rows
+returns-in_err-reserve-clause-rows c =
     let L = c.loop-l.lists in
     let r = rank_of c.l-item.result in
     let v = c.index_mut.result.now in
     let long = same_length L c.args.lists.now c.loop-l.invariant.items in
     let low = rank_at c.args.lits.now c.loop-l.l-index (length c.args.lists.now) c.l-item.result c.requires.ranks (omega (arith, c.loop-l-test.true)) c.l-item.is in
     let lt : r < length L = omega (arith, low, long) in
-    same_items L r v c.reserve.new.self lt c.index_mut.ensures.value c.reserve.ensures.items ∙ c.loop-l.invariant.items
+    same_rows L r v c.reserve.new.self lt c.index_mut.ensures.value c.reserve.ensures.items ∙ c.loop-l.invariant.items
 
 pub loop-l-preserved : goal.loop-l-preserved
 loop-l-preserved c =
@@ -37,18 +38,18 @@ loop-l-preserved c =
     let lt : r < length L = omega (arith, low, long) in
     let is = c.index_mut.ensures.value in
     let same : a ≡ v = get_or_read L r a lt c.index-in-loop-l.ensures v ∙ sym is in
-    let len_a : vec_len a ≡ vec_len v = ap (λ (x : Vec ℕ Global). vec_len x) same in
+    let len_a : vec_len a ≡ vec_len v = ap (λ (x : Vec Watcher Global). vec_len x) same in
     let held : n ≡ get_or H r 0 = get_or_read H r n (omega (arith, low, c.requires.same)) c.index.ensures 0 in
-    let room : HasRoom v (get_or H r 0) = subst (λ (x : Vec ℕ Global). HasRoom x (get_or H r 0)) (sym is) (c.loop-l.invariant.room r v lt) in
+    let room : HasRoom v (get_or H r 0) = subst (λ (x : Vec Watcher Global). HasRoom x (get_or H r 0)) (sym is) (c.loop-l.invariant.room r v lt) in
     let rooms = rooms_set L H r v' (record { each = c.loop-l.invariant.room }) (omega (arith, c.reserve.ensures.len, room.0), omega (arith, c.reserve.ensures.capacity, room.1)) in
     let fits : get_or H r 0 < vec_capacity v' = omega (arith, c.in_ok-reserve.ensures.ok, c.len.ensures, c.reserve.ensures.len, len_a, held, room.0) in
     record {
-      items = same_items L r v v' lt is c.reserve.ensures.items ∙ c.loop-l.invariant.items;
+      items = same_rows L r v v' lt is c.reserve.ensures.items ∙ c.loop-l.invariant.items;
       room = rooms.each;
       more = λ k d there. elim (contains_more s c.loop-l.l-index c.l-item.result k here c.l-item.is there) [
         | inl y ↦ (let earlier = c.loop-l.invariant.more k d y in let grows = capacity_set L r v v' (rank_of k) d lt is c.reserve.ensures.capacity in omega (arith, earlier, grows))
         | inr y ↦
             subst (λ (n : ℕ). get_or H n 0 < vec_capacity (get_or (set L r v') n d)) (ap rank_of (sym y))
-            (subst (λ (x : Vec ℕ Global). get_or H r 0 < vec_capacity x) (sym (get_or-set_same L r v' d lt)) fits)
+            (subst (λ (x : Vec Watcher Global). get_or H r 0 < vec_capacity x) (sym (get_or-set_same L r v' d lt)) fits)
       ];
     }

@@ -2,7 +2,7 @@ use Rattle.answer_check.proofs.AnswerReads.{if_takes, if_reads_on}
 use Rattle.answer_check.proofs.reading.AnswerReaderLineReader.take.Goals as goal
 
 pub take_line-requires : goal.take_line-requires
-take_line-requires c = c.requires.fits.vars
+take_line-requires c = c.requires.fits
 
 pub returns-clause-taken : goal.returns-clause-taken
 returns-clause-taken c =

@@ -22,7 +22,7 @@ returns-clause-value c =
     (subst (λ (d : Derivation). IsSome (clause_of_step d.steps c.args.k)) (sym c.self.view_is) c.requires) in
     ap (λ (d : Derivation). clause_of_step d.steps c.args.k) (sym c.self.view_is)
     ∙ clause_at_place c.self.inside.first steps c.args.k c.index.result.now c.self.invariant.derivation.numbers w.0 w.1 c.index.ensures
-    ∙ ap Some (sym c.as_slice.ensures)
+    ∙ ap Some (sym c.clause.ensures)
 
 pub returns-clause-order : goal.returns-clause-order
 returns-clause-order c =
@@ -30,5 +30,5 @@ returns-clause-order c =
     let w = found_within c.self.inside.first steps c.args.k c.self.invariant.derivation.numbers
     (subst (λ (d : Derivation). IsSome (clause_of_step d.steps c.args.k)) (sym c.self.view_is) c.requires) in
     let place = c.args.k - c.self.inside.first in
-    rw (c.as_slice.ensures) (subst (λ (s : Step). IsTrue (is_ascending s.clause)) (sym c.index.ensures)
+    rw (c.clause.ensures) (subst (λ (s : Step). IsTrue (is_ascending s.clause)) (sym c.index.ensures)
     (all_at (λ (s : Step). is_ascending s.clause) steps place c.index.result.now c.self.invariant.derivation.clauses (omega (arith, w.0, w.1))))

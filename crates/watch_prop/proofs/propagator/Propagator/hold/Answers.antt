@@ -35,9 +35,10 @@ invariant_of-self-2 c =
       more = c.in_ok-push.ensures.ok;
       watches = c.push_reserved.ensures.items ∙ ap (λ (ws : List Watch). ws ++ x ∷ []) c.reserve.ensures.items;
       lists = c.count.ensures.lists;
-      counts = c.in_default.ensures.counts;
-      waiting = c.push_reserved-2.ensures.items ∙ ap (λ (ps : List ℕ). ps ++ c.len-place.result ∷ []) c.reserve-2.ensures.items
-          ∙ ap (λ (n : ℕ). c.self.inside.state.waiting.items ++ n ∷ []) c.len-place.ensures;
+      rows = c.count.ensures.rows;
+      counts = c.in_default-count.ensures.counts;
+      waiting = c.push_reserved-2.ensures.items ∙ ap (λ (ps : List ℕ). ps ++ c.in-Ok.place ∷ []) c.reserve-2.ensures.items
+          ∙ ap (λ (n : ℕ). c.self.inside.state.waiting.items ++ n ∷ []) (c.in-Ok.ensures.1 ∙ c.len-len.ensures);
       satisfied = refl;
       head = refl;
       marks = refl;

@@ -1,0 +1,277 @@
+#!/usr/bin/env python3
+"""Small inputs that might take long.
+
+    bench/traps.py LEANK [--only WORD] [--growth]
+
+LEANK is the built program (crates/leank/out holds it after `bin/leank` ran once). Each input has at most 2 MB. For each
+command that takes it stand the processor seconds, the peak of memory in MB and the status; what takes more than 3 seconds
+(5 for forged documents), or gets no answer in 60, is marked. With --growth each is also run at a quarter of its size, and
+the growth of instructions is shown (`perf stat`; Debian: linux-perf); more than 5 times is marked.
+"""
+import os
+import resource
+import subprocess
+import sys
+import tempfile
+
+LIMIT, FORGED_LIMIT, TIME_OUT, MOST_GROWTH = 3.0, 5.0, 60, 5.0
+
+
+def cnf(n, clauses):
+    lines = [f"p cnf {n} {len(clauses)}"]
+    lines += [" ".join(map(str, c)) + (" 0" if c else "0") for c in clauses]
+    return "\n".join(lines) + "\n"
+
+
+# FORMULAS, by a size
+
+
+def long_negative_clause(n):
+    return cnf(n, [[-i for i in range(1, n + 1)]])
+
+
+def long_clauses(n):
+    return cnf(n, [[-i for i in range(1, n + 1)] for _ in range(3)] + [[i] for i in range(1, n, 2)])
+
+
+def contradicted_pairs(n):
+    return cnf(n, [[s * i] for i in range(1, n + 1) for s in (1, -1)] + [list(range(1, n + 1))])
+
+
+def joined_squares(n):
+    squares = [[s * a, t * (a + 1)] for a in range(1, 2 * n, 2) for s in (1, -1) for t in (1, -1)]
+    return cnf(2 * n, squares + [[-a, a + 2] for a in range(1, 2 * n - 2, 2)])
+
+
+def implications_up(n):
+    return cnf(n, [[1]] + [[-i, i + 1] for i in range(1, n)])
+
+
+def implications_down(n):
+    return cnf(n, [[n]] + [[-i, i - 1] for i in range(n, 1, -1)])
+
+
+def implications_round(n):
+    return cnf(n, [[-i, i + 1] for i in range(1, n)] + [[-n, -1], [1, n], [1, -n]])
+
+
+def star(n):
+    return cnf(n, [[s, t * i] for i in range(2, n + 1) for s, t in ((1, -1), (-1, 1))])
+
+
+def empty_clauses(n):
+    return cnf(1, [[] for _ in range(n)])
+
+
+def units(n):
+    return cnf(n, [[i if i % 2 else -i] for i in range(1, n + 1)])
+
+
+def same_clause(n):
+    return cnf(3, [[1, -2], [-1, 2, 3]] * n)
+
+
+def wide_clauses(n):
+    return cnf(n, [[v if (v * k) % 7 < 3 else -v for v in range(1, n + 1)] for k in range(1, 101)])
+
+
+def pure_cascade(n):
+    return cnf(n, [[i, -(i + 1)] for i in range(1, n)] + [[i, i + 1] for i in range(1, n)])
+
+
+def alternating_path(n):
+    return cnf(n, [[i, i + 1] for i in range(1, n)] + [[n, -1], [1]])
+
+
+def more_clauses_than_variables(n):
+    return cnf(50, [[1 + (k % 50), -(1 + (k * 7 + 3) % 50)] if k % 50 != (k * 7 + 3) % 50 else [1 + k % 50] for k in range(n)])
+
+
+def most_variables(n):
+    return cnf(1000000, [[1000000 - i, -(i + 1)] for i in range(n)])
+
+
+def many_parts(n):
+    return cnf(2 * n, [[s * a, t * (a + 1)] for a in range(1, 2 * n, 2) for s, t in ((1, 1), (1, -1), (-1, 1))])
+
+
+def parity_chain(n):
+    rows = []
+    for i in range(1, n - 1):
+        a, b, c = i, i + 1, i + 2
+        rows += [[a, b, c], [a, -b, -c], [-a, b, -c], [-a, -b, c]]
+    return cnf(n, rows)
+
+
+def pigeons(n):
+    at = lambda p, h: p * n + h + 1
+    rows = [[at(p, h) for h in range(n)] for p in range(n + 1)]
+    rows += [[-at(p, h), -at(q, h)] for h in range(n) for p in range(n + 1) for q in range(p)]
+    return cnf((n + 1) * n, rows)
+
+
+def comments(n):
+    return "c a line that says nothing\n" * n + "p cnf 1 1\n1 0\n"
+
+
+def one_line(n):
+    return f"p cnf {n} {n}\n" + " ".join(f"{i} 0" for i in range(1, n + 1)) + "\n"
+
+
+FORMULAS = [
+    (long_negative_clause, 250000), (long_clauses, 60000), (contradicted_pairs, 20000), (joined_squares, 15000),
+    (implications_up, 120000), (implications_down, 120000), (implications_round, 120000), (star, 60000),
+    (empty_clauses, 900000), (units, 200000), (same_clause, 100000), (wide_clauses, 3000), (pure_cascade, 70000),
+    (alternating_path, 120000), (more_clauses_than_variables, 200000), (most_variables, 100000), (many_parts, 40000),
+    (parity_chain, 20000), (pigeons, 40), (comments, 70000), (one_line, 200000),
+]
+FORMULA_COMMANDS = [
+    ("reduce", "pure"), ("reduce", "matching"), ("reduce", "matching", "--workers", "64"),
+    ("reduce", "general", "--conflicts", "100"), ("reduce", "linear", "--pivots", "1000"), ("report",), ("deficiency",),
+    ("solve", "--conflicts", "100"), ("mus", "--conflicts", "100"),
+]
+
+
+# DOCUMENTS, by a size: a formula and a text for `check`
+
+
+def unit_of_many_shares(n):
+    """A unit that is right, whose shares are of n clauses over nine variables; a second one is missing."""
+    rows = [[v if (v + p) % 2 else -v for v in range(1, 10)] for p in range(n - n % 2)] + [[1], [-1]]
+    m = len(rows)
+    shares = " ".join(f"{p} 1" for p in range(1, m))
+    kept = " ".join(str(p) for p in range(1, m + 1))
+    head = f"c leank 1 linear\nc formula 9 {m}\nc keep {kept} 0\nc set 0\n"
+    duals = "".join(f"c dual {p} 1\n" for p in range(1, m + 1))
+    body = "".join(" ".join(map(str, r)) + " 0\n" for r in rows)
+    return cnf(9, rows), head + duals + f"c unit 1 1 {shares} 0\np cnf 9 {m}\n" + body
+
+
+def long_clause_joined_often(n):
+    """A chain that resolves again and again with one clause of n literals."""
+    rows = [list(range(1, n + 2)), [-1, n + 1], [-1, -(n + 1)]]
+    turns = " ".join(f"-1 1 {n + 1} 3" for _ in range(n))
+    head = f"c leank 1 general\nc formula {n + 1} 3\nc keep 1 2 3 0\nc set 0\nc round\n"
+    clause = " ".join(map(str, [-1] + list(range(2, n + 1))))
+    step = f"c step 4 {clause} 0 2 {turns} 0\nc step 5 0 4 0\n"
+    body = "".join(" ".join(map(str, r)) + " 0\n" for r in rows)
+    return cnf(n + 1, rows), head + step + f"p cnf {n + 1} 3\n" + body
+
+
+def many_steps_of_one_clause(n):
+    rows = [[1, 2], [-1, 2]]
+    steps = "".join(f"c step {k} 2 0 1 1 2 0\n" for k in range(3, n + 3))
+    head = "c leank 1 general\nc formula 2 2\nc keep 1 2 0\nc set 0\nc round\n"
+    return cnf(2, rows), head + steps + f"c step {n + 3} 0 3 0\np cnf 2 2\n1 2 0\n-1 2 0\n"
+
+
+def wrong_in_line_two(n):
+    return cnf(1, [[1]]), "c leank 1 pure\nwrong\n" + "c a line that says nothing\n" * n
+
+
+def comments_alone(n):
+    return cnf(1, [[1]]), "c a line that says nothing\n" * n
+
+
+DOCUMENTS = [(unit_of_many_shares, 25000), (long_clause_joined_often, 30000), (many_steps_of_one_clause, 60000),
+             (wrong_in_line_two, 70000), (comments_alone, 70000)]
+
+
+# RUNS
+
+
+def run(words, folder):
+    """Processor seconds, peak of MB, status, standard output; None for the status where the time ran out."""
+    before = resource.getrusage(resource.RUSAGE_CHILDREN)
+    script = "import resource,subprocess,sys\np=subprocess.run(sys.argv[1:],stdout=open('out','wb'),stderr=subprocess.DEVNULL)\n" \
+             "print(resource.getrusage(resource.RUSAGE_CHILDREN).ru_maxrss, p.returncode)"
+    try:
+        told = subprocess.run([sys.executable, "-c", script] + words, cwd=folder, capture_output=True, text=True, timeout=TIME_OUT)
+        peak, status = map(int, told.stdout.split())
+    except subprocess.TimeoutExpired:
+        subprocess.run(["pkill", "-f", words[0] + " " + words[1]], check=False)
+        peak, status = 0, None
+    after = resource.getrusage(resource.RUSAGE_CHILDREN)
+    seconds = after.ru_utime + after.ru_stime - before.ru_utime - before.ru_stime
+    return seconds, peak // 1024, status
+
+
+def instructions(words, folder):
+    told = subprocess.run(["perf", "stat", "-x", ",", "-e", "instructions:u"] + words, cwd=folder, stdout=subprocess.DEVNULL,
+                          stderr=subprocess.PIPE, text=True, timeout=TIME_OUT)
+    for line in told.stderr.splitlines():
+        fields = line.split(",")
+        if len(fields) > 2 and "instructions" in fields[2]:
+            return int(fields[0]) if fields[0].isdigit() else 0
+    return 0
+
+
+def put(folder, name, text):
+    assert len(text) <= 2200000, (name, len(text))
+    with open(os.path.join(folder, name), "w") as file:
+        file.write(text)
+
+
+def row(name, words, folder, limit, small):
+    seconds, peak, status = run(words, folder)
+    late = status is None or seconds > limit
+    text = f"{name:28} {' '.join(words[1:]):40} {seconds:7.2f} s {peak:6} MB  {'none' if status is None else status:>4}"
+    if small is not None and status is not None:
+        great = instructions(words, folder)
+        growth = great / max(instructions(words, small), 1)
+        text += f"  x {growth:5.2f}" + ("  GROWS" if growth > MOST_GROWTH else "")
+    print(text + ("  LATE" if late else ""), flush=True)
+    return late
+
+
+def written_by(program, reducer, folder, small):
+    """Documents that reducers write, kept beside the formula."""
+    for place in (folder, small):
+        if place is None:
+            continue
+        words = [program] + [w for w in reducer if not w.startswith("--") and not w.isdigit()] + ["f"]
+        words += [w for w in reducer if w.startswith("--") or w.isdigit()]
+        with open(os.path.join(place, "d"), "wb") as out:
+            subprocess.run(words, cwd=place, stdout=out, stderr=subprocess.DEVNULL, timeout=TIME_OUT)
+
+
+def main():
+    if len(sys.argv) < 2:
+        sys.exit(__doc__)
+    program = os.path.abspath(sys.argv[1])
+    only = sys.argv[sys.argv.index("--only") + 1] if "--only" in sys.argv else ""
+    growth = "--growth" in sys.argv
+    late = 0
+    with tempfile.TemporaryDirectory() as folder, tempfile.TemporaryDirectory() as other:
+        small = other if growth else None
+        for make, size in FORMULAS:
+            if only not in make.__name__:
+                continue
+            put(folder, "f", make(size))
+            if growth:
+                put(other, "f", make(size // (2 if make is pigeons else 4)))
+            for command in FORMULA_COMMANDS:
+                words = [w for w in command if not w.startswith("--") and not w.isdigit()]
+                options = [w for w in command if w.startswith("--") or w.isdigit()]
+                late += row(make.__name__, [program] + words + ["f"] + options, folder, LIMIT, small)
+            for reducer in FORMULA_COMMANDS[:5]:
+                try:
+                    written_by(program, reducer, folder, small)
+                except subprocess.TimeoutExpired:
+                    continue
+                name = f"{make.__name__} {reducer[1]}"
+                late += row(name, [program, "check", "f", "d"], folder, LIMIT, small)
+        for make, size in DOCUMENTS:
+            if only not in make.__name__:
+                continue
+            for place, n in ((folder, size), (other, size // 4)):
+                formula, text = make(n)
+                put(place, "f", formula)
+                put(place, "d", text)
+            late += row(make.__name__, [program, "check", "f", "d"], folder, FORGED_LIMIT, small)
+    print(f"{late} late")
+    sys.exit(1 if late else 0)
+
+
+if __name__ == "__main__":
+    main()

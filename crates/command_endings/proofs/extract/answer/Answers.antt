@@ -1,0 +1,63 @@
+use Rattle.std.proofs.Common.{◌≡◌, ◌∙◌, ℕ, ◌<◌, ◌^◌, [], None, refl, sym, ap, subst}
+use Rattle.std.specs.Prelude.{IsTrue}
+use Rattle.lk_model.specs.Documents.Text.{text_of}
+use Rattle.lk_model.specs.declared.document.Document.TheVariants.{Unfinished}
+use Rattle.mus_core.specs.Found.{IsMus, TakesEmpty}
+use Rattle.mus_core.specs.declared.mus.Mus.{Mus}
+use Rattle.reductions.specs.Founds.{open_document_of}
+use Rattle.answer_check.specs.Answers.{answer_text}
+use Rattle.answer_check.specs.declared.answer.Answer.TheVariants.{Model, Core}
+use Rattle.command_words.specs.OptionRows.{values_of}
+use Rattle.command_words.specs.declared.command.Command.TheVariants as command
+use Rattle.command_endings.specs.Answering.{IsAnswer}
+use Rattle.command_endings.specs.Commands.GeneralReducing.{conflicts_line}
+use Rattle.command_endings.specs.Statuses.{is_result}
+use Rattle.command_endings.specs.declared.status.Status.{Status}
+use Rattle.command_endings.specs.declared.status.Status.TheVariants.{Done, Budget, Satisfiable}
+use Rattle.command_endings.proofs.EndingFacts.{by_three}
+use Rattle.command_endings.proofs.ExtractEndings.{core_answers, model_answers, open_answers}
+use Rattle.command_endings.proofs.extract.answer.Goals as goal
+
+pub returns-in-Core : goal.returns-in-Core
+returns-in-Core c =
+    let F = c.args.formula in
+    let options = values_of c.args.options.now in
+    let r = c.in-Core.core in
+    let core = c.in_ok-core-in-Core.core in
+    let made = c.in_ok-core-in-Core.ensures in
+    let h = subst (λ (m : Mus). IsMus F options.conflicts m) c.in-Core.is c.in_ok-found.ensures.found in
+    let empty = subst (TakesEmpty F) c.in-Core.is c.in_ok-found.ensures.empty in
+    by_three (λ e. e.status ≡ Done) (λ e. e.written.items ≡ answer_text (Core core)) (λ e. e.said.items ≡ []) (IsAnswer command.Mus options (F, tt)) c.answered.result c.answered.ensures.status c.answered.ensures.written c.answered.ensures.said
+    (λ e status written said. record {
+      result = subst (λ (s : Status). IsTrue (is_result s)) (sym status) refl;
+      answers = core_answers options F r core e.status e.written.items e.said.items made.formula made.limits h empty made.answer status written said;
+    })
+
+pub returns-in-Model : goal.returns-in-Model
+returns-in-Model c =
+    let F = c.args.formula in
+    let options = values_of c.args.options.now in
+    let literals = c.in-Model.literals in
+    let h = subst (λ (m : Mus). IsMus F options.conflicts m) c.in-Model.is c.in_ok-found.ensures.found in
+    by_three (λ e. e.status ≡ Satisfiable) (λ e. e.written.items ≡ answer_text (Model literals)) (λ e. e.said.items ≡ []) (IsAnswer command.Mus options (F, tt)) c.answered-in-Model.result c.answered-in-Model.ensures.status c.answered-in-Model.ensures.written c.answered-in-Model.ensures.said
+    (λ e status written said. record {
+      result = subst (λ (s : Status). IsTrue (is_result s)) (sym status) refl;
+      answers = model_answers options F literals e.status e.written.items e.said.items h status written said;
+    })
+
+pub returns : goal.returns
+returns c =
+    let F = c.args.formula in
+    let options = values_of c.args.options.now in
+    let u = c.in-Unfinished in
+    let rounds = c.in_ok-rounds-in-Unfinished.rounds in
+    let document = c.open_document_of-document in
+    let budget = c.get.ensures in
+    let h = subst (λ (m : Mus). IsMus F options.conflicts m) u.is c.in_ok-found.ensures.found in
+    let told : document.result ≡ open_document_of u.texts None options.conflicts rounds = document.ensures.document ∙ ap (λ (n : ℕ). open_document_of u.texts None n rounds) budget.value in
+    by_three (λ e. e.status ≡ Budget) (λ e. e.written.items ≡ text_of (Unfinished document.result)) (λ e. e.said.items ≡ conflicts_line document.result.learned) (IsAnswer command.Mus options (F, tt)) c.unfinished.result c.unfinished.ensures.status c.unfinished.ensures.written c.unfinished.ensures.said
+    (λ e status written said. record {
+      result = subst (λ (s : Status). IsTrue (is_result s)) (sym status) refl;
+      answers = open_answers options F u.part u.texts u.round rounds document.result e.status e.written.items e.said.items document.ensures.formula document.ensures.limits h
+          (subst (λ (n : ℕ). n < 2 ^ 63) budget.value budget.most) c.in_ok-rounds-in-Unfinished.ensures told status written said;
+    })

@@ -1,0 +1,4 @@
+pub mod WrittenLines
+pub mod SizeForms
+pub mod ClauseForms
+pub mod CleanFormulas

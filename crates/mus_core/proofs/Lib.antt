@@ -1,0 +1,9 @@
+pub mod Naming
+pub mod Narrowing
+pub mod Copying
+pub mod Telling
+pub mod Rotated
+pub mod ShrunkCores
+pub mod ToldCores
+pub mod Answered
+pub mod Beginning

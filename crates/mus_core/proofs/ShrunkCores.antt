@@ -1,0 +1,194 @@
+-- A refuted core with witnesses for some of its places, and what each decision makes of it.
+use Rattle.std.proofs.Common.{◌≡◌, ℕ, zero, suc, ◌-◌, ◌<◌, Bool, true, false, if◌then◌else◌, not, ◌&&◌, ◌==◌, List, [], ◌∷◌, refl, sym, ◌∙◌, ap, subst, ℤ, Option, Some, None, IfSome, is_some, inl, inr, map, filter, find, length, replicate, get_or, arith}
+use Rattle.std.specs.Prelude.{slice_index_or}
+use Rattle.std.specs.List.{list_all}
+use Rattle.std.proofs.lemmas.Bool.{both_ways, cases_Bool, eq-eqb, false_from_ne_true, not_from_false, not-true, and_from, le-leb}
+use Rattle.std.proofs.lemmas.List.{length-map, get_or-map}
+use Rattle.lk_model.specs.Lists.{among, rises_within}
+use Rattle.lk_model.specs.Formulas.Formula.{Cnf, clause_at, clauses_at, positions_of}
+use Rattle.lk_model.specs.Formulas.Assignment.{Assignment, assignment_of, satisfies}
+use Rattle.lk_model.specs.Formulas.Lean.{are_positions}
+use Rattle.lk_model.specs.Held.PartialValues.{assignment_by}
+use Rattle.lk_model.proofs.Booleans.{and_true}
+use Rattle.lk_model.proofs.Counting.{Differ, Differ-filter, Differ-range, fewer, in_filter, from_filter, among-range}
+use Rattle.lk_model.proofs.Lists.{among_here, among_later, place_of}
+use Rattle.lk_model.proofs.Rising.{bounded, rises, rises_from}
+use Rattle.kernel_laws.specs.General.RefutationLaw.{IsRefutation}
+use Rattle.kernel_laws.proofs.WitnessLaws.{witness_law}
+use Rattle.part_formula.specs.Decisions.{IsPartModel}
+use Rattle.renaming_laws.specs.Renaming.{nth}
+use Rattle.mus_core.specs.declared.deciding.Copied.{Copied}
+use Rattle.mus_core.specs.declared.deciding.Refutation.{Refutation}
+use Rattle.mus_core.specs.Copies.{IsRefutedWithin}
+use Rattle.lk_model.specs.Formulas.Minimal.{all_but}
+use Rattle.lk_model.specs.Reduction.{IsModel}
+use Rattle.mus_core.specs.WitnessValues.{witness_at, is_open, IsRotated}
+use Rattle.mus_core.specs.Shrinking.{IsShrunk, left_open, IsNext}
+use Rattle.mus_core.proofs.Copying.{rising_told, told_twice, told_there}
+
+-- LISTS
+
+pub none_all : (t : ℕ → Bool) (ps : List ℕ) → find t ps ≡ None → list_all (λ p. not (t p)) ps ≡ true
+none_all t [] e = refl
+none_all t (p ∷ ps) e = at_test (t p) e (none_all t ps)
+  where
+    at_test : (b : Bool) → (if b then Some p else find t ps) ≡ None → (find t ps ≡ None → list_all (λ p. not (t p)) ps ≡ true)
+        → (not b && list_all (λ p. not (t p)) ps) ≡ true
+    at_test true e rest = absurd (let f : ⊥ = cc in f)
+    at_test false e rest = rest e
+
+pub found_at : (t : ℕ → Bool) (ps : List ℕ) (p : ℕ) → find t ps ≡ Some p → (among ps p ≡ true) × (t p ≡ true)
+found_at t [] p e = absurd (let f : ⊥ = cc in f)
+found_at t (q ∷ ps) p e = at_test (t q) refl e (found_at t ps p)
+  where
+    at_test : (b : Bool) → t q ≡ b → (if b then Some q else find t ps) ≡ Some p → (find t ps ≡ Some p → (among ps p ≡ true) × (t p ≡ true))
+        → (among (q ∷ ps) p ≡ true) × (t p ≡ true)
+    at_test true y e rest = let same : q ≡ p = cc in (subst (λ (k : ℕ). among (q ∷ ps) k ≡ true) same (among_here q ps), subst (λ (k : ℕ). t k ≡ true) same y)
+    at_test false y e rest = let w = rest e in (among_later q p ps w.0, w.1)
+
+fewer_left : (t u : ℕ → Bool) (ns : List ℕ) (p : ℕ) → Differ ns → ((k : ℕ) → u k ≡ true → t k ≡ true) → among ns p ≡ true → t p ≡ true → u p ≡ false
+    → length (filter u ns) < length (filter t ns)
+fewer_left t u ns p differ weaker there y n =
+    let less = fewer (λ k. k) (filter u ns) (filter t ns) p (Differ-filter u ns differ)
+    (record { into = λ k m. (let both = from_filter u ns k m in in_filter t ns k (weaker k both.0) both.1); one = λ k j m l e. e })
+    (in_filter t ns p y there)
+    (λ k m e. both_ways (u p) n (subst (λ (j : ℕ). u j ≡ true) e (from_filter u ns k m).0)) in
+    omega (arith, less)
+
+-- THE BEGIN
+
+none_at : (m k : ℕ) → slice_index_or (replicate m (let n : Option (List (Option Bool)) = None in n)) k None ≡ None
+none_at zero k = refl
+none_at (suc m) zero = refl
+none_at (suc m) (suc k) = none_at m k
+
+pub begins : (c : Copied) (r : Refutation) (ws : List (Option (List (Option Bool)))) → IsRefutedWithin c r → ws ≡ replicate (length c.clauses.now.clauses) None
+    → length ws ≡ length c.clauses.now.clauses → IsShrunk c r ws
+begins c r ws refuted is size = record {
+  refuted = refuted;
+  held = record {
+    size = size;
+    vars = λ p. subst (λ (o : Option (List (Option Bool))). IfSome o (λ values. length values ≡ c.clauses.now.vars)) (sym (none p)) tt;
+    witnesses = λ p values m e. absurd (let n = none p in let f : ⊥ = cc in f);
+  };
+}
+  where
+    none : (p : ℕ) → witness_at ws p ≡ None
+    none p = ap (λ (us : List (Option (List (Option Bool)))). witness_at us p) is ∙ none_at (length c.clauses.now.clauses) (p - 1)
+
+pub next : (c : Copied) (r : Refutation) (ws : List (Option (List (Option Bool)))) (p : ℕ) → IsShrunk c r ws
+    → find (λ p. not (is_some (witness_at ws p))) r.places ≡ Some p → IsNext c r ws p
+next c r ws p h e =
+    let w = found_at (λ p. not (is_some (witness_at ws p))) r.places p e in
+    let b = bounded 0 (length c.clauses.now.clauses) r.places p h.refuted.places w.0 in
+    record { there = w.0; none = not-true (is_some (witness_at ws p)) w.1; first = b.0; last = b.1 }
+
+-- THE OTHER PLACES
+
+filter_rises : (low high : ℕ) (t : ℕ → Bool) (ps : List ℕ) → rises_within low high ps ≡ true → rises_within low high (filter t ps) ≡ true
+filter_rises low high t [] r = refl
+filter_rises low high t (p ∷ ps) r =
+    let s = rises low high p ps r in
+    let later = filter_rises p high t ps s.more in
+    elim (cases_Bool (t p)) [
+      | inl y ↦ rw (y, le-leb (suc low) p s.above, le-leb p high s.within) later
+      | inr n ↦ rw n (rises_from low p high (filter t ps) (omega (arith, s.above)) later)
+    ]
+
+pub others_rise : (c : Copied) (r : Refutation) (others : List ℕ) (p : ℕ) → IsRefutedWithin c r → others ≡ filter (λ q. not (q == p)) r.places
+    → are_positions c.clauses.now others ≡ true
+others_rise c r others p h is = subst (λ (ps : List ℕ). are_positions c.clauses.now ps ≡ true) (sym is)
+    (filter_rises 0 (length c.clauses.now.clauses) (λ q. not (q == p)) r.places h.places)
+
+-- A WITNESS MORE
+
+-- what satisfies the clauses at the others is a witness
+pub is_witness : (G T : Cnf) (others places : List ℕ) (p : ℕ) (lits : List ℤ) (values : List (Option Bool)) → T ≡ clauses_at G others
+    → others ≡ filter (λ q. not (q == p)) places → IsPartModel T (positions_of T) lits → assignment_by values ≡ assignment_of lits → IsModel G (all_but (among places) p) (assignment_by values)
+is_witness G T others places p lits values is rest model by q m =
+    let both = and_true (among places q) (not (q == p)) m in
+    let there = subst (λ (ps : List ℕ). among ps q ≡ true) (sym rest) (in_filter (λ q. not (q == p)) places q both.1 both.0) in
+    let w = place_of others q there in
+    let len = ap (λ (H : Cnf). length H.clauses) is ∙ length-map others (clause_at G) in
+    let lt = w.1 in
+    let same : clause_at T (suc w.0) ≡ clause_at G q =
+    ap (λ (H : Cnf). get_or H.clauses w.0 []) is ∙ get_or-map (clause_at G) others w.0 0 [] w.1 ∙ ap (clause_at G) w.2 in
+    let inside : among (positions_of T) (suc w.0) ≡ true = among-range 1 (length T.clauses) (suc w.0) (omega arith) (omega (arith, lt, len)) in
+    subst (λ (φ : Assignment). satisfies φ (clause_at G q) ≡ true) (sym by)
+    (subst (λ (c : List ℤ). satisfies (assignment_of lits) c ≡ true) same (model.satisfied (suc w.0) inside refl))
+
+-- a place that has a witness is no longer open
+pub fewer_open : (c : Copied) (r : Refutation) (ws us : List (Option (List (Option Bool)))) (p : ℕ) → IsNext c r ws p
+    → IsRotated c.clauses.now (among r.places) ws us → is_some (witness_at us p) ≡ true → left_open c.clauses.now r.places us < left_open c.clauses.now r.places ws
+fewer_open c r ws us p n rotated given =
+    fewer_left (is_open r.places ws) (is_open r.places us) (positions_of G) p (Differ-range 1 (length G.clauses)) still
+    (among-range 1 (length G.clauses) p n.first (let l = n.last in omega (arith, l)))
+    (and_from (among r.places p) (not (is_some (witness_at ws p))) n.there (not_from_false (is_some (witness_at ws p)) n.none))
+    (closed (among r.places p) (is_some (witness_at us p)) given)
+  where
+    G : Cnf
+    G = c.clauses.now
+
+    closed : (a b : Bool) → b ≡ true → (a && not b) ≡ false
+    closed true true e = refl
+    closed true false e = absurd (let f : ⊥ = cc in f)
+    closed false b e = refl
+
+    still : (q : ℕ) → is_open r.places us q ≡ true → is_open r.places ws q ≡ true
+    still q e =
+        let both = and_true (among r.places q) (not (is_some (witness_at us q))) e in
+        and_from (among r.places q) (not (is_some (witness_at ws q))) both.0
+        (not_from_false (is_some (witness_at ws q)) (false_from_ne_true (is_some (witness_at ws q)) (λ had.
+        both_ways (is_some (witness_at us q)) (not-true (is_some (witness_at us q)) both.1) (rotated.kept q had))))
+
+-- A SMALLER CORE
+
+pub smaller : (c s : Copied) (r q : Refutation) (ws : List (Option (List (Option Bool)))) (others places : List ℕ) (p : ℕ) → IsShrunk c r ws → IsNext c r ws p
+    → others ≡ filter (λ q. not (q == p)) r.places → s.formula.now ≡ c.formula.now → s.part.now ≡ map (nth c.part.now) others
+    → s.clauses.now ≡ clauses_at c.clauses.now others → IsRefutedWithin s q → places ≡ map (nth others) q.places
+    → IsShrunk c (record { places = places; round = q.round }) ws × (left_open c.clauses.now places ws < left_open c.clauses.now r.places ws)
+smaller c s r q ws others places p h n rest formula part clauses refuted is = (
+  record {
+    refuted = record {
+      places = subst (λ (ps : List ℕ). are_positions G ps ≡ true) (sym is) (rising_told others m (length others) q.places rise refl more);
+      refuted = subst (λ (ps : List ℕ). IsRefutation c.formula.now ps q.round) (sym told)
+          (subst (λ (F : Cnf). IsRefutation F (map (nth s.part.now) q.places) q.round) formula refuted.refuted);
+    };
+    held = record {
+      size = h.held.size;
+      vars = h.held.vars;
+      witnesses = λ k values there e.
+          witness_law.stays G (among r.places) (among places) k (assignment_by values) inside (h.held.witnesses k values (inside k there) e);
+    };
+  },
+  fewer_left (is_open r.places ws) (is_open places ws) (positions_of G) p (Differ-range 1 m)
+      (λ k e. let both = and_true (among places k) (not (is_some (witness_at ws k))) e in and_from (among r.places k) (not (is_some (witness_at ws k))) (inside k both.0) both.1)
+      (among-range 1 m p n.first (let l = n.last in omega (arith, l)))
+      (and_from (among r.places p) (not (is_some (witness_at ws p))) n.there (not_from_false (is_some (witness_at ws p)) n.none))
+      (ap (λ (b : Bool). b && not (is_some (witness_at ws p))) gone),
+)
+  where
+    G : Cnf
+    G = c.clauses.now
+
+    m : ℕ
+    m = length c.clauses.now.clauses
+
+    rise : are_positions c.clauses.now others ≡ true
+    rise = others_rise c r others p h.refuted rest
+
+    more : rises_within 0 (length others) q.places ≡ true
+    more = subst (λ (k : ℕ). rises_within 0 k q.places ≡ true) (ap (λ (H : Cnf). length H.clauses) clauses ∙ length-map others (clause_at c.clauses.now)) refuted.places
+
+    told : map (nth c.part.now) places ≡ map (nth s.part.now) q.places
+    told = ap (map (nth c.part.now)) is ∙ told_twice c.part.now others q.places more ∙ ap (λ (ps : List ℕ). map (nth ps) q.places) (sym part)
+
+    kept : (k : ℕ) → among places k ≡ true → (not (k == p) ≡ true) × (among r.places k ≡ true)
+    kept k there = from_filter (λ q. not (q == p)) r.places k (subst (λ (ps : List ℕ). among ps k ≡ true) rest
+        (told_there others q.places k more (subst (λ (ps : List ℕ). among ps k ≡ true) is there)))
+
+    inside : (k : ℕ) → among places k ≡ true → among r.places k ≡ true
+    inside k there = (kept k there).1
+
+    gone : among places p ≡ false
+    gone = false_from_ne_true (among places p) (λ there. both_ways (p == p) (not-true (p == p) (kept p there).0) (eq-eqb p p refl))

@@ -1,0 +1,29 @@
+-- Clauses of a formula, decided in a copy under numbers of its own.
+use Rattle.std.specs.Prelude.{ℕ, map, IsTrue}
+use Rattle.lk_model.specs.Formulas.Formula.{positions_of}
+use Rattle.lk_model.specs.Formulas.Lean.{are_positions}
+use Rattle.kernel_laws.specs.General.RefutationLaw.{IsRefutation}
+use Rattle.renaming_laws.specs.Renaming.{IsDense, nth}
+use Rattle.part_formula.specs.Decisions.{are_filled, IsPartModel}
+use Rattle.mus_core.specs.declared.deciding.Copied.{Copied}
+use Rattle.mus_core.specs.declared.deciding.Refutation.{Refutation}
+use Rattle.mus_core.specs.declared.deciding.Decided.{Decided}
+use Rattle.mus_core.specs.declared.deciding.Decided.TheVariants.{Model, Refuted, Stopped}
+use Rattle.mus_core.specs.Found.{IsStoppedAt}
+
+-- the clauses at the positions, of which none is empty, and their copy
+pub record IsCopy (c : Copied) : Type 0 where
+  pub part : IsTrue (are_positions c.formula.now c.part.now)
+  pub filled : IsTrue (are_filled c.formula.now c.part.now)
+  pub dense : IsDense c.formula.now c.part.now c.names.now c.clauses.now
+
+-- a refutation of the clauses at these places of the part, in the formula's numbers
+pub record IsRefutedWithin (c : Copied) (r : Refutation) : Type 0 where
+  pub places : IsTrue (are_positions c.clauses.now r.places)
+  pub refuted : IsRefutation c.formula.now (map (nth c.part.now) r.places) r.round
+
+-- a model of the copy, a refutation of some clauses, or as many learned clauses as were allowed
+abbrev pub IsDecided : Copied → ℕ → Decided → Type 0
+IsDecided c conflicts (Model lits) = IsPartModel c.clauses.now (positions_of c.clauses.now) lits
+IsDecided c conflicts (Refuted r) = IsRefutedWithin c r
+IsDecided c conflicts (Stopped left) = IsStoppedAt c.formula.now conflicts c.part.now left.texts left.round

@@ -1,0 +1,6 @@
+pub mod Found
+pub mod Named
+pub mod Copies
+pub mod WitnessValues
+pub mod Rotations
+pub mod Shrinking

@@ -1,0 +1,54 @@
+-- Witnesses for places of a core.
+use Rattle.std.specs.Prelude.{length, ◌≡◌, ℕ, ◌-◌, Bool, not, ◌&&◌, List, [], map, ℤ, Option, Some, None, is_some, slice_index_or, ⊤, IfSome, IsTrue}
+use Rattle.std.specs.Option.{option_map_or}
+use Rattle.lk_model.specs.Lists.{among}
+use Rattle.lk_model.specs.Formulas.Formula.{Cnf, variable_occurs}
+use Rattle.lk_model.specs.Formulas.Autarky.{Positions}
+use Rattle.lk_model.specs.Formulas.Minimal.{all_but}
+use Rattle.lk_model.specs.Held.PartialValues.{assignment_by}
+use Rattle.lk_model.specs.Reduction.{IsModel}
+use Rattle.lk_model.specs.declared.document.Without.{Without}
+use Rattle.general_kernel.specs.SetLiterals.{literals_on}
+use Rattle.renaming_laws.specs.Renaming.{named, nth}
+use Rattle.mus_core.specs.declared.deciding.Copied.{Copied}
+
+-- the values for a place, where there are some
+abbrev pub witness_at : List (Option (List (Option Bool))) → ℕ → Option (List (Option Bool))
+witness_at ws p = slice_index_or ws (p - 1) None
+
+-- the true literals of values, on variables of the clauses at some places
+abbrev pub literals_of : Cnf → List ℕ → List (Option Bool) → List ℤ
+literals_of F places values = literals_on (variable_occurs F places) (assignment_by values) F.vars
+
+-- those of the values for a place
+abbrev pub literals_at : Cnf → List ℕ → List (Option (List (Option Bool))) → ℕ → List ℤ
+literals_at F places ws p = option_map_or (literals_of F places) (witness_at ws p) []
+
+-- told of the formula
+abbrev pub line_at : Copied → List ℕ → List (Option (List (Option Bool))) → ℕ → Without
+line_at c places ws p = record {
+  pos = nth c.part.now p;
+  lits = map (named c.names.now) (literals_at c.clauses.now places ws p);
+}
+
+-- values for places, of all variables; those for a place of the set satisfy the clauses at all others of it
+pub record AreHeld (F : Cnf) (S : Positions) (ws : List (Option (List (Option Bool)))) : Type 0 where
+  pub size : length ws ≡ length F.clauses
+  pub vars : (p : ℕ) → IfSome (witness_at ws p) (λ values. length values ≡ F.vars)
+  pub witnesses : (p : ℕ) (values : List (Option Bool)) → IsTrue (S p) → witness_at ws p ≡ Some values
+      → IsModel F (all_but S p) (assignment_by values)
+
+-- other values are held, and no place has lost its own
+pub record IsRotated (F : Cnf) (S : Positions) (ws us : List (Option (List (Option Bool)))) : Type 0 where
+  pub held : AreHeld F S us
+  pub kept : (p : ℕ) → IsTrue (is_some (witness_at ws p)) → IsTrue (is_some (witness_at us p))
+
+-- the same values, where there are some
+abbrev pub IsCopyOf : Option (List (Option Bool)) → Option (List (Option Bool)) → Type 0
+IsCopyOf (Some old) (Some new) = (length new ≡ length old) × (assignment_by new ≡ assignment_by old)
+IsCopyOf None (Some new) = ⊥
+IsCopyOf old None = ⊤
+
+-- a place of the core without a witness
+abbrev pub is_open : List ℕ → List (Option (List (Option Bool))) → ℕ → Bool
+is_open places ws p = among places p && not (is_some (witness_at ws p))

@@ -1,0 +1,15 @@
+//! Minimally unsatisfiable cores.
+#![tactic(auto)]
+
+mod deciding;
+mod empty_clause;
+mod mus;
+mod named;
+mod rotation;
+mod search;
+mod shrinking;
+mod told_core;
+mod witnesses;
+
+pub use mus::Mus;
+pub use search::minimal;

@@ -1,0 +1,18 @@
+//! What the search for a core answers.
+use lk_model::{Formula, List, Lit, MusResult, Round};
+
+/// What is found of a formula.
+#[derive(Drop)]
+pub enum Mus {
+    /// A minimally unsatisfiable core.
+    Core(MusResult),
+    /// A model of the formula: a literal for each variable, ascending.
+    Model(List<Lit>),
+    /// An open round of as many learned clauses as were allowed, over the clauses at the positions of a part as a
+    /// formula of their own.
+    Unfinished {
+        part: List<u32>,
+        texts: Formula,
+        round: Round,
+    },
+}

@@ -1,0 +1,149 @@
+//! A minimally unsatisfiable core.
+//!
+//! From a core, which is what a refutation names, one clause after another is left out. Where the others have a model, the
+//! clause is needed, and the model is kept as its witness; where they have none, what their refutation names is the new core
+//! (deletion with refinement: Dershowitz, Hanna and Nadel, "A Scalable Algorithm for Minimal Unsatisfiable Core
+//! Extraction", 2006).
+//!
+//! Here the clauses of the first core are copied once under numbers of their own, so that no decision costs the formula. The
+//! last refutation is kept, in the formula's numbers, and its chains name positions of the core alone, since all later
+//! answers are models.
+ghost use Rattle.std.specs.Prelude.{◌≡◌, ◌==◌, filter, not, map, IfOk};
+ghost use Rattle.occurrence_lists.specs.Occurrences.{AreOccurrences};
+ghost use Rattle.renaming_laws.specs.Renaming.{nth};
+ghost use Rattle.mus_core.specs.Copies.{IsCopy, IsRefutedWithin};
+ghost use Rattle.mus_core.specs.Found.{IsMus};
+ghost use Rattle.mus_core.specs.Shrinking.{IsNext, IsShrunk, IsTurned};
+
+use crate::deciding::{Copied, Decided, Refutation, decide_copy};
+use crate::mus::Mus;
+use crate::rotation::give;
+use crate::told_core::told_core;
+use crate::witnesses::{Witnesses, first_open};
+use cdcl_core::Turns;
+use lk_model::{Budget, List, OutOfMemory};
+use occurrence_lists::OccurrenceLists;
+use part_formula::nth;
+use partial_assign::assignment_of;
+use std::alloc::Global;
+
+/// How many clauses each order of variables learns in a turn of a decision.
+const TURN: u64 = 300;
+
+/// Leaves out clauses of a refuted core until each has a witness.
+pub(crate) fn shrink(
+    alloc: Global,
+    core: &Copied,
+    refutation: Refutation,
+    conflicts: Budget,
+) -> Result<Mus, OutOfMemory>
+    requires copy { IsCopy core.now }
+    requires refuted { IsRefutedWithin core.now refutation }
+    ensures { IfOk result (IsMus core.now.formula.now conflicts) }
+{
+    let mut refutation = refutation;
+    let mut witnesses = Witnesses::new(alloc, core.clauses.len())?;
+    let mut turns = Turns::keeping(alloc, core.clauses.vars(), TURN, TURN)?;
+    let lists = OccurrenceLists::new(alloc, core.clauses)?;
+    'turns: loop {
+        match first_open(refutation.places.as_slice(), &witnesses) {
+            None => {
+                let found = told_core(alloc, core, refutation, &witnesses)?;
+                return Ok(Mus::Core(found));
+            }
+            Some(p) => {
+                match turn(
+                    alloc,
+                    core,
+                    &lists,
+                    refutation,
+                    &mut witnesses,
+                    &mut turns,
+                    p,
+                    conflicts,
+                )? {
+                    Turned::On(next) => refutation = next,
+                    Turned::Ended(mus) => return Ok(mus),
+                }
+            }
+        }
+    }
+}
+
+/// How the search goes on.
+#[derive(Drop)]
+pub(crate) enum Turned {
+    /// With this refutation.
+    On(Refutation),
+    /// Not at all.
+    Ended(Mus),
+}
+
+// Leaves out the clause at a place without a witness.
+fn turn(
+    alloc: Global,
+    core: &Copied,
+    lists: &OccurrenceLists,
+    refutation: Refutation,
+    witnesses: &mut Witnesses,
+    turns: &mut Turns,
+    p: u32,
+    conflicts: Budget,
+) -> Result<Turned, OutOfMemory>
+    requires copy { IsCopy core.now }
+    requires lists { AreOccurrences core.now.clauses.now lists.now }
+    requires shrunk { IsShrunk core.now refutation witnesses.old }
+    requires next { IsNext core.now refutation witnesses.old p }
+    ensures { IfOk result (IsTurned core.now conflicts refutation witnesses.old witnesses.new) }
+{
+    let others = others(alloc, refutation.places.as_slice(), p)?;
+    let part = told_places(alloc, core.part, others.as_slice())?;
+    let clauses = core.clauses.clauses_at(alloc, others.as_slice())?;
+    let rest = Copied {
+        formula: core.formula,
+        part: part.as_slice(),
+        names: core.names,
+        clauses: &clauses,
+    };
+    match decide_copy(alloc, &rest, turns, conflicts)? {
+        Decided::Model(set) => {
+            let values = assignment_of(alloc, clauses.vars(), set.as_slice())?;
+            let places = refutation.places.as_slice();
+            give(alloc, core.clauses, lists, places, witnesses, p, values)?;
+            Ok(Turned::On(refutation))
+        }
+        Decided::Refuted(smaller) => Ok(Turned::On(Refutation {
+            places: told_places(alloc, others.as_slice(), smaller.places.as_slice())?,
+            round: smaller.round,
+        })),
+        Decided::Stopped(open) => Ok(Turned::Ended(Mus::Unfinished {
+            part,
+            texts: open.texts,
+            round: open.round,
+        })),
+    }
+}
+
+// The other places.
+fn others(alloc: Global, places: &[u32], p: u32) -> Result<List<u32>, OutOfMemory>
+    ensures { IfOk result (λ qs. qs ≡ filter (λ q. not (q == p)) places.now) }
+{
+    let mut others = List::new(alloc);
+    for q in places {
+        if *q != p {
+            others.push(*q)?;
+        }
+    }
+    Ok(others)
+}
+
+// What stands at the places.
+fn told_places(alloc: Global, part: &[u32], places: &[u32]) -> Result<List<u32>, OutOfMemory>
+    ensures { IfOk result (λ ps. ps ≡ map (nth part.now) places.now) }
+{
+    let mut positions = List::new(alloc);
+    for place in places {
+        positions.push(nth(part, u64::from(*place)))?;
+    }
+    Ok(positions)
+}

@@ -1,0 +1,82 @@
+//! A core, told in the numbers of the formula.
+ghost use Rattle.std.specs.Prelude.{◌≡◌, ℕ, None, find, not, is_some, map, length, IfOk, IfSome, IsTrue};
+ghost use Rattle.lk_model.specs.Formulas.Lean.{are_positions};
+ghost use Rattle.minimal_laws.specs.CoreLaw.{IsCore};
+ghost use Rattle.mus_core.specs.Copies.{IsCopy};
+ghost use Rattle.mus_core.specs.Shrinking.{IsShrunk};
+ghost use Rattle.mus_core.specs.WitnessValues.{witness_at, line_at};
+
+use crate::deciding::{Copied, Refutation};
+use crate::witnesses::Witnesses;
+use lk_model::{List, MusResult, OutOfMemory, Without};
+use part_formula::{Renaming, nth};
+use std::alloc::Global;
+
+/// The core at the places of a refutation, each of which has a witness.
+pub(crate) fn told_core(
+    alloc: Global,
+    core: &Copied,
+    refutation: Refutation,
+    witnesses: &Witnesses,
+) -> Result<MusResult, OutOfMemory>
+    requires copy { IsCopy core.now }
+    requires shrunk { IsShrunk core.now refutation witnesses.now }
+    requires each { find (λ p. not (is_some (witness_at witnesses.now p))) refutation.places ≡ None }
+    ensures { IfOk result (λ r. IsCore core.now.formula.now r.core r.round r.without) }
+{
+    let without = lines(alloc, core, refutation.places.as_slice(), witnesses)?;
+    let renaming = Renaming {
+        clauses: u64::from(core.formula.len()),
+        part: core.part,
+        names: core.names,
+    };
+    Ok(MusResult {
+        core: renaming.positions(refutation.places),
+        round: refutation.round,
+        without,
+    })
+}
+
+// The line for each place.
+fn lines(
+    alloc: Global,
+    core: &Copied,
+    places: &[u32],
+    witnesses: &Witnesses,
+) -> Result<List<Without>, OutOfMemory>
+    requires copy { IsCopy core.now }
+    requires places { IsTrue (are_positions core.now.clauses.now places.now) }
+    requires vars { (q : ℕ) → IfSome (witness_at witnesses.now q) (λ values. length values ≡ core.now.clauses.now.vars) }
+    ensures { IfOk result (λ ws. ws ≡ map (line_at core.now places.now witnesses.now) places.now) }
+{
+    let mut lines = List::new(alloc);
+    for p in places {
+        lines.push(line(alloc, core, places, witnesses, *p)?)?;
+    }
+    Ok(lines)
+}
+
+// That for one place: literals of its witness on variables of the core.
+fn line(
+    alloc: Global,
+    core: &Copied,
+    places: &[u32],
+    witnesses: &Witnesses,
+    p: u32,
+) -> Result<Without, OutOfMemory>
+    requires copy { IsCopy core.now }
+    requires places { IsTrue (are_positions core.now.clauses.now places.now) }
+    requires vars { (q : ℕ) → IfSome (witness_at witnesses.now q) (λ values. length values ≡ core.now.clauses.now.vars) }
+    ensures { IfOk result (λ w. w ≡ line_at core.now places.now witnesses.now p) }
+{
+    let literals = witnesses.literals(alloc, core.clauses, places, p)?;
+    let renaming = Renaming {
+        clauses: u64::from(core.formula.len()),
+        part: core.part,
+        names: core.names,
+    };
+    Ok(Without {
+        pos: nth(core.part, u64::from(p)),
+        lits: renaming.literals(literals),
+    })
+}

@@ -1,0 +1,5 @@
+use Rattle.std.proofs.Common.{◌≡◌, length, take}
+use Rattle.refutation_log.proofs.logged_step.logged.Given as goal
+
+abbrev pub invariant-loop-step : goal.invariant-loop-step
+invariant-loop-step l = l.logged.items ≡ take (length l.yielded) l.fn.steps.items
