@@ -5,8 +5,9 @@ writes a document of the same kind, and `deficiency` beside `reduce matching`.
     bench/matching.py LEANK [KIND ...]
 
 LEANK is the built program (crates/leank/out holds it after `bin/leank` ran once). Needs python3 and
-g++. Each figure is the least wall time of some runs; `reading` is what leank takes to read the formula
-alone. Both documents are checked. Nothing fails by time.
+g++. Each time is the least wall time of some runs; `reading` is what leank takes to read the formula
+alone. Beside it stand the processor seconds and the peak memory of one run. Both documents are checked.
+Nothing fails by time.
 """
 import os
 import random
@@ -77,6 +78,36 @@ def joined(out):
             put(out, clause)
 
 
+def small_clauses():
+    """The clauses of parts of two to six variables: a path over each, and up to three more."""
+    draw = random.Random(SEED)
+    first, end = 1, 1000001
+    while first < end:
+        variables = range(first, min(first + draw.randint(2, 6), end))
+        first = variables.stop
+        chosen = [[v, v + 1] for v in variables[:-1]]
+        for _ in range(draw.randint(0, 3)):
+            chosen.append(draw.sample(variables, min(len(variables), draw.randint(1, 3))))
+        for clause in chosen:
+            yield [v if draw.random() < 0.5 else -v for v in clause]
+
+
+def small_parts(out):
+    """Small parts of 1,000,000 variables."""
+    out.write(f"p cnf 1000000 {sum(1 for _ in small_clauses())}\n")
+    for clause in small_clauses():
+        put(out, clause)
+
+
+def two_parts(out):
+    """Two large random parts of equal size, over the even and the odd variables."""
+    draw = random.Random(SEED)
+    out.write("p cnf 1000000 920000\n")
+    for k in range(920000):
+        chosen = draw.sample(range(1, 500001), 3)
+        put(out, [2 * v - k % 2 if draw.random() < 0.5 else k % 2 - 2 * v for v in chosen])
+
+
 KINDS = {
     "random": lambda out: random_three(out, 500000, 450000),
     "tight": lambda out: random_three(out, 100000, 92000),
@@ -86,6 +117,8 @@ KINDS = {
     "wide": lambda out: complete(out, 1500, 1600),
     "parts": parts,
     "joined": joined,
+    "small": small_parts,
+    "two": two_parts,
 }
 
 
@@ -98,6 +131,15 @@ def least_seconds(words, output):
             subprocess.run(words, stdout=out, stderr=subprocess.DEVNULL)
             least = min(least, time.monotonic() - begin)
     return least
+
+
+def usage(words, output):
+    """The processor seconds and the peak memory, in MB, of one run."""
+    with open(output, "w") as out:
+        run = subprocess.Popen(words, stdout=out, stderr=subprocess.DEVNULL)
+        _, status, used = os.wait4(run.pid, 0)
+        run.returncode = os.waitstatus_to_exitcode(status)
+    return used.ru_utime + used.ru_stime, used.ru_maxrss / 1024
 
 
 def checked(leank, formula, document):
@@ -124,12 +166,16 @@ def main():
             kept = checked(leank, formula, theirs)
             reading = least_seconds([leank, "check", formula, os.devnull], os.devnull)
             print(f"{kind:7} {os.path.getsize(formula):9} bytes, {len(kept.split()) - 3} kept  plain {beside:.2f} s  reading {reading:.2f} s")
-            for workers in ("1", "2"):
+            for workers in ("1", "2", "4", "64"):
                 words = [leank, "reduce", "matching", formula, "--workers", workers]
                 seconds = least_seconds(words, ours)
                 if checked(leank, formula, ours) != kept:
                     sys.exit(f"{kind}: another kernel")
-                print(f"    {workers} worker(s) {seconds:6.2f} s  ratio {seconds / beside:.2f}")
+                processor, memory = usage(words, ours)
+                print(
+                    f"    {workers:>2} worker(s) {seconds:6.2f} s  ratio {seconds / beside:.2f}"
+                    f"  processor {processor:6.2f} s  {memory:5.0f} MB"
+                )
                 if workers == "1":
                     one = seconds
             seconds = least_seconds([leank, "deficiency", formula], ours)

@@ -1,13 +1,14 @@
 #!/usr/bin/env python3
 """Refuses each allocation of each command in turn.
 
-    bench/memory.py LEANK
+    bench/memory.py LEANK [WORD]
 
 LEANK is the built program (crates/leank/out holds it after `bin/leank` ran once). Needs gcc. Of each command, and each of
 its allocations (of the first 500, and then of every twentieth part), a run in which that one is refused ends as the run in
 which none is, or with 9. With 9 nothing stands on standard output, and on standard error stands `leank: out of memory`, or
-nothing, since there may be no memory for the words. Each other end is printed. The status is 1 if there is one. Runs have
-one worker, so that allocations come in one order.
+nothing, since there may be no memory for the words. Each other end is printed. The status is 1 if there is one, or if no
+allocation was refused. Runs have one worker, so that allocations come in one order. With a word, allocations are refused of
+those commands alone whose names have it, as `mus`.
 """
 import os
 import subprocess
@@ -22,6 +23,9 @@ FILES = {
     "parts": "p cnf 6 8\n1 2 0\n1 -2 0\n-1 2 0\n3 4 0\n3 -4 0\n-3 4 0\n-3 -4 0\n5 6 0\n",
     "eight": "p cnf 3 8\n" + "".join(f"{a}1 {b}2 {c}3 0\n" for a in ("", "-") for b in ("", "-") for c in ("", "-")),
     "empty": "p cnf 1 2\n1 0\n0\n",
+    "long": "p cnf 4 9\n-2 -3 4 0\n-1 -4 0\n2 4 0\n-1 2 0\n-1 -2 -3 4 0\n-1 3 4 0\n-1 2 -3 4 0\n-2 3 0\n1 -4 0\n",
+    "late": "p cnf 5 12\n1 -2 3 -4 0\n-1 -5 0\n1 2 3 4 0\n-2 5 0\n-2 -3 4 -5 0\n2 3 4 -5 0\n-1 2 3 0\n-3 4 0\n-1 3 -4 5 0\n"
+            "1 -2 4 -5 0\n-1 -3 5 0\n1 -4 0\n",
     "wrong": "p cnf 2 1\n1 x 0\n",
     "values": "v 1 2 3 0\n",
     "edits": "d 1\nc no edit\na -1 0\na 1 0\na -1 1 0\nd 2\nd 5\n" + "a 1 0\n" * 20,
@@ -43,16 +47,19 @@ def commands():
             yield f"{name} {kind}", ["reduce", kind, name, "--protect", "1"]
     yield "solve stops", ["solve", "eight", "--conflicts", "1"]
     yield "mus stops", ["mus", "eight", "--conflicts", "1"]
+    # A refutation names more than the core, and a budget is used up behind the first decision.
+    yield "long mus", ["mus", "long"]
+    yield "late mus stops", ["mus", "late", "--conflicts", "1"]
     yield "general stops", ["reduce", "general", "eight", "--conflicts", "1"]
     yield "linear stops", ["reduce", "linear", "eight", "--pivots", "1"]
     for name in ("square", "model", "parts", "eight", "empty"):
         yield f"{name} verify", ["verify", name, f"{{{name} solve}}"]
-        yield f"{name} core verify", ["verify", name, f"{{{name} mus}}"]
+        yield f"{name} mus verify", ["verify", name, f"{{{name} mus}}"]
         for kind in CLASSES:
             yield f"{name} {kind} check", ["check", name, f"{{{name} {kind}}}"]
             yield f"{name} {kind} extend", ["extend", name, f"{{{name} {kind}}}", "values"]
     yield "unfinished check", ["check", "eight", "{general stops}"]
-    yield "core check", ["check", "{mus stops}", "{mus stops}"]
+    yield "mus check", ["check", "{mus stops}", "{mus stops}"]
     yield "unfinished extend", ["extend", "eight", "{solve stops}", "values"]
     yield "no answer", ["verify", "square", "values"]
     yield "other answer", ["verify", "model", "{square solve}"]
@@ -83,9 +90,9 @@ def places():
 
 
 def main():
-    if len(sys.argv) != 2:
+    if len(sys.argv) not in (2, 3):
         sys.exit(__doc__)
-    leank, faults, counts = os.path.abspath(sys.argv[1]), 0, Counter()
+    leank, only, faults, counts = os.path.abspath(sys.argv[1]), "".join(sys.argv[2:]), 0, Counter()
     with tempfile.TemporaryDirectory() as folder:
         library = os.path.join(folder, "failing.so")
         source = os.path.join(HERE, "failing_allocation.c")
@@ -99,7 +106,7 @@ def main():
             counts[f"status {ample[0]} with all memory"] += 1
             with open(os.path.join(folder, name), "wb") as file:
                 file.write(ample[1])
-            for place in places():
+            for place in places() if only in name else ():
                 found, was_refused = ended(words, folder, library, place)
                 if not was_refused:
                     break
@@ -110,6 +117,8 @@ def main():
                     print(f"{name}: allocation {place}: {found}, not {ample}")
     print(", ".join(f"{what}: {count}" for what, count in sorted(counts.items())))
     print(f"{faults} differences")
+    if not counts["out of memory"]:
+        sys.exit("no allocation was refused: the program is not linked as LD_PRELOAD needs it")
     sys.exit(faults > 0)
 
 

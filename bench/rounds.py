@@ -181,7 +181,7 @@ def judge_row(row, lines):
     words, texts, *part = [w.strip() for w in row.split(";")]
     clauses = [frozenset(int(w) for w in c.split() if w != "0") for c in texts.split(",")] if texts else []
     premises = {k + 1: c for k, c in enumerate(clauses)}
-    if words.startswith("alone"):
+    if words.startswith("alone") or words.startswith("kernel") and part and part[0]:
         premises = {int(p): premises[int(p)] for p in part[0].split()}
     rounds, kept, literals = [], None, set()
     for line in lines:

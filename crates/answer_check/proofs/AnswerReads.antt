@@ -8,7 +8,7 @@ use Rattle.lk_model.specs.declared.verdict.ReadStop.TheVariants as reading
 use Rattle.lk_model.proofs.ReadingLaws.{stops_once_as, stops_nowhere_as}
 use Rattle.line_text.specs.DraftReading.{IsCompletedBy}
 use Rattle.line_text.specs.Fields.{fields}
-use Rattle.line_text.specs.LineReading.{IsReadBy, IsAdmitted, CanComplete, TakesLine, EndsWith, IsStopOf}
+use Rattle.line_text.specs.LineReading.{Grammar, IsReadBy, IsAdmitted, CanComplete, TakesLine, EndsWith, IsStopOf}
 use Rattle.line_text.specs.Taking.{IsTaken}
 use Rattle.line_text.proofs.DraftReads as drafts
 use Rattle.line_text.proofs.DraftReads.{IsDrafting, IsTextBy, is_text, is_read, stops_same}
@@ -17,7 +17,7 @@ use Rattle.core_text.specs.CoreDrafts as core
 use Rattle.core_text.specs.CoreDrafts.{IsReadyDraft}
 use Rattle.core_text.specs.declared.draft.CoreDraft.{CoreDraft}
 use Rattle.core_text.proofs.DraftForms.{ready_draft}
-use Rattle.answer_check.specs.Answers.{IsAnswerText, IsTextOfAnswer, IsStopAt}
+use Rattle.answer_check.specs.Answers.{IsAnswerText, IsTextOfAnswer, IsStopAt, ReadsAnswers}
 use Rattle.answer_check.specs.AnswerTextLaw.{AnswerTextLaw}
 use Rattle.answer_check.specs.Drafts.{draft_lines, next_draft, finished, answer_drafts, IsRead}
 use Rattle.answer_check.specs.declared.answer.Answer.{Answer}
@@ -86,10 +86,6 @@ answer_text_of n m bytes a t = record { form = t.form; text = t.text }
 text_of_answer : (n m : ℕ) (bytes : List ℕ) (a : Answer) → IsAnswerText n m bytes a → IsTextBy (answer_drafts n m) bytes a
 text_of_answer n m bytes a t = record { form = t.form; text = t.text }
 
-pub if_text : (n m : ℕ) (bytes : List ℕ) (r : Result Answer ReadStop) → n ≤ max_vars → m ≤ max_clauses → IfOk r (IsReadBy (IsCompletedBy (answer_drafts n m) Nothing) bytes) → IfOk r (IsAnswerText n m bytes)
-if_text n m bytes (Ok a) small few h = answer_text_of n m bytes a (is_text (answer_drafts n m) (IsDraft n m) (drafting n m small few) bytes a h)
-if_text n m bytes (Err stop) small few h = tt
-
 -- the texts that are read are those of answers
 same_texts : (n m : ℕ) → n ≤ max_vars → m ≤ max_clauses → (bytes : List ℕ) → IsAdmitted (IsCompletedBy (answer_drafts n m) Nothing) bytes ↔ IsTextOfAnswer n m bytes
 same_texts n m small few bytes = (
@@ -97,11 +93,25 @@ same_texts n m small few bytes = (
   λ w. (w.0, is_read (answer_drafts n m) (IsDraft n m) (drafting n m small few) bytes w.0 (text_of_answer n m bytes w.0 w.1)),
 )
 
-pub if_stop : (n m : ℕ) (bytes : List ℕ) (r : Result Answer ReadStop) → n ≤ max_vars → m ≤ max_clauses → IfErr r (IsStopOf (IsAdmitted (IsCompletedBy (answer_drafts n m) Nothing)) bytes) → IfErr r (IsStopAt n m bytes)
-if_stop n m bytes (Ok a) small few h = tt
-if_stop n m bytes (Err (reading.Line number)) small few h =
-    stops_same (IsAdmitted (IsCompletedBy (answer_drafts n m) Nothing)) (IsTextOfAnswer n m) (same_texts n m small few) bytes number h
-if_stop n m bytes (Err reading.OutOfMemory) small few h = tt
+-- a fresh reader is one of answers
+pub reads_answers : (n m : ℕ) → n ≤ max_vars → m ≤ max_clauses → ReadsAnswers n m (IsCompletedBy (answer_drafts n m) Nothing)
+reads_answers n m small few = record {
+  text = λ bytes a h. answer_text_of n m bytes a (is_text (answer_drafts n m) (IsDraft n m) (drafting n m small few) bytes a h);
+  stop = stop_by;
+}
+  where
+    stop_by : (bytes : List ℕ) (stop : ReadStop) → IsStopOf (IsAdmitted (IsCompletedBy (answer_drafts n m) Nothing)) bytes stop → IsStopAt n m bytes stop
+    stop_by bytes (reading.Line number) h =
+        stops_same (IsAdmitted (IsCompletedBy (answer_drafts n m) Nothing)) (IsTextOfAnswer n m) (same_texts n m small few) bytes number h
+    stop_by bytes reading.OutOfMemory h = tt
+
+pub if_text : (n m : ℕ) (Completes : Grammar Answer) (bytes : List ℕ) (r : Result Answer ReadStop) → ReadsAnswers n m Completes → IfOk r (IsReadBy Completes bytes) → IfOk r (IsAnswerText n m bytes)
+if_text n m Completes bytes (Ok a) d h = d.text bytes a h
+if_text n m Completes bytes (Err stop) d h = tt
+
+pub if_stop : (n m : ℕ) (Completes : Grammar Answer) (bytes : List ℕ) (r : Result Answer ReadStop) → ReadsAnswers n m Completes → IfErr r (IsStopOf (IsAdmitted Completes) bytes) → IfErr r (IsStopAt n m bytes)
+if_stop n m Completes bytes (Ok a) d h = tt
+if_stop n m Completes bytes (Err stop) d h = d.stop bytes stop h
 
 -- what is determined of a text
 pub text_law : AnswerTextLaw

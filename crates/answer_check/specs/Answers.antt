@@ -9,7 +9,7 @@ use Rattle.lk_model.specs.Documents.Form.{counts_from, are_steps, is_whole}
 use Rattle.lk_model.specs.Documents.Text.{round_lines}
 use Rattle.lk_model.specs.Documents.CoreText.{is_core_in_form, core_lines}
 use Rattle.lk_model.specs.declared.verdict.ReadStop.{ReadStop}
-use Rattle.line_text.specs.LineReading.{IsStopOf}
+use Rattle.line_text.specs.LineReading.{Grammar, IsReadBy, IsAdmitted, IsStopOf}
 use Rattle.answer_check.specs.declared.answer.Answer.{Answer}
 use Rattle.answer_check.specs.declared.answer.Answer.TheVariants.{Model, Refuted, Core}
 
@@ -57,3 +57,8 @@ IsTextOfAnswer n m bytes = (a : Answer) × IsAnswerText n m bytes a
 -- line of an answer has one; so is the line after the last, where the text ends too early. Want of memory is free.
 abbrev pub IsStopAt : ℕ → ℕ → List ℕ → ReadStop → Type 0
 IsStopAt n m bytes stop = IsStopOf (IsTextOfAnswer n m) bytes stop
+
+-- the texts of a reader's lines are those of answers, and so are its stops
+pub record ReadsAnswers (n m : ℕ) (Completes : Grammar Answer) : Type 0 where
+  pub text : (bytes : List ℕ) (a : Answer) → IsReadBy Completes bytes a → IsAnswerText n m bytes a
+  pub stop : (bytes : List ℕ) (stop : ReadStop) → IsStopOf (IsAdmitted Completes) bytes stop → IsStopAt n m bytes stop

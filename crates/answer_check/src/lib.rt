@@ -13,4 +13,4 @@ pub use answer::Answer;
 pub use checking::check_answer;
 pub use laws::{answer_law, text_law};
 pub use printing::print_answer;
-pub use reading::read_answer;
+pub use reading::{AnswerReader, answer_reader, read_answer};

@@ -1,8 +1,9 @@
 //! Reading answers.
-ghost use Rattle.std.specs.Prelude.{◌≤◌, IfOk, IfErr, length};
+ghost use Rattle.std.specs.Prelude.{◌≡◌, ◌≤◌, IfOk, IfErr, length};
 ghost use Rattle.lk_model.specs.Limits.{max_vars, max_clauses};
 ghost use Rattle.line_text.specs.DraftReading.{IsCompletedBy};
-ghost use Rattle.answer_check.specs.Answers.{IsAnswerText, IsStopAt};
+ghost use Rattle.line_text.specs.LineReading.{CanComplete};
+ghost use Rattle.answer_check.specs.Answers.{IsAnswerText, IsStopAt, ReadsAnswers};
 ghost use Rattle.answer_check.specs.Drafts.{draft_lines, answer_drafts, IsRead};
 
 use crate::answer::Answer;
@@ -11,9 +12,9 @@ use line_text::{LineReader, read_lines};
 use lk_model::{OutOfMemory, ReadStop};
 use std::alloc::Global;
 
-/// What was read of an answer for so many variables and clauses.
+/// Reads an answer for so many variables and clauses line by line. It keeps what was read.
 #[derive(Drop)]
-struct AnswerReader {
+pub struct AnswerReader {
     draft: Draft,
     vars: u32,
     clauses: u32,
@@ -46,10 +47,22 @@ pub fn read_answer(alloc: Global, bytes: &[u8], n: u32, m: u32) -> Result<Answer
     ensures answer { IfOk result (IsAnswerText n m bytes.now) }
     ensures stop { IfErr result (IsStopAt n m bytes.now) }
 {
-    let reader = AnswerReader {
+    read_lines(alloc, answer_reader(n, m), bytes)
+}
+
+/// A reader that has read no line. The texts that it reads are those of answers for n variables and m
+/// clauses, and it stops where they do.
+pub fn answer_reader(n: u32, m: u32) -> AnswerReader
+    requires vars { n ≤ max_vars }
+    requires clauses { m ≤ max_clauses }
+    ensures fits { ⟦<AnswerReader as LineReader>⟧.fits result }
+    ensures first { ⟦<AnswerReader as LineReader>⟧.count result ≡ 0 }
+    ensures completed { CanComplete (⟦<AnswerReader as LineReader>⟧.completes result) }
+    ensures answers { ReadsAnswers n m (⟦<AnswerReader as LineReader>⟧.completes result) }
+{
+    AnswerReader {
         draft: Draft::Nothing,
         vars: n,
         clauses: m,
-    };
-    read_lines(alloc, reader, bytes)
+    }
 }

@@ -12,9 +12,13 @@
 //!   base with each line exchanged with the next one, left out, and written twice.
 //! - `again TEXT` reads a text for the formula, and prints the answer: `again` if it is the same text.
 //! - `limits TEXT` does so for 1,000,000 variables and 4,000,000 clauses.
+//!
+//! Each text is also read in pieces of 1, 2, 3, 7 and 65,536 bytes. If it is read otherwise then, the answer is
+//! `otherwise in pieces of` so many bytes.
 #![tactic(auto)]
 
 mod many;
+mod pieces;
 mod told;
 
 use crate::many::{tell_cuts, tell_repeats, tell_swaps};

@@ -17,7 +17,7 @@ use Rattle.lk_model.specs.declared.list.OutOfMemory.{OutOfMemory}
 use Rattle.lk_model.proofs.Booleans.{and_true}
 use Rattle.line_text.specs.Fields.{fields}
 use Rattle.line_text.specs.Taking.{IsTaken}
-use Rattle.line_text.specs.LineReading.{are_whole_lines, IsReadBy, IsAdmitted, CanComplete, LeadsOn, LeadsNowhere, TakesLine, EndsWith, IsStopOf}
+use Rattle.line_text.specs.LineReading.{are_whole_lines, Grammar, IsReadBy, IsAdmitted, CanComplete, LeadsOn, LeadsNowhere, TakesLine, EndsWith, IsStopOf}
 use Rattle.line_text.proofs.LineCuts.{lines_in_row}
 use Rattle.line_text.proofs.CleanWords.{is_clean_line, are_clean, line_fields, words_of_line, same_lines, goes_on_by, cut_lines_in_row, clean_whole}
 use Rattle.line_text.proofs.Takings.{taken_next, not_taken}
@@ -27,7 +27,7 @@ use Rattle.cert_text.specs.declared.draft.LineDue.TheVariants.{Format, Sizes, Pr
 use Rattle.cert_text.specs.Drafts.{fresh_draft, lines_read, lines_before, clause_count, next_draft, is_at_clauses, document_by, finished, run}
 use Rattle.cert_text.specs.Taking.{IsReadyAgain, IsSmall}
 use Rattle.cert_text.specs.Completing.{IsCompletedBy, IsRead}
-use Rattle.cert_text.specs.ReadTexts.{IsStopAt, IsOfOneDocument, HasOneText, StopsNowhere}
+use Rattle.cert_text.specs.ReadTexts.{IsStopAt, ReadsDocuments, IsOfOneDocument, HasOneText, StopsNowhere}
 use Rattle.cert_text.proofs.CleanLines.{clean_document}
 use Rattle.cert_text.proofs.DraftSteps.{IsDraft, IsDraftAt, draft_step, draft_facts, vars_limit, clauses_limit, kept_limit}
 use Rattle.cert_text.proofs.Completed.{IsWholeDraft, whole_lines, whole_form, goes_on}
@@ -246,14 +246,21 @@ stops_at d bytes number e h = record {
     s : StopsAs (IsAdmitted (IsCompletedBy fresh_draft)) bytes number
     s = subst (λ (x : Draft). StopsAs (IsAdmitted (IsCompletedBy x)) bytes number) e h
 
-pub if_text : (d : Draft) (bytes : List ℕ) (r : Result Document ReadStop) → d ≡ fresh_draft → IfOk r (IsReadBy (IsCompletedBy d) bytes) → IfOk r (IsTextOf bytes)
-if_text d bytes (Ok document) e h = is_text d bytes document e h
-if_text d bytes (Err stop) e h = tt
+-- a fresh reader is one of documents
+pub reads_documents : (d : Draft) → d ≡ fresh_draft → ReadsDocuments (IsCompletedBy d)
+reads_documents d e = record { text = λ bytes document h. is_text d bytes document e h; stop = stop_by }
+  where
+    stop_by : (bytes : List ℕ) (stop : ReadStop) → IsStopOf (IsAdmitted (IsCompletedBy d)) bytes stop → IsStopAt bytes stop
+    stop_by bytes (reading.Line number) h = stops_at d bytes number e h
+    stop_by bytes reading.OutOfMemory h = tt
 
-pub if_stop : (d : Draft) (bytes : List ℕ) (r : Result Document ReadStop) → d ≡ fresh_draft → IfErr r (IsStopOf (IsAdmitted (IsCompletedBy d)) bytes) → IfErr r (IsStopAt bytes)
-if_stop d bytes (Ok document) e h = tt
-if_stop d bytes (Err (reading.Line number)) e h = stops_at d bytes number e h
-if_stop d bytes (Err reading.OutOfMemory) e h = tt
+pub if_text : (Completes : Grammar Document) (bytes : List ℕ) (r : Result Document ReadStop) → ReadsDocuments Completes → IfOk r (IsReadBy Completes bytes) → IfOk r (IsTextOf bytes)
+if_text Completes bytes (Ok document) d h = d.text bytes document h
+if_text Completes bytes (Err stop) d h = tt
+
+pub if_stop : (Completes : Grammar Document) (bytes : List ℕ) (r : Result Document ReadStop) → ReadsDocuments Completes → IfErr r (IsStopOf (IsAdmitted Completes) bytes) → IfErr r (IsStopAt bytes)
+if_stop Completes bytes (Ok document) d h = tt
+if_stop Completes bytes (Err stop) d h = d.stop bytes stop h
 
 -- a text is that of one document at most
 pub of_one_document : IsOfOneDocument

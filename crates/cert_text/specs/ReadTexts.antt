@@ -2,6 +2,7 @@
 use Rattle.std.specs.Prelude.{◌≡◌, ℕ, List}
 use Rattle.lk_model.specs.Documents.Reading.{IsTextOf, StopsAt}
 use Rattle.lk_model.specs.declared.document.Document.{Document}
+use Rattle.line_text.specs.LineReading.{Grammar, IsReadBy, IsAdmitted, IsStopOf}
 use Rattle.lk_model.specs.declared.verdict.ReadStop.{ReadStop}
 use Rattle.lk_model.specs.declared.verdict.ReadStop.TheVariants.{Line, OutOfMemory}
 
@@ -9,6 +10,11 @@ use Rattle.lk_model.specs.declared.verdict.ReadStop.TheVariants.{Line, OutOfMemo
 abbrev pub IsStopAt : List ℕ → ReadStop → Type 0
 IsStopAt bytes (Line line) = StopsAt bytes line
 IsStopAt bytes OutOfMemory = Unit {0}
+
+-- the texts of a reader's lines are those of documents, and so are its stops
+pub record ReadsDocuments (Completes : Grammar Document) : Type 0 where
+  pub text : (bytes : List ℕ) (d : Document) → IsReadBy Completes bytes d → IsTextOf bytes d
+  pub stop : (bytes : List ℕ) (stop : ReadStop) → IsStopOf (IsAdmitted Completes) bytes stop → IsStopAt bytes stop
 
 -- a text is that of one document at most
 abbrev pub IsOfOneDocument : Type 0

@@ -16,4 +16,4 @@ mod steps;
 pub use laws::text_law;
 pub use model_text::{print_model, read_model};
 pub use printing::print;
-pub use reading::read;
+pub use reading::{DocumentReader, document_reader, read};

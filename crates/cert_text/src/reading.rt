@@ -5,7 +5,8 @@ ghost use Rattle.cert_text.specs.Parts.{is_finished};
 ghost use Rattle.cert_text.specs.Drafts.{clause_count, document_by, done_by, open_by, finished, fresh_draft, is_at_clauses, lines_read};
 ghost use Rattle.cert_text.specs.Completing.{IsCompletedBy, IsRead};
 ghost use Rattle.lk_model.specs.Documents.Reading.{IsTextOf};
-ghost use Rattle.cert_text.specs.ReadTexts.{IsStopAt};
+ghost use Rattle.cert_text.specs.ReadTexts.{IsStopAt, ReadsDocuments};
+ghost use Rattle.line_text.specs.LineReading.{CanComplete};
 
 use crate::draft::{Draft, LineDue};
 use crate::part::{Part, body_of, is_finished, rounds_of};
@@ -18,9 +19,10 @@ use lk_model::{
 };
 use std::alloc::Global;
 
-/// What was read of a document, and the clause that grows while a clause line is read.
+/// Reads a document line by line. It keeps what was read, and the clause that grows while a clause line is
+/// read.
 #[derive(Drop)]
-struct DocumentReader {
+pub struct DocumentReader {
     draft: Draft,
     growing: OpenClause,
 }
@@ -50,11 +52,20 @@ pub fn read(alloc: Global, bytes: &[u8]) -> Result<Document, ReadStop>
     ensures document { IfOk result (IsTextOf bytes.now) }
     ensures stop { IfErr result (IsStopAt bytes.now) }
 {
-    let reader = DocumentReader {
+    read_lines(alloc, document_reader(alloc)?, bytes)
+}
+
+/// A reader that has read no line. The texts that it reads are those of documents, and it stops where they do.
+pub fn document_reader(alloc: Global) -> Result<DocumentReader, OutOfMemory>
+    ensures fits { IfOk result (λ r. ⟦<DocumentReader as LineReader>⟧.fits r) }
+    ensures first { IfOk result (λ r. ⟦<DocumentReader as LineReader>⟧.count r ≡ 0) }
+    ensures completed { IfOk result (λ r. CanComplete (⟦<DocumentReader as LineReader>⟧.completes r)) }
+    ensures documents { IfOk result (λ r. ReadsDocuments (⟦<DocumentReader as LineReader>⟧.completes r)) }
+{
+    Ok(DocumentReader {
         growing: OpenClause::new(alloc, 0)?,
         draft: fresh(alloc)?,
-    };
-    read_lines(alloc, reader, bytes)
+    })
 }
 
 /// The document of a draft, if all its lines were read.

@@ -1,5 +1,5 @@
 -- Edits that are read behind a formula: a reader that is fed from a shelf, and how it stops.
-use Rattle.std.proofs.Common.{◌≡◌, ℕ, ◌-◌, ◌^◌, ◌<◌, ◌≤◌, Bool, List, [], ◌++◌, length, Option, Some, None, arith, length-append, refl, sym, subst}
+use Rattle.std.proofs.Common.{◌≡◌, ℕ, ◌-◌, ◌^◌, ◌<◌, ◌≤◌, Bool, List, ◌++◌, length, Option, Some, None, arith, length-append, sym, subst}
 use Rattle.std.specs.Io.KnownBytes.{Consumes, IsAtEnd}
 use Rattle.lk_model.specs.Formulas.Formula.{Cnf}
 use Rattle.edit_text.specs.Fed.{HasBeenFed, fed_count, IsRefusalOf, IsSettledAs}
@@ -24,11 +24,6 @@ pub record AreFedFrom (F : Cnf) (told_before told_now : Told) (before now : Opti
   pub fed : List ℕ
   pub been : HasBeenFed F fed reader
   pub taken : TakesUp told_before told_now before now faults_before faults_now started current_before current_now fed
-
--- at first none was taken
-pub nothing_taken : (left : Option (List ℕ)) → Consumes left left []
-nothing_taken None = tt
-nothing_taken (Some bytes) = refl
 
 -- how many they are
 counted : (F : Cnf) (fed : List ℕ) (reader : Held) → HasBeenFed F fed reader → fed_count reader ≡ length fed

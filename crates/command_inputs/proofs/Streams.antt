@@ -1,5 +1,5 @@
 -- What was read so far.
-use Rattle.std.proofs.Common.{◌≡◌, ℕ, ◌≤◌, Bool, List, [], ◌++◌, Option, ap, ◌∙◌, arith}
+use Rattle.std.proofs.Common.{◌≡◌, ℕ, ◌≤◌, Bool, List, [], ◌++◌, Option, Some, None, refl, ap, ◌∙◌, arith}
 use Rattle.std.specs.Prelude.{IsTrue}
 use Rattle.std.specs.Io.KnownBytes.{Consumes}
 use Rattle.std.proofs.lemmas.List.{append-nil}
@@ -14,6 +14,11 @@ pub record TakesUp (told_before told_now : Told) (before now : Option (List ℕ)
   pub open_text : IsTrue started
   pub same : current_now ≡ current_before
   pub later : faults_before ≤ faults_now
+
+-- at first no byte was taken
+pub nothing_taken : (left : Option (List ℕ)) → Consumes left left []
+nothing_taken None = tt
+nothing_taken (Some bytes) = refl
 
 -- what is told stays the same from call to call
 pub Tells-then : (a b c : Told) → TellsTheSame a b → TellsTheSame b c → TellsTheSame a c

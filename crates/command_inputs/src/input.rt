@@ -7,17 +7,21 @@ ghost use Rattle.answer_check.specs.Answers.{is_answer, IsAnswerText};
 ghost use Rattle.edit_text.specs.LiveClauses.{live_of};
 ghost use Rattle.edit_text.specs.Edits.{CanBeMade};
 ghost use Rattle.edit_text.specs.EditText.{IsEdits};
+ghost use Rattle.line_text.specs.LineReading.{CanComplete};
 ghost use Rattle.lk_outside.specs.Reads.{ReadTakes};
 ghost use Rattle.lk_outside.specs.Causes.{HasCause, TellsTheSame};
+ghost use Rattle.command_inputs.specs.LineTexts.{IsReadAs};
 ghost use Rattle.command_inputs.specs.Inputs.{nothing_known, AreRead, IsModelRead, StopsReading, StopsText, StopsOn, IsFailure};
 ghost use Rattle.command_words.specs.declared.shape.Grammar.TheVariants.{Formula as FormulaText, Document as DocumentText, Model as ModelText, Answer as AnswerText, Edits as EditsText};
 
 use crate::stop::Stop;
-use answer_check::{Answer, read_answer};
-use cert_text::{read, read_model};
+use answer_check::{Answer, answer_reader};
+use cert_text::{document_reader, read_model};
 use dimacs_reader::Reader;
 use edit_text::{Edit, EditsReader};
-use lk_model::{Document, Formula, List};
+use line_pieces::PieceReader;
+use line_text::LineReader;
+use lk_model::{Document, Formula, List, ReadStop as TextStop};
 use lk_outside::Shelf;
 use partial_assign::Partial;
 use std::alloc::Global;
@@ -130,8 +134,12 @@ fn read_document<H: Shelf>(alloc: Global, shelf: &mut H, name: &str) -> Result<D
     ensures cause { HasCause (H.faults shelf.old) (H.faults shelf.new) (IsErrAnd result (λ s. s ≡ Stop.Read)) }
     ensures well { IsTrue (H.ailing shelf.new) → IsErrAnd result IsFailure }
 {
-    let text = read_text(alloc, shelf, name)?;
-    Ok(read(alloc, text.as_slice())?)
+    let reader = document_reader(alloc)?;
+    let read = read_by_lines(alloc, shelf, name, reader)?;
+    match read {
+        Ok(document) => Ok(document),
+        Err(stop) => Err(Stop::from(stop)),
+    }
 }
 
 /// Reads the model under a name, for the variables of a formula.
@@ -200,8 +208,9 @@ fn read_answer_of<H: Shelf>(
     ensures cause { HasCause (H.faults shelf.old) (H.faults shelf.new) (IsErrAnd result (λ s. s ≡ Stop.Read)) }
     ensures well { IsTrue (H.ailing shelf.new) → IsErrAnd result IsFailure }
 {
-    let text = read_text(alloc, shelf, name)?;
-    match read_answer(alloc, text.as_slice(), formula.vars(), formula.len()) {
+    let reader = answer_reader(formula.vars(), formula.len());
+    let read = read_by_lines(alloc, shelf, name, reader)?;
+    match read {
         Ok(answer) => Ok(answer),
         Err(stop) => Err(Stop::of_answer(stop)),
     }
@@ -283,6 +292,61 @@ fn read_started_edits<H: Shelf>(
         reader.feed(&piece[..count])?;
     }
     Ok(reader.finish()?)
+}
+
+/// Reads the text under a name by a reader of its lines: its value, or where the reader refuses it. Behind a
+/// line that is refused nothing more is read.
+fn read_by_lines<H: Shelf, R: LineReader + Drop>(
+    alloc: Global,
+    shelf: &mut H,
+    name: &str,
+    reader: R,
+) -> Result<Result<R::Value, TextStop>, Stop>
+    requires fits { R.fits reader }
+    requires first { R.count reader ≡ 0 }
+    requires completed { CanComplete (R.completes reader) }
+    ensures told { TellsTheSame (H.told shelf.old) (H.told shelf.new) }
+    ensures read { IfOk result (IsReadAs (R.completes reader) (H.told shelf.old name.now)) }
+    ensures stop { IfErr result (StopsText (H.ailing shelf.new)) }
+    ensures current { IsErrAnd result (λ s. s ≡ Stop.Read) → H.current shelf.new ≡ Some name.now }
+    ensures cause { HasCause (H.faults shelf.old) (H.faults shelf.new) (IsErrAnd result (λ s. s ≡ Stop.Read)) }
+    ensures well { IsTrue (H.ailing shelf.new) → IsErrAnd result IsFailure }
+{
+    let mut piece = vec![in alloc; 0u8; PIECE]?;
+    start_text(shelf, name)?;
+    read_started_lines(alloc, shelf, piece.as_mut_slice(), reader)
+}
+
+/// Reads what is left of the started text by a reader of its lines.
+fn read_started_lines<H: Shelf, R: LineReader + Drop>(
+    alloc: Global,
+    shelf: &mut H,
+    piece: &mut [u8],
+    reader: R,
+) -> Result<Result<R::Value, TextStop>, Stop>
+    requires started { IsTrue (H.started shelf.old) }
+    requires room { 0 < length piece.old }
+    requires fits { R.fits reader }
+    requires first { R.count reader ≡ 0 }
+    requires completed { CanComplete (R.completes reader) }
+    ensures told { TellsTheSame (H.told shelf.old) (H.told shelf.new) }
+    ensures read { IfOk result (IsReadAs (R.completes reader) (H.left shelf.old)) }
+    ensures stop { IfErr result (StopsText (H.ailing shelf.new)) }
+    ensures current { H.current shelf.new ≡ H.current shelf.old }
+    ensures cause { HasCause (H.faults shelf.old) (H.faults shelf.new) (IsErrAnd result (λ s. s ≡ Stop.Read)) }
+    ensures well { IsTrue (H.ailing shelf.new) → IsErrAnd result IsFailure }
+{
+    let mut pieces = PieceReader::new(alloc, reader);
+    'pieces: loop {
+        let count = read_piece(shelf, piece)?;
+        if count == 0 {
+            break 'pieces;
+        }
+        if let Err(stop) = pieces.feed(alloc, &piece[..count]) {
+            return Ok(Err(stop));
+        }
+    }
+    Ok(pieces.finish())
 }
 
 /// Reads the bytes under a name, up to their end.

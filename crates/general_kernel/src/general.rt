@@ -4,8 +4,8 @@
 //! of such clauses is an autarky that satisfies the rest (Kullmann, "Investigations on Autark Assignments", 2000). So
 //! refutations in turn, each over the clauses without the variables of those before, end at the largest lean part.
 //!
-//! Here each refutation learns clauses from conflicts, by two orders of the variables that take turns; the one that answered
-//! begins in the next round. A refutation is kept with what it uses of it, so that the kernel can be checked without a
+//! What unit propagation alone refutes comes first in each round. Only where it refutes nothing a refutation learns clauses from
+//! conflicts, by two orders of the variables that take turns; the one that answered begins in the next round. A refutation is kept with what it uses of it, so that the kernel can be checked without a
 //! search.
 ghost use Rattle.std.specs.Prelude.{◌≡◌, ◌<◌, ◌^◌, length, IfOk, IsTrue};
 ghost use Rattle.lk_model.specs.Formulas.Lean.{are_positions};
@@ -14,6 +14,7 @@ ghost use Rattle.lk_model.specs.Held.PartialValues.{assignment_by};
 ghost use Rattle.kernel_laws.specs.General.Found.{IsFound};
 ghost use Rattle.general_kernel.specs.Ends.{IsBegun, EndsRounds};
 ghost use Rattle.general_kernel.specs.SetLiterals.{literals_on};
+ghost use Rattle.unit_refutations.specs.Standing.{IsKept, IsWithin};
 
 use crate::blocking::{add_variables, covered};
 use crate::rounds::Rounds;
@@ -24,6 +25,7 @@ use lk_model::{
 };
 use partial_assign::Partial;
 use std::alloc::Global;
+use unit_refutations::{UnitRefutation, Units};
 
 /// Looks for the general kernel in the part of a formula at some positions, which ascend and count from 1, by at most so
 /// many learned clauses. The steps are numbered from the formula's number of clauses plus 1. It ends
@@ -58,7 +60,7 @@ pub(crate) enum End {
     Open(Round),
 }
 
-// Round after round, to the end.
+// The rounds, to the end.
 fn run(alloc: Global, f: &Formula, part: &[u32], rounds: &mut Rounds) -> Result<End, OutOfMemory>
     requires part { IsTrue (are_positions f.now part.now) }
     requires begun { IsBegun f.now rounds.old }
@@ -66,8 +68,38 @@ fn run(alloc: Global, f: &Formula, part: &[u32], rounds: &mut Rounds) -> Result<
     requires most { rounds.old.left < 2 ^ 63 }
     ensures { IfOk result (EndsRounds f.now part.now rounds.old.left rounds.new) }
 {
+    let mut units = Units::new(alloc, f, part)?;
+    round_after_round(alloc, f, part, &mut units, rounds)
+}
+
+// Round after round. What unit propagation alone refutes comes first: it learns nothing, and costs what it uses.
+fn round_after_round(
+    alloc: Global,
+    f: &Formula,
+    part: &[u32],
+    units: &mut Units,
+    rounds: &mut Rounds,
+) -> Result<End, OutOfMemory>
+    requires part { IsTrue (are_positions f.now part.now) }
+    requires begun { IsBegun f.now rounds.old }
+    requires some { 0 < rounds.old.left }
+    requires most { rounds.old.left < 2 ^ 63 }
+    requires kept { IsKept f.now rounds.old.blocked units.old }
+    requires within { IsWithin part.now units.old }
+    ensures { IfOk result (EndsRounds f.now part.now rounds.old.left rounds.new) }
+{
     let mut turns = Turns::new();
     'rounds: loop {
+        let over = Crossed {
+            formula: f,
+            part,
+            blocked: &rounds.blocked,
+        };
+        if let Some(UnitRefutation { round, used }) = units.refute(alloc, &over, rounds.next)? {
+            rounds.push_round(round)?;
+            units.block(f, used.as_slice(), &mut rounds.blocked)?;
+            continue 'rounds;
+        }
         let kept = covered(alloc, f, part, &rounds.blocked)?;
         if kept.len() == part.len() {
             let set = List::new(alloc);
@@ -77,11 +109,6 @@ fn run(alloc: Global, f: &Formula, part: &[u32], rounds: &mut Rounds) -> Result<
             let steps = List::new(alloc);
             return Ok(End::Open(Round { steps }));
         }
-        let over = Crossed {
-            formula: f,
-            part,
-            blocked: &rounds.blocked,
-        };
         match decide_by_turns(alloc, &over, &mut turns, rounds.next, rounds.left)? {
             Decided::Sat(values) => {
                 let set = set_of(alloc, f, part, &values)?;
@@ -90,7 +117,7 @@ fn run(alloc: Global, f: &Formula, part: &[u32], rounds: &mut Rounds) -> Result<
             Decided::Refuted(log) => {
                 let used = log.used(&over)?;
                 rounds.push(log)?;
-                add_variables(f, used.as_slice(), &mut rounds.blocked);
+                units.block(f, used.as_slice(), &mut rounds.blocked)?;
             }
             Decided::Stopped(log) => return Ok(End::Open(log.into_round()?)),
         }

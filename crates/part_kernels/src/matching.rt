@@ -1,7 +1,8 @@
 //! The matching kernel of a formula, by parts.
 //!
-//! Parts share no variable, so each has its kernel by itself. A call for one part makes tables as long as
-//! the formula, so the parts are handed over in groups, at most one for each worker.
+//! Parts share no variable, so each has its kernel by itself. They are handed over in groups, at most one for
+//! each worker, and each group has tables of its own size, so that many workers need little more memory than
+//! one.
 ghost use Rattle.std.specs.Prelude.{◌≡◌, ◌≤◌, List, ℕ, map, Ok, IfOk, IsTrue};
 ghost use Rattle.std.specs.List.{AllByRecursion};
 ghost use Rattle.lk_model.specs.Formulas.Formula.{positions_of};
@@ -13,6 +14,7 @@ use autarky_compose::join_matching;
 use lk_model::{Formula, List, MatchingResult, OutOfMemory};
 use matching_kernel::matching_kernel;
 use par_parts::{Gate, map_halves, part_groups};
+use part_matching::matching_of_part;
 use std::alloc::Global;
 use std::marker::Sync;
 use std::thread::Threads;
@@ -70,12 +72,18 @@ fn kernels<R: Threads + Sync, G: Gate>(
     all_found(alloc, answers)
 }
 
-// The matching kernel of a group.
+// The matching kernel of a group, in tables of the group's size. One with more than half of the clauses is not
+// copied: there is one at most, so tables of the size of the formula are made once.
 fn kernel_of(alloc: Global, f: &Formula, group: &List<u32>) -> Result<MatchingResult, OutOfMemory>
     requires { IsTrue (are_positions f.now group.now) }
     ensures { IfOk result (λ r. IsMatchingResult f.now group.now r) }
 {
-    matching_kernel(alloc, f, group.as_slice())
+    let group = group.as_slice();
+    if group.len() > f.len() as usize / 2 {
+        matching_kernel(alloc, f, group)
+    } else {
+        matching_of_part(alloc, f, group)
+    }
 }
 
 // What all answers found, where none wants memory.

@@ -24,6 +24,11 @@
 //! - `alone N C; CLAUSES; POSITIONS` tells what is found so in the part at these positions, in a formula of its
 //!   own, and whether the same is found in the whole formula.
 //! - `alone-drawn N C` compares the two for each part of so many drawn formulas.
+//! - `matching N; CLAUSES; POSITIONS` tells the matching kernel of the part at these positions, found in a formula
+//!   of its own: the kept positions, own lines as position:variable, rows as variable:own:escape:rank, and
+//!   whether the same is found in the whole formula.
+//! - `matching-end N` tells it of the last six clauses behind a unit clause for each of so many variables.
+//! - `matching-drawn N` compares the two for each part, and for each third position, of so many drawn formulas.
 //! - `decide N C; CLAUSES; POSITIONS` tells whether the clauses at these positions have a model, as found by at
 //!   most C learned clauses: its literals, a refutation, or a round that stopped.
 //! - `squares N C` tells of parts of four clauses over two of N variables each, where N + 1 is a prime, whose
@@ -40,6 +45,7 @@ mod formulas;
 mod general;
 mod halves;
 mod kernels;
+mod matchings;
 mod plain_parts;
 mod squares;
 mod telling;
@@ -50,6 +56,7 @@ use crate::formulas::{tell_chain, tell_drawn, tell_groups, tell_parts, tell_unit
 use crate::general::{tell_general, tell_meeting};
 use crate::halves::tell_halves;
 use crate::kernels::{tell_fours, tell_kernel, tell_workers};
+use crate::matchings::{tell_drawn_matchings, tell_end, tell_matching};
 use crate::squares::tell_squares;
 use std::alloc::Global;
 use std::test::Fail;
@@ -80,6 +87,9 @@ fn tell<R: Threads + Sync>(
         "general" => tell_general(rt, alloc, number, conflicts, others, out),
         "general-workers" => tell_meeting(rt, alloc, number, conflicts, others, out),
         "alone" => tell_alone(alloc, number, conflicts, texts, out),
+        "matching" => tell_matching(alloc, number, texts, out),
+        "matching-end" => tell_end(alloc, number, out),
+        "matching-drawn" => tell_drawn_matchings(alloc, number, out),
         "decide" => tell_decision(alloc, number, conflicts, texts, out),
         "alone-drawn" => tell_drawn_alone(alloc, number, conflicts, out),
         "squares" => tell_squares(rt, alloc, number, conflicts, out),

@@ -10,9 +10,14 @@
 //! - `cuts` reads each beginning of the base, from no byte to all but one. The answer is the lines at which
 //!   they stop, each with the number of beginnings in a row.
 //! - `swaps` reads the base with its lines 1 and 2 exchanged, then with its lines 2 and 3, and so on.
+//! - `long TIMES WORD|TEXT` reads a text in which TIMES times the word stands in the place of `*`.
+//!
+//! Each text is also read in pieces of 1, 2, 3, 7 and 65,536 bytes. If the answer is another one then, it is
+//! `otherwise in pieces of` so many bytes.
 #![tactic(auto)]
 
 mod many;
+mod pieces;
 mod told;
 
 use crate::many::{tell_cuts, tell_swaps};
@@ -38,6 +43,18 @@ fn tell_change(
     tell_text(alloc, text.as_str(), out)
 }
 
+/// Writes the answer to a text in which a word stands many times.
+fn tell_long(alloc: Global, rest: &str, out: &mut String) -> Result<(), AllocError> {
+    let (times, rest) = rest.split_once(" ").unwrap_or((rest, ""));
+    let (word, text) = rest.split_once("|").unwrap_or((rest, ""));
+    let mut words = String::new(alloc);
+    for _ in 0..times.parse::<u32>().unwrap_or(0) {
+        words.push_str(word)?;
+    }
+    let text = text.replace(alloc, "*", words.as_str())?;
+    tell_text(alloc, text.as_str(), out)
+}
+
 /// Writes the answer to a line.
 fn tell(alloc: Global, base: &str, line: &str, out: &mut String) -> Result<(), AllocError> {
     let (word, rest) = line.split_once(" ").unwrap_or((line, ""));
@@ -46,6 +63,7 @@ fn tell(alloc: Global, base: &str, line: &str, out: &mut String) -> Result<(), A
         "change" => tell_change(alloc, base, rest, out),
         "cuts" => tell_cuts(alloc, base, out),
         "swaps" => tell_swaps(alloc, base, out),
+        "long" => tell_long(alloc, rest, out),
         _ => Ok(()),
     }
 }

@@ -1,4 +1,5 @@
 //! What is said of one text.
+use crate::pieces::{SIZES, read_in_pieces};
 use cert_text::{print, read};
 use lk_model::{Document, ReadStop};
 use std::alloc::Global;
@@ -14,6 +15,8 @@ pub(crate) enum Told {
     /// It stops at this line.
     Line(u64),
     OutOfMemory,
+    /// In pieces of so many bytes it is read otherwise than whole.
+    InPieces(usize),
 }
 
 impl fmt::Display for Told {
@@ -23,6 +26,7 @@ impl fmt::Display for Told {
             Told::Otherwise => write!(f, "printed otherwise"),
             Told::Line(line) => write!(f, "line {line}"),
             Told::OutOfMemory => write!(f, "out of memory"),
+            Told::InPieces(size) => write!(f, "otherwise in pieces of {size}"),
         }
     }
 }
@@ -41,11 +45,23 @@ fn told_of_document(alloc: Global, document: &Document, text: &[u8]) -> Told {
     }
 }
 
-/// What is said of a text.
-pub(crate) fn told_of(alloc: Global, text: &[u8]) -> Told {
-    match read(alloc, text) {
+/// What is said of a text that was read.
+fn told_of_read(alloc: Global, read: Result<Document, ReadStop>, text: &[u8]) -> Told {
+    match read {
         Ok(document) => told_of_document(alloc, &document, text),
         Err(ReadStop::Line(line)) => Told::Line(line),
         Err(ReadStop::OutOfMemory) => Told::OutOfMemory,
     }
+}
+
+/// What is said of a text, if it is the same in pieces of any of the sizes.
+pub(crate) fn told_of(alloc: Global, text: &[u8]) -> Told {
+    let told = told_of_read(alloc, read(alloc, text), text);
+    for size in SIZES {
+        let in_pieces = told_of_read(alloc, read_in_pieces(alloc, text, size), text);
+        if in_pieces != told {
+            return Told::InPieces(size);
+        }
+    }
+    told
 }

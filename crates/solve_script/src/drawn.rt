@@ -1,40 +1,12 @@
 //! Drawn formulas, against a search through all assignments.
 use crate::finding::found;
 use crate::judging::{Kind, judge};
-use lk_model::{Formula, Lit};
+use lk_model::Formula;
 use lk_samples::drawn_formula;
+use plain_judge::{MOST_VARS, has_model};
 use std::alloc::Global;
 use std::test::Fail;
 use std::thread::Threads;
-
-/// Whether a literal is true by an assignment, whose bit v - 1 is the value of the variable v.
-fn is_true(assignment: u32, l: Lit) -> bool {
-    let mut rest = assignment;
-    for _ in 1..l.var() {
-        rest /= 2;
-    }
-    (rest % 2 == 1) == l.positive()
-}
-
-/// Whether an assignment satisfies each clause.
-fn satisfies(f: &Formula, assignment: u32) -> bool {
-    for p in 1..f.len() + 1 {
-        if !f.clause(p).iter().any(|l| is_true(assignment, *l)) {
-            return false;
-        }
-    }
-    true
-}
-
-/// Whether one of the assignments of 12 variables satisfies each clause.
-fn has_model(f: &Formula) -> bool {
-    for assignment in 0..4096 {
-        if satisfies(f, assignment) {
-            return true;
-        }
-    }
-    false
-}
 
 /// Whether a formula has a model, if its answer by so many workers is right and that of the search.
 fn answered<R: Threads + Sync>(
@@ -63,7 +35,7 @@ pub(crate) fn tell_drawn<R: Threads + Sync>(
     count: u32,
     out: &mut String,
 ) -> Result<(), Fail> {
-    if n == 0 || n > 12 {
+    if n == 0 || n > MOST_VARS {
         return Err(Fail::from("no variable, or too many"));
     }
     let mut models = 0u32;

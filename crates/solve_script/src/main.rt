@@ -19,7 +19,6 @@
 //!   whether all answers are right and those of a search through all assignments.
 #![tactic(auto)]
 
-mod chains;
 mod drawn;
 mod finding;
 mod gate;

@@ -1,8 +1,8 @@
 use Rattle.std.proofs.Common.{◌∙◌, [], refl, take, arith, length-take}
 use Rattle.std.proofs.lemmas.Result.{err_from_is_err_and}
 use Rattle.std.proofs.KnownBytes.{Consumes-trans}
-use Rattle.command_inputs.proofs.Streams.{Tells-then}
-use Rattle.command_inputs.proofs.EditReads.{fewer, nothing_taken, edits_at_end, stops_at_end, stops_in_midst}
+use Rattle.command_inputs.proofs.Streams.{Tells-then, nothing_taken}
+use Rattle.command_inputs.proofs.EditReads.{fewer, edits_at_end, stops_at_end, stops_in_midst}
 use Rattle.command_inputs.proofs.input.read_started_edits.Goals as goal
 
 pub returns-in_err-finish-clause-stop : goal.returns-in_err-finish-clause-stop

@@ -1,9 +1,9 @@
-//! The steps of rounds, gone through one by one.
+//! The chains of steps, gone through turn by turn.
 use lk_model::{Formula, Lit, Step, Turn};
 use std::alloc::{AllocError, Global};
 
 /// The clause at a position, where there is one.
-pub(crate) fn clause_at(f: &Formula, p: u32) -> &[Lit] {
+pub fn clause_at(f: &Formula, p: u32) -> &[Lit] {
     if p == 0 || p > f.len() {
         return &[];
     }
@@ -11,7 +11,7 @@ pub(crate) fn clause_at(f: &Formula, p: u32) -> &[Lit] {
 }
 
 /// Whether each literal of the first clause stands in the second.
-pub(crate) fn is_within(clause: &[Lit], other: &[Lit]) -> bool {
+pub fn is_within(clause: &[Lit], other: &[Lit]) -> bool {
     clause.iter().all(|l| other.contains(l))
 }
 
@@ -110,7 +110,7 @@ fn is_stated(
 }
 
 /// Whether each step states the clause of its chain, and they are numbered from the number of clauses plus 1.
-pub(crate) fn are_stated(alloc: Global, f: &Formula, steps: &[Step]) -> Result<bool, AllocError> {
+pub fn are_stated(alloc: Global, f: &Formula, steps: &[Step]) -> Result<bool, AllocError> {
     let mut number = u64::from(f.len());
     for i in 0..steps.len() {
         number = number.saturating_add(1);
@@ -122,27 +122,6 @@ pub(crate) fn are_stated(alloc: Global, f: &Formula, steps: &[Step]) -> Result<b
 }
 
 /// Whether the chain of a step names a number.
-fn is_named(step: &Step, k: u64) -> bool {
+pub fn is_named(step: &Step, k: u64) -> bool {
     step.first == k || step.turns.as_slice().iter().any(|turn| turn.with == k)
-}
-
-/// Whether the chain of each of these steps names positions of one part alone, besides steps.
-pub(crate) fn lie_in(f: &Formula, part: &[u32], steps: &[Step]) -> bool {
-    for p in 1..f.len() + 1 {
-        if !part.contains(&p) && steps.iter().any(|step| is_named(step, u64::from(p))) {
-            return false;
-        }
-    }
-    true
-}
-
-/// Whether each step but the last one is named by a later one. (The last of those that are not would be needless.)
-pub(crate) fn are_named(steps: &[Step]) -> bool {
-    for i in 1..steps.len() {
-        let number = steps[i - 1].number;
-        if !steps[i..].iter().any(|later| is_named(later, number)) {
-            return false;
-        }
-    }
-    true
 }

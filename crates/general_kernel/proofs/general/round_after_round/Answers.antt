@@ -1,0 +1,139 @@
+use Rattle.std.proofs.Common.{◌≡◌, ◌∙◌, ℕ, ◌||◌, true, List, [], ◌∷◌, ◌++◌, Bool, length, refl, sym, ap, subst, arith}
+use Rattle.lk_model.specs.Formulas.Formula.{variable_occurs}
+use Rattle.lk_model.specs.Held.VariableSets.{is_in}
+use Rattle.lk_model.specs.declared.document.Step.{Step}
+use Rattle.unit_refutations.specs.Standing.{are_between}
+use Rattle.unit_refutations.specs.declared.units.UnitRefutation.{UnitRefutation}
+use Rattle.general_kernel.proofs.States.{begins}
+use Rattle.general_kernel.proofs.Turns.{all_covered, model_ends, used_rise, turns, none_left, stops}
+use Rattle.general_kernel.proofs.UnitRounds.{answered, unit_between, rise_between, unit_turns, within_same}
+use Rattle.general_kernel.proofs.general.round_after_round.Goals as goal
+
+pub rounds-init : goal.rounds-init
+rounds-init c =
+    let s = c.args.rounds.now in
+    let b = c.requires.begun in
+    record {
+      at = begins c.args.f.now c.args.part.now s.left s b.form b.limits b.first b.whole b.blocked b.next refl;
+      kept = c.requires.kept;
+      within = c.requires.within;
+    }
+
+pub block-requires-clause-positions : goal.block-requires-clause-positions
+block-requires-clause-positions c =
+    let r : UnitRefutation = c.in-Some.field-0 in
+    subst (λ (ps : List ℕ). are_between c.args.f.now ps ≡ true) (sym c.as_slice.ensures)
+    (unit_between _ _ r (record { part = c.requires.part; blocked = c.rounds.invariant.at.size }) (answered _ _ _ r c.in_ok-round.ensures.answer c.in-Some.is))
+
+pub rounds-smaller-in-Some : goal.rounds-smaller-in-Some
+rounds-smaller-in-Some c =
+    let e = c.in_ok-push_round.ensures in
+    let b = c.in_ok-block.ensures in
+    let r : UnitRefutation = c.in-Some.field-0 in
+    let turned = unit_turns c.args.f.now c.args.part.now c.args.rounds.now.left c.rounds.rounds _ r
+    (record { over = _; refuted = answered _ _ _ r c.in_ok-round.ensures.answer c.in-Some.is; formula = refl; positions = refl; blocked = refl }) c.requires.most c.requires.part c.rounds.invariant.at
+    (record {
+      first = e.first;
+      whole = e.whole;
+      next = e.next;
+      left = e.left;
+      size = b.size ∙ ap (λ (bs : List Bool). length bs) e.blocked;
+      blocked = λ v. b.vars v ∙ ap (λ (bs : List Bool). is_in bs v || variable_occurs c.args.f.now c.as_slice.result.now v) e.blocked
+          ∙ ap (λ (ps : List ℕ). is_in c.rounds.rounds.blocked v || variable_occurs c.args.f.now ps v) c.as_slice.ensures;
+    }) in
+    turned.1
+
+pub rounds-preserved-in-Some : goal.rounds-preserved-in-Some
+rounds-preserved-in-Some c =
+    let e = c.in_ok-push_round.ensures in
+    let b = c.in_ok-block.ensures in
+    let r : UnitRefutation = c.in-Some.field-0 in
+    let turned = unit_turns c.args.f.now c.args.part.now c.args.rounds.now.left c.rounds.rounds _ r
+    (record { over = _; refuted = answered _ _ _ r c.in_ok-round.ensures.answer c.in-Some.is; formula = refl; positions = refl; blocked = refl }) c.requires.most c.requires.part c.rounds.invariant.at
+    (record {
+      first = e.first;
+      whole = e.whole;
+      next = e.next;
+      left = e.left;
+      size = b.size ∙ ap (λ (bs : List Bool). length bs) e.blocked;
+      blocked = λ v. b.vars v ∙ ap (λ (bs : List Bool). is_in bs v || variable_occurs c.args.f.now c.as_slice.result.now v) e.blocked
+          ∙ ap (λ (ps : List ℕ). is_in c.rounds.rounds.blocked v || variable_occurs c.args.f.now ps v) c.as_slice.ensures;
+    }) in
+    record {
+      at = turned.0;
+      kept = b.kept;
+      within = within_same c.args.part.now c.refute.new.self c.block.new.self b.inside c.in_ok-round.ensures.within;
+    }
+
+pub returns-then-len-part : goal.returns-then-len-part
+returns-then-len-part c =
+    let kept = ap (λ (ps : List ℕ). length ps) c.in_ok-kept.ensures in (
+      c.rounds.invariant.at.logs,
+      all_covered c.args.f.now c.args.part.now c.args.rounds.now.left c.rounds.rounds _ c.requires.part c.rounds.invariant.at c.in_ok-kept.ensures c.new-set.ensures refl
+          (omega (arith, kept, c.len.ensures, c.if-len-part.true)),
+    )
+
+pub returns-then-rounds-eq0 : goal.returns-then-rounds-eq0
+returns-then-rounds-eq0 c =
+    let kept = ap (λ (ps : List ℕ). length ps) c.in_ok-kept.ensures in
+    none_left c.args.f.now c.args.part.now c.args.rounds.now.left c.rounds.rounds _ c.new-steps.result c.requires.some c.rounds.invariant.at
+    c.new-steps.ensures refl c.if-rounds-eq0.true (λ e. c.if-len-part.false (omega (arith, kept, c.len.ensures, e)))
+
+pub returns-in-Sat : goal.returns-in-Sat
+returns-in-Sat c = (
+  c.rounds.invariant.at.logs,
+  model_ends c.args.f.now c.args.part.now c.args.rounds.now.left c.rounds.rounds c.in_ok-values.field-0 c.in-Sat.values _
+      (record { over = _; decided = c.in_ok-values.ensures; formula = refl; positions = refl; blocked = refl }) c.in-Sat.is c.requires.part c.rounds.invariant.at
+      c.in_ok-kept.ensures c.in_ok-set-in-Sat.ensures refl,
+)
+
+pub block-requires-in-Refuted-clause-positions : goal.block-requires-in-Refuted-clause-positions
+block-requires-in-Refuted-clause-positions c =
+    rise_between c.args.f.now c.as_slice-in-Refuted.result.now
+    (used_rise c.args.f.now (record { steps = c.in-Refuted.log.steps }) c.as_slice-in-Refuted.result.now (c.as_slice-in-Refuted.ensures ∙ c.in_ok-used-in-Refuted.ensures))
+
+pub returns-in-Stopped : goal.returns-in-Stopped
+returns-in-Stopped c =
+    let kept = ap (λ (ps : List ℕ). length ps) c.in_ok-kept.ensures in
+    stops c.args.f.now c.args.part.now c.args.rounds.now.left c.rounds.rounds _ c.in_ok-values.field-0 c.in-Stopped.log
+    (record { over = _; decided = c.in_ok-values.ensures; formula = refl; positions = refl; blocked = refl }) c.in-Stopped.is c.requires.part c.requires.some c.requires.most c.rounds.invariant.at
+    (ap (λ (us : List Step). c.rounds.rounds.whole ++ record { steps = us } ∷ []) c.in_ok-into_round-in-Stopped.ensures.steps)
+    (λ e. c.if-len-part.false (omega (arith, kept, c.len.ensures, e)))
+
+pub rounds-smaller : goal.rounds-smaller
+rounds-smaller c =
+    let e = c.in_ok-push-in-Refuted.ensures in
+    let b = c.in_ok-block-in-Refuted.ensures in
+    let turned = turns c.args.f.now c.args.part.now c.args.rounds.now.left c.rounds.rounds _ c.in_ok-values.field-0 c.in-Refuted.log
+    (record { over = _; decided = c.in_ok-values.ensures; formula = refl; positions = refl; blocked = refl }) c.in-Refuted.is c.requires.most c.requires.part c.rounds.invariant.at
+    (record {
+      first = e.first;
+      whole = e.whole;
+      next = e.next;
+      left = e.left;
+      size = b.size ∙ ap (λ (bs : List Bool). length bs) e.blocked;
+      blocked = λ v. b.vars v ∙ ap (λ (bs : List Bool). is_in bs v || variable_occurs c.args.f.now c.as_slice-in-Refuted.result.now v) e.blocked
+          ∙ ap (λ (ps : List ℕ). is_in c.rounds.rounds.blocked v || variable_occurs c.args.f.now ps v) (c.as_slice-in-Refuted.ensures ∙ c.in_ok-used-in-Refuted.ensures);
+    }) in
+    turned.1
+
+pub rounds-preserved : goal.rounds-preserved
+rounds-preserved c =
+    let e = c.in_ok-push-in-Refuted.ensures in
+    let b = c.in_ok-block-in-Refuted.ensures in
+    let turned = turns c.args.f.now c.args.part.now c.args.rounds.now.left c.rounds.rounds _ c.in_ok-values.field-0 c.in-Refuted.log
+    (record { over = _; decided = c.in_ok-values.ensures; formula = refl; positions = refl; blocked = refl }) c.in-Refuted.is c.requires.most c.requires.part c.rounds.invariant.at
+    (record {
+      first = e.first;
+      whole = e.whole;
+      next = e.next;
+      left = e.left;
+      size = b.size ∙ ap (λ (bs : List Bool). length bs) e.blocked;
+      blocked = λ v. b.vars v ∙ ap (λ (bs : List Bool). is_in bs v || variable_occurs c.args.f.now c.as_slice-in-Refuted.result.now v) e.blocked
+          ∙ ap (λ (ps : List ℕ). is_in c.rounds.rounds.blocked v || variable_occurs c.args.f.now ps v) (c.as_slice-in-Refuted.ensures ∙ c.in_ok-used-in-Refuted.ensures);
+    }) in
+    record {
+      at = turned.0;
+      kept = b.kept;
+      within = within_same c.args.part.now c.refute.new.self c.block-in-Refuted.new.self b.inside c.in_ok-round.ensures.within;
+    }

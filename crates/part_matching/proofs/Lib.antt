@@ -1,0 +1,2 @@
+pub mod CopiedMatchings
+pub mod RenamedMatchings

@@ -1,0 +1,5 @@
+pub mod Agendas
+pub mod Trails
+pub mod Looks
+pub mod Chains
+pub mod Standing

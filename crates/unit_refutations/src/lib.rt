@@ -1,0 +1,11 @@
+//! Refutations by unit propagation alone, one after another, at the cost of what changes between them.
+#![tactic(auto)]
+
+mod agenda;
+mod chain;
+mod looking;
+mod pending;
+mod trail;
+mod units;
+
+pub use units::{UnitRefutation, Units};
