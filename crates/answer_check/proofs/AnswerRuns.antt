@@ -21,8 +21,8 @@ use Rattle.line_text.proofs.ListForms.{literals_back, literals_rising}
 use Rattle.round_text.specs.RoundLines.{rounds_next}
 use Rattle.round_text.specs.declared.read_rounds.RoundsPart.{RoundsPart}
 use Rattle.round_text.proofs.CleanRounds.{clean_round}
-use Rattle.core_text.proofs.OneRounds.{numbered_from_first, over_some}
-use Rattle.round_text.proofs.RoundRuns.{rounds_run, shut_at, whole_run}
+use Rattle.core_text.proofs.OneRounds.{over_some}
+use Rattle.round_text.proofs.RoundRuns.{rounds_run, shut_at, whole_run, numbered_from_first}
 use Rattle.core_text.specs.CoreDrafts as core
 use Rattle.core_text.specs.CoreDrafts.{size_line, is_core_of, core_drafts}
 use Rattle.core_text.specs.declared.draft.CoreDraft.{CoreDraft}

@@ -3,6 +3,7 @@ use Rattle.std.proofs.Common.{◌≡◌, ◌↔◌, ℕ, zero, suc, ◌+◌, ◌
 use Rattle.std.specs.List.{range_with_len}
 use Rattle.std.proofs.lemmas.Bool.{and_from, eqb-true, eq-eqb, lt-ltb, le-leb}
 use Rattle.std.proofs.lemmas.List.{length-map}
+use Rattle.std.proofs.lemmas.List.FromFn.{length-range_with_len as range_size}
 use Rattle.lk_model.specs.Lists.{rises_within}
 use Rattle.lk_model.specs.Formulas.Literal.{variable}
 use Rattle.lk_model.specs.Formulas.Formula.{variables_to}
@@ -55,10 +56,6 @@ counted_range next (n ∷ ns) e =
 range_counted : (next size : ℕ) → counts_from next (range_with_len next size) ≡ true
 range_counted next zero = refl
 range_counted next (suc size) = and_from (next == next) (counts_from (next + 1) (range_with_len (next + 1) size)) (eq-eqb next next refl) (range_counted (next + 1) size)
-
-range_size : (next size : ℕ) → length (range_with_len next size) ≡ size
-range_size next zero = refl
-range_size next (suc size) = ap suc (range_size (next + 1) size)
 
 -- there is a literal on each variable exactly where the variables are those from 1 to n
 pub total_variables : (n : ℕ) (lits : List ℤ) → (is_total n lits ≡ true) ↔ (map variable lits ≡ variables_to n)

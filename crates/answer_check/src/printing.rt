@@ -1,4 +1,4 @@
-//! Printing answers.
+//! Printing answers: the literals of a model, the rounds of a refutation, or the text of a core.
 ghost use Rattle.std.specs.Prelude.{◌≡◌, ◌++◌, ◌∷◌, [], IfOk, OnOk, codes};
 ghost use Rattle.std.specs.List.{flat_map};
 ghost use Rattle.lk_model.specs.Texts.PlainText.{line, literal_words};

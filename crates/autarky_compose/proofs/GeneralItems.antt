@@ -12,9 +12,10 @@ use Rattle.lk_model.proofs.Literals.{same_int, int_self}
 use Rattle.lk_model.proofs.Rising.{bounded}
 use Rattle.kernel_laws.specs.General.GeneralResults.{IsGeneralResult, AreGeneralResults}
 use Rattle.kernel_laws.proofs.Clauses.{mentions_of}
+use Rattle.kernel_laws.proofs.Linear.LinearLean.{among_in as contains_among}
 use Rattle.autarky_compose.specs.JoinedGeneral.{AreJoinable, all_kept, all_set}
 use Rattle.autarky_compose.specs.Tables.{AreDistinct}
-use Rattle.autarky_compose.proofs.Orders.{contains_among, same_item}
+use Rattle.autarky_compose.proofs.Orders.{same_item}
 use Rattle.autarky_compose.proofs.PartCovers.{one_part}
 use Rattle.autarky_compose.proofs.PartItems.{each_item}
 use Rattle.autarky_compose.proofs.Sources.{from_all}

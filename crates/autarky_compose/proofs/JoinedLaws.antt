@@ -11,13 +11,14 @@ use Rattle.lk_model.specs.declared.result.MatchingResult.{MatchingResult}
 use Rattle.lk_model.proofs.Counting.{in_filter, from_filter, among-range}
 use Rattle.lk_model.proofs.Founds.{is_position}
 use Rattle.lk_model.proofs.Keys.{key_found, key_among}
-use Rattle.lk_model.proofs.Rising.{bounded, range_rises}
+use Rattle.lk_model.proofs.Rising.{bounded, range_rises, filter_rises}
 use Rattle.lk_model.proofs.Variables.{occurs, position_with}
 use Rattle.kernel_laws.specs.Matching.MatchingResults.{IsMatchingResult, IsRow, removed_of}
 use Rattle.kernel_laws.proofs.Occurrences.{occurs_more}
+use Rattle.kernel_laws.proofs.Linear.LinearLean.{among_in as contains_among}
 use Rattle.par_parts.specs.Groups.{IsDisjointCover}
 use Rattle.autarky_compose.specs.JoinedMatching.{AreMatchingResults, AreJoined, JoinedMatchingLaw}
-use Rattle.autarky_compose.proofs.Orders.{filter_rises, same_rising, among_contains, contains_among}
+use Rattle.autarky_compose.proofs.Orders.{same_rising, among_contains}
 use Rattle.autarky_compose.proofs.PartCovers.{parts_cover}
 use Rattle.autarky_compose.proofs.Sources.{nothing, one, into_all, result_with, KeptFrom, kept_from, OwnFrom, own_from, RowFrom, row_from}
 
@@ -81,7 +82,7 @@ removed : (F : Cnf) (groups : List (List ℕ)) (found : List MatchingResult) (t 
 removed F groups found t cover all j =
     let m = length F.clauses in
     same_rising 0 m 0 m (map (λ (o : Own). o.pos) t.own) (removed_of (positions_of F) t.kept) j.own.rising
-    (filter_rises (λ q. not (among t.kept q)) 0 m (positions_of F) (range_rises 0 m 1 m (omega arith) (omega arith)))
+    (filter_rises 0 m (λ q. not (among t.kept q)) (positions_of F) (range_rises 0 m 1 m (omega arith) (omega arith)))
     (λ p e. own_removed F groups found t p cover all j e) (λ p e. removed_own F groups found t p cover all j e)
 
 -- ROWS
@@ -112,7 +113,7 @@ variables : (F : Cnf) (groups : List (List ℕ)) (found : List MatchingResult) (
     → AreJoined (length F.clauses) found t → map (λ (w : MatchRow). w.var) t.rows ≡ variables_at F t.kept
 variables F groups found t all j =
     same_rising 0 (2 ^ 32) 0 F.vars (map (λ (w : MatchRow). w.var) t.rows) (variables_at F t.kept) j.rows.rising
-    (filter_rises (variable_occurs F t.kept) 0 F.vars (variables_to F.vars) (range_rises 0 F.vars 1 F.vars (omega arith) (omega arith)))
+    (filter_rises 0 F.vars (variable_occurs F t.kept) (variables_to F.vars) (range_rises 0 F.vars 1 F.vars (omega arith) (omega arith)))
     (λ v e. row_variable F groups found t v all j e) (λ v e. variable_row F groups found t v all j e)
 
 row : (F : Cnf) (groups : List (List ℕ)) (found : List MatchingResult) (t : MatchingResult) (w : MatchRow) → AreJoined (length F.clauses) found t

@@ -1,31 +1,14 @@
 -- Lists that rise.
-use Rattle.std.proofs.Common.{◌≡◌, ℕ, zero, suc, ◌<◌, ◌≤◌, ◌∙◌, Bool, true, false, cond, List, [], ◌∷◌, filter, map, refl, sym, ap, subst, arith, inl, inr, Contains}
+use Rattle.std.proofs.Common.{◌≡◌, ℕ, zero, suc, ◌<◌, ◌∙◌, true, false, List, [], ◌∷◌, map, refl, sym, ap, subst, arith, inl, inr, Contains}
 use Rattle.std.specs.Prelude.{◌==◌}
-use Rattle.std.proofs.lemmas.Bool.{both_ways, lt-ltb, le-leb, eqb-true}
+use Rattle.std.proofs.lemmas.Bool.{both_ways, eqb-true}
 use Rattle.std.proofs.lemmas.List.{map-id}
 use Rattle.lk_model.specs.Lists.{among, rises_within}
 use Rattle.lk_model.proofs.Booleans.{or_true}
 use Rattle.lk_model.proofs.Lists.{among_here, among_later}
-use Rattle.lk_model.proofs.Rising.{rises, bounded, rises_from}
+use Rattle.lk_model.proofs.Rising.{rises, bounded}
 use Rattle.lk_model.proofs.Counting.{Differ, more}
 use Rattle.lk_model.proofs.Keys.{key_found, key_among}
-
--- what is left of a list that rises does too
-pub filter_rises : (g : ℕ → Bool) (low high : ℕ) (xs : List ℕ) → rises_within low high xs ≡ true → rises_within low high (filter g xs) ≡ true
-filter_rises g low high [] h = refl
-filter_rises g low high (x ∷ xs) h = let r = rises low high x xs h in at_test (g x) r.above r.within (filter_rises g x high xs r.more)
-  where
-    at_test : (b : Bool) → low < x → x ≤ high → rises_within x high (filter g xs) ≡ true → rises_within low high (cond b (x ∷ filter g xs) (filter g xs)) ≡ true
-    at_test true above within later = rw (lt-ltb low x above, le-leb x high within, later) refl
-    at_test false above within later = rises_from low x high (filter g xs) (omega (arith, above)) later
-
--- what rises to a bound rises to a greater one
-pub rises_to : (low high top : ℕ) (xs : List ℕ) → high ≤ top → rises_within low high xs ≡ true → rises_within low top xs ≡ true
-rises_to low high top [] le h = refl
-rises_to low high top (x ∷ xs) le h =
-    let r = rises low high x xs h in
-    let within = r.within in
-    rw (lt-ltb low x r.above, le-leb x top (omega (arith, within, le)), rises_to x high top xs le r.more) refl
 
 -- a number past the first one is a later one
 past_first : (n k : ℕ) (ns : List ℕ) → n < k → among (n ∷ ns) k ≡ true → among ns k ≡ true
@@ -65,9 +48,6 @@ pub among_contains : (ns : List ℕ) (n : ℕ) → among ns n ≡ true → Conta
 among_contains ns n e =
     let w = key_found (λ (k : ℕ). k) ns n (subst (λ (ms : List ℕ). among ms n ≡ true) (sym (map-id ns)) e) in
     subst (λ (k : ℕ). Contains ns k) w.at w.there
-
-pub contains_among : (ns : List ℕ) (n : ℕ) → Contains ns n → among ns n ≡ true
-contains_among ns n c = subst (λ (ms : List ℕ). among ms n ≡ true) (map-id ns) (key_among (λ (k : ℕ). k) ns n c)
 
 -- where no key stands twice, an item is given by its key
 pub same_item : {X : Type 0} (key : X → ℕ) (xs : List X) (x y : X) → Differ (map key xs) → Contains xs x → Contains xs y → key x ≡ key y → x ≡ y

@@ -8,6 +8,7 @@ use Rattle.lk_model.specs.Formulas.Formula.{Cnf, variable_occurs}
 use Rattle.lk_model.specs.Formulas.Lean.{are_positions}
 use Rattle.lk_model.specs.Formulas.Parts.{IsPart, AreParts, least_of}
 use Rattle.lk_model.proofs.Counting.{Differ-rises, same_place}
+use Rattle.lk_model.proofs.Rising.{part_rises as rising}
 use Rattle.kernel_laws.proofs.General.PartLaws.{differ}
 use Rattle.par_parts.specs.Groups.{IsDisjointCover}
 
@@ -21,10 +22,6 @@ part_at : (F : Cnf) (parts : List (List ℕ)) (k : ℕ) → AllByRecursion (IsPa
 part_at F [] k all lt = absurd (omega (arith, lt))
 part_at F (ps ∷ parts) zero all lt = all.0
 part_at F (ps ∷ parts) (suc k) all lt = part_at F parts k all.1 (omega (arith, lt))
-
-rising : (F : Cnf) (part : List ℕ) → IsPart F part → are_positions F part ≡ true
-rising F [] h = absurd h
-rising F (least ∷ more) h = h.0
 
 all_rising : (F : Cnf) (parts : List (List ℕ)) → AllByRecursion (IsPart F) parts → AllByRecursion (λ (part : List ℕ). are_positions F part ≡ true) parts
 all_rising F [] all = tt

@@ -100,7 +100,3 @@ rows_distinct m found h w u cw cu e =
     same_item (λ (x : MatchRow). x.var) (get_or found s.place nothing).rows w u
     (subst (λ (vs : List ℕ). Differ vs) (sym s.result.variables) (Differ-filter (variable_occurs F kept) (variables_to F.vars) (Differ-range 1 F.vars)))
     s.there (subst (λ (n : ℕ). Contains (get_or found n nothing).rows u) same r.there) e
-
--- each number is one item
-pub kept_distinct : (m : ℕ) (found : List MatchingResult) → AreDistinct (λ (p : ℕ). p) (all_kept found)
-kept_distinct m found p q cp cq e = e

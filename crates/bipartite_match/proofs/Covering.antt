@@ -1,5 +1,5 @@
 -- A matching with a cover is maximum.
-use Rattle.std.proofs.Common.{◌≡◌, ◌≢◌, ℕ, ◌+◌, ◌-◌, ◌<◌, ◌≤◌, Bool, true, false, cond, not, ◌==◌, List, [], ◌∷◌, zero, suc, length, get_or, refl, sym, ◌∙◌, ap, subst, arith, ◌⊎◌, inl, inr, filter, count_by, IsTrue}
+use Rattle.std.proofs.Common.{◌≡◌, ◌≢◌, ℕ, ◌+◌, ◌-◌, ◌<◌, ◌≤◌, Bool, true, false, cond, not, ◌==◌, List, [], ◌∷◌, zero, suc, length, get_or, refl, sym, ◌∙◌, ap, subst, arith, ◌⊎◌, inl, inr, IsTrue}
 use Rattle.std.specs.List.{range_with_len}
 use Rattle.std.proofs.lemmas.Bool.{eqb-true, eq-eqb, both_ways}
 use Rattle.lk_model.specs.Lists.{among, rises_within}
@@ -7,42 +7,15 @@ use Rattle.lk_model.proofs.Lists.{place_of}
 use Rattle.lk_model.proofs.Rising.{rises, rising_bounds}
 use Rattle.lk_model.specs.Formulas.Formula.{Cnf, is_formula}
 use Rattle.lk_model.specs.Formulas.Lean.{are_positions}
-use Rattle.lk_model.proofs.Counting.{Differ-filter, Differ-range, no_more, in_filter, from_filter, among-range}
+use Rattle.lk_model.proofs.Counting.{Differ-filter, Differ-range, no_more}
 use Rattle.lk_model.proofs.Variables.{variable_bound}
 use Rattle.bipartite_match.specs.declared.matching.Matching.{Matching}
 use Rattle.bipartite_match.specs.Matchings.{IsMatching, pair_count}
 use Rattle.bipartite_match.specs.Covers.{IsCover, CoverLaw}
-use Rattle.bipartite_match.proofs.Numbers.{within, rising_once, count_by_index}
+use Rattle.bipartite_match.proofs.Numbers.{within, rising_once}
 use Rattle.bipartite_match.proofs.Owning.{index_within, some_position}
 use Rattle.bipartite_match.proofs.Koenig.{maximum_has_cover}
-
--- the indices with a number other than 0
-used : List ℕ → List ℕ
-used xs = filter (λ i. not (get_or xs i 0 == 0)) (range_with_len 0 (length xs))
-
-is_used : (x : ℕ) → x ≢ 0 → not (x == 0) ≡ true
-is_used x n = at_test (x == 0) refl
-  where
-    at_test : (b : Bool) → (x == 0) ≡ b → not b ≡ true
-    at_test true e = absurd (n (eqb-true x 0 e))
-    at_test false e = refl
-
-not_zero : (x : ℕ) → not (x == 0) ≡ true → x ≢ 0
-not_zero x e s = both_ways (not (x == 0)) (ap not (eq-eqb x 0 s)) e
-
-in_used : (xs : List ℕ) (i : ℕ) → get_or xs i 0 ≢ 0 → among (used xs) i ≡ true
-unfolding used
-in_used xs i n = let w = within xs i n in
-    in_filter (λ i. not (get_or xs i 0 == 0)) (range_with_len 0 (length xs)) i (is_used (get_or xs i 0) n)
-    (among-range 0 (length xs) i (omega arith) (omega (arith, w)))
-
-from_used : (xs : List ℕ) (i : ℕ) → among (used xs) i ≡ true → get_or xs i 0 ≢ 0
-unfolding used
-from_used xs i m = not_zero (get_or xs i 0) (from_filter (λ i. not (get_or xs i 0 == 0)) (range_with_len 0 (length xs)) i m).0
-
-length-used : (xs : List ℕ) → length (used xs) ≡ count_by (λ v. not (v == 0)) xs
-unfolding used
-length-used xs = count_by_index (λ v. not (v == 0)) (λ i. not (get_or xs i 0 == 0)) 0 xs (λ i h. ap (λ k. not (get_or xs k 0 == 0)) (omega arith))
+use Rattle.bipartite_match.proofs.Used.{used, in_used, from_used, length-used}
 
 -- the index of a position
 index_in : List ℕ → ℕ → ℕ

@@ -8,7 +8,6 @@ pub mod Begins
 pub mod Maximal
 pub mod Rounds
 pub mod Reaching
-pub mod PartPlaces
 pub mod Unmatched
 pub mod Owning
 pub mod Restoring
@@ -20,3 +19,4 @@ pub mod Roots
 pub mod Sought
 pub mod Koenig
 pub mod Covering
+pub mod Used

@@ -1,18 +1,16 @@
 -- How far the variables are set, in their order.
-use Rattle.std.proofs.Common.{◌≡◌, ◌≢◌, ◌∙◌, ℕ, zero, suc, ◌+◌, ◌<◌, ◌≤◌, ◌==◌, ◌++◌, ◌∷◌, [], Bool, true, not, ◌&&◌, List, ℤ, Option, Some, None, is_some, option_map, length, length-append, take, take_all, get_or, nat_le, refl, sym, ap, subst, arith, inl, inr}
+use Rattle.std.proofs.Common.{◌≡◌, ◌≢◌, ◌∙◌, ℕ, zero, suc, ◌+◌, ◌<◌, ◌≤◌, ◌==◌, ◌++◌, ◌∷◌, [], true, not, ◌&&◌, List, ℤ, Option, Some, None, is_some, option_map, length, length-append, take, get_or, nat_le, refl, sym, ap, subst, arith, inl, inr}
 use Rattle.std.specs.Prelude.{nat_lt}
-use Rattle.std.specs.List.{list_all}
 use Rattle.std.proofs.lemmas.Bool.{cases_Bool, eqb-true, eq-eqb, and_from, leb-true, ltb-true, le-leb, lt-ltb}
 use Rattle.std.proofs.lemmas.List.{get_or_append_left, get_or-take, length-take-le}
-use Rattle.std.proofs.lemmas.List.Folds.{list_all_more}
 use Rattle.std.proofs.lemmas.List.Sorted.{list_any-IsPermutation}
 use Rattle.lk_model.specs.Lists.{among, up_to}
 use Rattle.lk_model.specs.Formulas.Literal.{variable, contains, mentions, is_positive}
 use Rattle.lk_model.specs.Formulas.Formula.{is_formula, clause_at}
 use Rattle.lk_model.specs.Held.VariableSets.{is_in}
 use Rattle.lk_model.specs.declared.crossed.Crossed.{Crossed}
-use Rattle.lk_model.proofs.Booleans.{and_true, or_left, or_right}
-use Rattle.lk_model.proofs.ListTests.{passing, passes_among}
+use Rattle.lk_model.proofs.Booleans.{and_true}
+use Rattle.lk_model.proofs.ListTests.{passing, passes_among, each_number as all_among}
 use Rattle.lk_model.proofs.Counting.{in_filter, from_filter, among-range}
 use Rattle.lk_model.proofs.Crossings.{contains_crossed}
 use Rattle.lk_model.proofs.Variables.{literal_passing, variable_bound}
@@ -26,7 +24,7 @@ use Rattle.learning_laws.specs.ModelLaw.{clause_over}
 use Rattle.learning_laws.proofs.TrailLaws.{trail_law}
 use Rattle.learning_laws.proofs.Tests.{never_both}
 use Rattle.cdcl_core.specs.declared.order.Order.{Order}
-use Rattle.cdcl_core.specs.Orders.{may_decide, AreVariablesOver, are_within, are_set, IsSetTo, place_at, IsPlacedAt}
+use Rattle.cdcl_core.specs.Orders.{may_decide, AreVariablesOver, are_set, IsSetTo, place_at, IsPlacedAt}
 
 -- a variable that is set stays so on a longer trail
 set_longer : (trail more : List Entry) (v : ℕ) → is_some (assignment_along trail v) ≡ true → is_some (assignment_along (trail ++ more) v) ≡ true
@@ -57,28 +55,6 @@ placed_first trail order none first closed = record {
   levels = ap (λ (xs : List ℕ). length xs) closed ∙ sym (ap present_level none);
   below = λ level lt. (let zero_level : present_level trail ≡ 0 = ap present_level none in absurd (omega (arith, lt, zero_level)));
 }
-
--- a variable that is set is passed
-pub placed_next : (trail : List Entry) (order order' : Order) (v : ℕ) → IsPlacedAt trail order → order.place < length order.vars.items
-    → v ≡ get_or order.vars.items order.place v → is_some (assignment_along trail v) ≡ true
-    → order'.vars ≡ order.vars → order'.place ≡ order.place + 1 → order'.opened ≡ order.opened → IsPlacedAt trail order'
-placed_next trail order order' v h lt read s vars place opened = record {
-  here = record {
-    within = (let same : length order'.vars.items ≡ length order.vars.items = ap (λ vs. length vs.items) vars in omega (arith, place, lt, same));
-    set = ap (λ vs. are_set trail (take order'.place vs.items)) vars ∙ ap (λ (n : ℕ). are_set trail (take n order.vars.items)) place
-        ∙ list_all_more (λ v. is_some (assignment_along trail v)) order.vars.items order.place v lt
-        ∙ and_from (are_set trail (take order.place order.vars.items)) (is_some (assignment_along trail (get_or order.vars.items order.place v))) h.here.set
-        (subst (λ (u : ℕ). is_some (assignment_along trail u) ≡ true) read s);
-  };
-  levels = ap (λ vs. length vs.items) opened ∙ h.levels;
-  below = λ level below. subst (λ os. IsSetTo (up_to_level level trail) order'.vars.items (place_at os.items level)) (sym opened)
-      (subst (λ vs. IsSetTo (up_to_level level trail) vs.items (place_at order.opened.items level)) (sym vars) (h.below level below));
-}
-
--- where the place is at the end all are set
-pub placed_last : (trail : List Entry) (order : Order) → IsPlacedAt trail order → length order.vars.items ≤ order.place → are_set trail order.vars.items ≡ true
-placed_last trail order h past =
-    subst (λ (vs : List ℕ). are_set trail vs ≡ true) (take_all order.place order.vars.items past) h.here.set
 
 -- what is forced leaves the places
 pub placed_forced : (p q : Propagation) (order : Order) → GoesOn p q → IsPlacedAt p.trail order → IsPlacedAt q.trail order
@@ -153,12 +129,6 @@ placed_back p level order order' held lt h vars place opened =
 
 -- THE VARIABLES OF A PART
 
--- what passes at each number of a list
-all_among : (t : ℕ → Bool) (vars : List ℕ) → ((v : ℕ) → among vars v ≡ true → t v ≡ true) → list_all t vars ≡ true
-all_among t [] h = refl
-all_among t (v ∷ vars) h =
-    and_from (t v) (list_all t vars) (h v (or_left (v == v) (among vars v) (eq-eqb v v refl))) (all_among t vars (λ u m. h u (or_right (v == u) (among vars u) m)))
-
 -- a variable that occurs in a crossed clause may be decided
 occurring : (over : Crossed) (v : ℕ) → is_formula over.formula.now ≡ true → occurs_over over v ≡ true → may_decide over v ≡ true
 occurring over v form o =
@@ -190,21 +160,3 @@ order_variables over vars form order = record {
   where
     same : (v : ℕ) → among (variables_over over) v ≡ among vars v
     same v = list_any-IsPermutation (λ u. u == v) (variables_over over) vars order
-
--- the bounds of a variable that is read
-pub variable_read : (n : ℕ) (vars : List ℕ) (i v : ℕ) → are_within n vars ≡ true → i < length vars → v ≡ get_or vars i v → (0 < v) × (v ≤ n)
-variable_read n [] i v h lt read = absurd (omega (arith, lt))
-variable_read n (u ∷ vars) zero v h lt read =
-    let both = and_true (nat_lt 0 u && nat_le u n) (are_within n vars) h in
-    let parts = and_true (nat_lt 0 u) (nat_le u n) both.0 in
-    let low = ltb-true 0 u parts.0 in
-    let high = leb-true u n parts.1 in
-    ((let a : 0 < v = omega (arith, low, read) in a), (let b : v ≤ n = omega (arith, high, read) in b))
-variable_read n (u ∷ vars) (suc i) v h lt read =
-    variable_read n vars i v (and_true (nat_lt 0 u && nat_le u n) (are_within n vars) h).1 (omega (arith, lt)) read
-
--- it is one of them
-pub among_read : (vars : List ℕ) (i v : ℕ) → i < length vars → v ≡ get_or vars i v → among vars v ≡ true
-among_read [] i v lt read = absurd (omega (arith, lt))
-among_read (u ∷ vars) zero v lt read = or_left (u == v) (among vars v) (eq-eqb u v (sym read))
-among_read (u ∷ vars) (suc i) v lt read = or_right (u == v) (among vars v) (among_read vars i v (omega (arith, lt)) read)

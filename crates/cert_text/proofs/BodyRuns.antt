@@ -1,8 +1,8 @@
 -- The lines of a body, read one after another.
-use Rattle.std.proofs.Common.{◌≡◌, ℕ, ◌+◌, ◌<◌, ◌≤◌, ◌∙◌, Bool, true, false, cond, ◌&&◌, ◌==◌, List, [], ◌∷◌, ◌++◌, map, length, refl, sym, ap, arith, Option, Some, None, nat_lt}
+use Rattle.std.proofs.Common.{◌≡◌, ℕ, ◌+◌, ◌≤◌, ◌∙◌, Bool, true, false, cond, ◌&&◌, List, [], ◌∷◌, ◌++◌, map, length, refl, sym, ap, arith, Option, Some, None, nat_lt}
 use Rattle.std.specs.Prelude.{option_map, option_and_then, codes}
 use Rattle.std.specs.List.{list_all, flat_map}
-use Rattle.std.proofs.lemmas.Bool.{and_from, lt-ltb, eqb-true}
+use Rattle.std.proofs.lemmas.Bool.{and_from, lt-ltb}
 use Rattle.std.proofs.lemmas.List.{append-nil}
 use Rattle.lk_model.specs.Lists.{is_between, rises_within}
 use Rattle.lk_model.specs.Limits.{is_in_range}
@@ -10,13 +10,12 @@ use Rattle.lk_model.specs.Formulas.Literal.{is_literal}
 use Rattle.lk_model.specs.Texts.Lines.{Word}
 use Rattle.lk_model.specs.Documents.Documents.{steps_of}
 use Rattle.lk_model.specs.Documents.Text.{round_lines, class_lines}
-use Rattle.lk_model.specs.Documents.Form.{counts_from, is_pair, is_match_row, is_stage, is_unit, is_step, are_steps, ends_at_empty, is_whole, is_body}
+use Rattle.lk_model.specs.Documents.Form.{is_pair, is_match_row, is_stage, is_unit, are_steps, is_whole, is_body}
 use Rattle.lk_model.specs.declared.document.Pair.{Pair}
 use Rattle.lk_model.specs.declared.document.Own.{Own}
 use Rattle.lk_model.specs.declared.document.MatchRow.{MatchRow}
 use Rattle.lk_model.specs.declared.document.Dual.{Dual}
 use Rattle.lk_model.specs.declared.document.Unit.{Unit}
-use Rattle.lk_model.specs.declared.document.Step.{Step}
 use Rattle.lk_model.specs.declared.document.Round.{Round}
 use Rattle.lk_model.specs.declared.document.Body.{Body}
 use Rattle.lk_model.specs.declared.document.Body.TheVariants as body
@@ -32,8 +31,7 @@ use Rattle.line_text.proofs.Options.{map_some, then_some}
 use Rattle.line_text.proofs.Words.{after_form}
 use Rattle.line_text.proofs.LastOnes.{are_listed}
 use Rattle.round_text.proofs.RoundSteps.{round_form}
-use Rattle.round_text.proofs.RoundForms.{step_parts}
-use Rattle.round_text.proofs.RoundRuns.{rounds_run, AreNumbered, shut_at, rounds_all_run}
+use Rattle.round_text.proofs.RoundRuns.{rounds_run, shut_at, rounds_all_run, numbered_from_first, some_clauses}
 use Rattle.cert_text.specs.Drafts.{run}
 use Rattle.cert_text.proofs.Runs.{fresh_of, part_from, at_body, part_runs, pure_runs, matching_runs, linear_runs}
 
@@ -76,23 +74,6 @@ rounds_lift put may d p q (words ∷ lines) rest are h = by_next (λ x g. rounds
         ap (λ (ws : List Word). run (at_body d (put p)) (ws ∷ (lines ++ rest))) c.1
         ∙ part_runs d (put p) (put x) c.0 (lines ++ rest) there
         ∙ later x f
-
--- steps that are numbered from the first one on
-pub numbered_from_first : (n m : ℕ) (steps : List Step) → are_steps n m steps ≡ true → AreNumbered n m 0 steps
-numbered_from_first n m steps h =
-    let both = and_true (counts_from (m + 1) (map (λ (x : Step). x.number) steps)) (list_all (is_step n) steps) h in
-    let zero_more : m + 1 + 0 ≡ m + 1 = omega arith in
-    record { counts = ap (λ (j : ℕ). counts_from j (map (λ (x : Step). x.number) steps)) zero_more ∙ both.0; forms = both.1 }
-
--- a chain over no clauses has no first clause
-some_clauses : (n m : ℕ) (steps others : List Step) → ends_at_empty steps ≡ true → are_steps n m (steps ++ others) ≡ true → 0 < m
-some_clauses n m [] others e h = absurd (let f : ⊥ = cc in f)
-some_clauses n m (s ∷ steps) others e h =
-    let both = and_true (counts_from (m + 1) (map (λ (x : Step). x.number) (s ∷ (steps ++ others)))) (list_all (is_step n) (s ∷ (steps ++ others))) h in
-    let number = eqb-true s.number (m + 1) (and_true (s.number == m + 1) (counts_from (m + 1 + 1) (map (λ (x : Step). x.number) (steps ++ others))) both.0).0 in
-    let form = (and_true (is_step n s) (list_all (is_step n) (steps ++ others)) both.1).0 in
-    let range = (step_parts n s form).first in
-    omega (arith, range.least, range.most, number)
 
 -- the rounds of a finished document
 general_runs : (d : Draft) (rounds : List Round) (rest : List (List Word)) → d.vars ≤ 1000000 → are_steps d.vars d.clauses (steps_of rounds) ≡ true → list_all is_whole rounds ≡ true

@@ -1,11 +1,10 @@
 -- The lines of a document have clean words.
-use Rattle.std.proofs.Common.{◌≡◌, ℕ, true, List, [], ◌∷◌, ◌++◌, map, length, refl, Option, Some, None}
+use Rattle.std.proofs.Common.{◌≡◌, ℕ, true, List, [], ◌∷◌, ◌++◌, map, refl, Option, Some, None}
 use Rattle.std.specs.Prelude.{codes}
 use Rattle.std.specs.List.{flat_map}
 use Rattle.std.specs.Fmt.{decimal, signed_decimal}
 use Rattle.lk_model.specs.Texts.Lines.{Word}
 use Rattle.lk_model.specs.Texts.PlainText.{ended, literal_words, number_words, formula_lines}
-use Rattle.lk_model.specs.Formulas.Formula.{Cnf}
 use Rattle.lk_model.specs.Documents.Text.{comment, pair_line, own_line, row_line, stage_line, dual_line, unit_line, round_lines, class_lines, class_word, first_lines, protect_lines, version, document_lines}
 use Rattle.lk_model.specs.Documents.Documents.{class_of}
 use Rattle.lk_model.specs.declared.document.Weight.{Weight}
@@ -16,7 +15,7 @@ use Rattle.lk_model.specs.declared.document.Document.{Document}
 use Rattle.lk_model.specs.declared.document.Document.TheVariants.{Done, Unfinished}
 use Rattle.cert_text.proofs.LinearSteps.{share_words}
 use Rattle.line_text.proofs.CleanWords.{is_clean, are_clean}
-use Rattle.line_text.proofs.CleanNumbers.{clean_number, clean_signed, clean_cons, clean_ended, clean_closed, clean_numbers, clean_literals, clean_each, two_words, lines_append, lines_cons, lines_map}
+use Rattle.line_text.proofs.CleanNumbers.{clean_number, clean_signed, clean_cons, clean_ended, clean_numbers, clean_literals, clean_each, two_words, lines_append, lines_cons, lines_map, clean_formula}
 use Rattle.round_text.proofs.CleanRounds.{clean_rounds}
 
 clean_body : (b : Body) → are_clean (class_lines b) ≡ true
@@ -34,9 +33,6 @@ clean_body (Linear stages dual units) =
     clean_cons (decimal u.var) (signed_decimal u.d ∷ ended (flat_map share_words u.shares)) (clean_number u.var) (clean_cons (signed_decimal u.d) (ended (flat_map share_words u.shares)) (clean_signed u.d)
     (clean_ended (flat_map share_words u.shares) (clean_each (λ (s : Share). decimal s.pos ∷ signed_decimal s.z ∷ []) (λ s. two_words (decimal s.pos) (signed_decimal s.z) (clean_number s.pos) (clean_signed s.z)) u.shares)))) units)
 clean_body (General rounds) = clean_rounds rounds
-
-clean_formula : (F : Cnf) → are_clean (formula_lines F) ≡ true
-clean_formula F = lines_cons (codes "p" ∷ codes "cnf" ∷ number_words (F.vars ∷ length F.clauses ∷ [])) (map literal_words F.clauses) (clean_numbers (F.vars ∷ length F.clauses ∷ [])) (lines_map literal_words (λ c. clean_closed (map signed_decimal c) (clean_literals c)) F.clauses)
 
 clean_protect : (protect : Option (List ℕ)) → are_clean (protect_lines protect) ≡ true
 clean_protect None = refl

@@ -1,10 +1,10 @@
 -- From each draft in form some document goes on.
-use Rattle.std.proofs.Common.{◌≡◌, ℕ, ◌^◌, zero, suc, ◌-◌, ◌<◌, ◌≤◌, ◌∙◌, Bool, true, false, cond, not, ◌==◌, List, [], ◌∷◌, ◌++◌, map, length, replicate, refl, sym, ap, subst, arith, ℤ, append_assoc, length-append, nat_le, nat_lt, sum_by}
+use Rattle.std.proofs.Common.{◌≡◌, ℕ, ◌^◌, ◌-◌, ◌<◌, ◌≤◌, ◌∙◌, Bool, true, false, cond, not, ◌==◌, List, [], ◌∷◌, ◌++◌, map, length, replicate, refl, sym, ap, subst, arith, ℤ, append_assoc, length-append, nat_le, nat_lt}
 use Rattle.std.specs.Prelude.{codes}
 use Rattle.std.specs.List.{list_all, flat_map}
 use Rattle.std.proofs.lemmas.Bool.{and_from, le-leb, lt-ltb, eq-eqb, not-true}
 use Rattle.std.proofs.lemmas.List.{map-append, append-nil, length-replicate, append_cancel_left}
-use Rattle.std.proofs.lemmas.List.Sums.{sum_by-append, sum_by-cons}
+use Rattle.std.proofs.lemmas.List.Sums.{sum_by-append}
 use Rattle.std.proofs.lemmas.List.Folds.{list_all-append}
 use Rattle.lk_model.specs.Lists.{is_between, rises_within}
 use Rattle.lk_model.specs.Limits.{is_in_range, max_literals}
@@ -23,6 +23,7 @@ use Rattle.lk_model.specs.declared.document.Unit.{Unit}
 use Rattle.lk_model.specs.declared.document.Document.TheVariants as document
 use Rattle.lk_model.specs.declared.document.Document.TheVariants.{Done}
 use Rattle.lk_model.proofs.Booleans.{and_true}
+use Rattle.lk_model.proofs.Clauses.{empty_clauses as all_clauses, no_literals}
 use Rattle.cert_text.specs.declared.part.Part.{Part}
 use Rattle.cert_text.specs.declared.part.Part.TheVariants.{Pure, Matching, Linear, General, Unfinished}
 use Rattle.cert_text.specs.declared.draft.Draft.{Draft}
@@ -228,14 +229,6 @@ is_completed n m (Unfinished p) small h low =
     }
 
 -- COMPLETED DRAFTS
-
-all_clauses : (n k : ℕ) → list_all (is_clause n) (replicate k []) ≡ true
-all_clauses n zero = refl
-all_clauses n (suc k) = all_clauses n k
-
-no_literals : (k : ℕ) → sum_by length (replicate {A = List ℤ} k []) ≡ 0
-no_literals zero = refl
-no_literals (suc k) = omega (arith, sum_by-cons {X = List ℤ} length [] (replicate k []), no_literals k)
 
 missing : Draft → List (List ℤ)
 missing d = replicate (clause_count d - length d.texts.clauses) []

@@ -462,10 +462,6 @@ draft_step d e words h n = by_due d.due refl h n
     by_due Body t g f = body_step d e words t g f
     by_due Clauses t g f = clause_step d e words t g f
 
--- before the first line
-pub fresh_form : IsDraft fresh_draft
-fresh_form = refl
-
 -- the facts hold at each line
 pub draft_facts : (d : Draft) → IsDraft d → Facts d
 draft_facts d h = by_due d.due refl h

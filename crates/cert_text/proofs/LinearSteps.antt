@@ -15,11 +15,12 @@ use Rattle.line_text.specs.Fields.{number_within}
 use Rattle.cert_text.specs.Entries.{if_weight}
 use Rattle.line_text.specs.LastVars.{last_or}
 use Rattle.cert_text.specs.LinearLines.{weight_by, share_by, unit_by, weight_within, share_within, unit_within}
-use Rattle.line_text.proofs.NumberTexts.{spelled, plain_spelled, in_range}
+use Rattle.line_text.proofs.NumberTexts.{spelled, plain_spelled}
 use Rattle.line_text.proofs.ListForms.{number_back}
 use Rattle.line_text.proofs.NumberForms.{number_form}
 use Rattle.line_text.proofs.LastOnes.{are_listed, listed_more, listed_last, listed_front}
 use Rattle.line_text.proofs.TwosSteps.{AreTwos}
+use Rattle.lk_text.proofs.Shortest.{fits_wide as in_range}
 
 -- READING ONE MORE
 

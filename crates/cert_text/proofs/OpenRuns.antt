@@ -32,10 +32,11 @@ use Rattle.cert_text.specs.Parts.{part_next, may_end}
 use Rattle.cert_text.specs.Drafts.{format_line, size_line, learned_line, problem_line, clause_count, fresh_draft, is_problem, document_by, finished}
 use Rattle.line_text.proofs.ListForms.{number_back, rising_back}
 use Rattle.line_text.proofs.NumberForms.{two_back}
-use Rattle.round_text.proofs.RoundRuns.{rounds_run, AreNumbered, open_at, shut_at, numbered_parts, open_run, round_run, rounds_all_run}
-use Rattle.cert_text.proofs.BodyRuns.{numbered_from_first, rounds_lift}
+use Rattle.line_text.proofs.Words.{after_ended}
+use Rattle.round_text.proofs.RoundRuns.{rounds_run, AreNumbered, open_at, shut_at, numbered_parts, open_run, round_run, rounds_all_run, numbered_from_first}
+use Rattle.cert_text.proofs.BodyRuns.{rounds_lift}
 use Rattle.cert_text.specs.Drafts.{run}
-use Rattle.cert_text.proofs.Runs.{run_cons, after_ended, at_body, at_clauses, clauses_run}
+use Rattle.cert_text.proofs.Runs.{run_cons, at_body, at_clauses, clauses_run}
 
 -- THE PROBLEM LINE
 
@@ -102,7 +103,7 @@ open_rounds n m rounds small h e =
 
 -- THE FIRST LINES
 
-blank : Option (List ℕ) → Option (List ℕ)
+unfoldable pub blank : Option (List ℕ) → Option (List ℕ)
 blank None = None
 blank (Some vars) = Some []
 

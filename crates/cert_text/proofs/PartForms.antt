@@ -23,12 +23,13 @@ use Rattle.cert_text.specs.Entries.{pair_by, pair_within, own_by, own_within, ro
 use Rattle.line_text.specs.FieldLists.{twos}
 use Rattle.line_text.specs.LastVars.{last_or}
 use Rattle.cert_text.specs.LinearLines.{share_within, unit_by, unit_within}
-use Rattle.line_text.proofs.NumberTexts.{spelled, plain_spelled, in_range}
+use Rattle.line_text.proofs.NumberTexts.{spelled, plain_spelled}
 use Rattle.line_text.proofs.ListForms.{number_back}
 use Rattle.line_text.proofs.NumberForms.{number_form, between, is_between_of}
 use Rattle.cert_text.proofs.LinearSteps.{range_form, shares_two, are_shares, share_words}
 use Rattle.line_text.proofs.TwosSteps.{twos_form, twos_back}
 use Rattle.line_text.proofs.LastOnes.{are_listed, listed_more, listed_last}
+use Rattle.lk_text.proofs.Shortest.{fits_wide as in_range}
 
 -- HOW THE ITEMS OF LINES ARE READ AND SPELLED
 

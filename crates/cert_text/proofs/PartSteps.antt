@@ -37,8 +37,9 @@ use Rattle.round_text.proofs.RoundParts.{IsRounds, IsDoneRounds, rounds_step, ro
 use Rattle.line_text.proofs.Words.{after_form}
 use Rattle.cert_text.proofs.LinearSteps.{weight_words, weights_two, are_weights, share_words}
 use Rattle.line_text.proofs.TwosSteps.{twos_form}
-use Rattle.line_text.proofs.LastOnes.{are_listed, tested_more}
+use Rattle.line_text.proofs.LastOnes.{are_listed}
 use Rattle.cert_text.proofs.PartForms.{pair_items, own_items, row_items, dual_items, unit_items, items_more}
+use Rattle.lk_model.proofs.ListTests.{all_more as tested_more}
 
 -- LINES
 

@@ -4,7 +4,6 @@ use Rattle.std.specs.Prelude.{option_map, option_and_then, codes}
 use Rattle.std.specs.Fmt.{decimal, signed_decimal}
 use Rattle.std.specs.Option.{option_map_or}
 use Rattle.std.specs.List.{list_all, flat_map}
-use Rattle.std.specs.Str.{bytes_eq}
 use Rattle.std.proofs.lemmas.Bool.{and_from, le-leb, lt-ltb}
 use Rattle.std.proofs.lemmas.List.{append-nil}
 use Rattle.std.proofs.lemmas.List.Sums.{sum_by-append, sum_by-cons}
@@ -14,7 +13,7 @@ use Rattle.lk_model.specs.Formulas.Literal.{is_literal, is_clause}
 use Rattle.lk_model.specs.Texts.Lines.{Word}
 use Rattle.lk_model.specs.Texts.PlainText.{ended, literal_words, number_words}
 use Rattle.lk_model.specs.Documents.Documents.{steps_of}
-use Rattle.lk_model.specs.Documents.Text.{comment, pair_line, own_line, row_line, stage_line, dual_line, unit_line, class_lines}
+use Rattle.lk_model.specs.Documents.Text.{pair_line, own_line, row_line, stage_line, dual_line, unit_line, class_lines}
 use Rattle.lk_model.specs.Documents.Form.{is_pair, is_match_row, is_stage, is_unit}
 use Rattle.lk_model.specs.declared.document.Pair.{Pair}
 use Rattle.lk_model.specs.declared.document.Own.{Own}
@@ -41,7 +40,7 @@ use Rattle.round_text.specs.RoundLines.{fresh_rounds}
 use Rattle.cert_text.specs.Parts.{part_next, may_end}
 use Rattle.cert_text.specs.Drafts.{clause_count, is_problem, has_room, put_clause, next_draft, run}
 use Rattle.line_text.proofs.ListForms.{literals_back, any_literals, clause_back}
-use Rattle.line_text.proofs.Words.{after_first}
+use Rattle.line_text.proofs.Words.{after_first, after_ended}
 use Rattle.cert_text.proofs.LinearSteps.{weight_words, weights_two, are_weights, share_words}
 use Rattle.line_text.proofs.TwosSteps.{twos_back}
 use Rattle.line_text.proofs.LastOnes.{are_listed, listed_front, tested_front, tested_last}
@@ -69,11 +68,6 @@ run_last d e x ls words ms h g = by_next (next_draft e words) refl (sym (run_app
     by_next : (o : Option Draft) → next_draft e words ≡ o → option_and_then (λ z. run z ms) o ≡ Some x → (y : Draft) × (next_draft e words ≡ Some y)
     by_next None t f = absurd (let n : ⊥ = cc in n)
     by_next (Some y) t f = (y, t)
-
--- words behind a keyword that are closed by 0
-pub after_ended : (keyword : Word) (words : List Word) → bytes_eq keyword keyword ≡ true → after (codes "c") keyword (comment keyword (ended words)) ≡ Some (ended words)
-after_ended keyword [] e = rw e refl
-after_ended keyword (word ∷ words) e = rw e refl
 
 -- THE BODY
 

@@ -30,17 +30,13 @@ use Rattle.cert_text.specs.Parts.{may_end, is_finished, body_of}
 use Rattle.cert_text.specs.Drafts.{format_line, size_line, keep_line, set_line, problem_line, clause_count, fresh_draft, due_then, due_first, next_format, next_sizes, done_by, open_by, document_by, finished}
 use Rattle.line_text.proofs.ListForms.{rising_back, literals_back, literals_rising}
 use Rattle.line_text.proofs.NumberForms.{two_back}
-use Rattle.cert_text.proofs.OpenRuns.{problem_run, open_runs}
+use Rattle.line_text.proofs.Words.{after_ended}
+use Rattle.cert_text.proofs.OpenRuns.{problem_run, open_runs, blank}
 use Rattle.cert_text.proofs.BodyRuns.{body_runs}
 use Rattle.cert_text.specs.Drafts.{run}
-use Rattle.cert_text.proofs.Runs.{run_cons, after_ended, fresh_of, part_from, at_body, at_clauses, clauses_run}
+use Rattle.cert_text.proofs.Runs.{run_cons, fresh_of, part_from, at_body, at_clauses, clauses_run}
 
 -- THE FIRST LINES
-
--- the list of protected variables before its line
-blank : Option (List ℕ) → Option (List ℕ)
-blank None = None
-blank (Some vars) = Some []
 
 -- what is read first
 started : Option (List ℕ) → Part → Draft

@@ -1,4 +1,7 @@
-//! Reading documents.
+//! Reading documents, line by line.
+//!
+//! The lines before it say what a line has to be, so the first one with which no document goes on is known when it ends.
+//! What is read is put where the document has it: no line is kept.
 ghost use Rattle.std.specs.Prelude.{◌≡◌, ◌<◌, ◌==◌, ◌&&◌, IfOk, IfErr, false, length};
 ghost use Rattle.lk_model.specs.declared.document.Document.TheVariants.{Done, Unfinished};
 ghost use Rattle.cert_text.specs.Parts.{is_finished};

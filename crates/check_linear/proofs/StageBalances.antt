@@ -17,7 +17,7 @@ use Rattle.lk_model.specs.declared.document.Stage.{Stage}
 use Rattle.lk_model.proofs.Clauses.{literals_of}
 use Rattle.lk_model.proofs.Booleans.{and_true, or_true, or_false}
 use Rattle.lk_model.proofs.Lists.{drop_read}
-use Rattle.kernel_laws.proofs.Linear.Balances.{zero_is}
+use Rattle.lk_model.proofs.ListTests.{zero_is}
 use Rattle.check_tables.proofs.KeptFlags.{find_to}
 use Rattle.check_linear.proofs.StageChecks.{bad_stage_is, fails_stage}
 use Rattle.check_linear.specs.Linear.{signed, first_stage, first_weight, AreFirsts, least_stage, weights_at, is_bad_stage}

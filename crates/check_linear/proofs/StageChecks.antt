@@ -19,16 +19,6 @@ use Rattle.kernel_laws.proofs.WeightLines.{IsWeightWithin}
 use Rattle.check_linear.specs.Linear.{weight_in, first_stage, first_weight, AreFirsts, NotesStage, sign_of, is_bad_sign}
 use Rattle.check_tables.proofs.KeptFlags.{find_to}
 
--- no weight more
-pub stage_none : (n k : ℕ) (stage : List Weight) (i : ℕ) (places : List ℕ) (weights : List ℤ) → length stage ≤ i → NotesStage n k (drop i stage) places weights places weights
-stage_none n k stage i places weights le =
-    subst (λ (ws : List Weight). NotesStage n k ws places weights places weights) (sym (drop_all i stage le)) (record {
-      places_size = refl;
-      weights_size = refl;
-      place = λ v first last. refl;
-      weight = λ v first last. refl;
-    })
-
 -- one weight more before the others
 pub stage_more : (n k : ℕ) (stage : List Weight) (i j : ℕ) (d : Weight) (places_before : List ℕ) (weights_before : List ℤ) (places : List ℕ) (weights : List ℤ) → j ≡ i + 1 → i < length stage → IsWeightWithin n (get_or stage i d)
     → n ≤ length places → n ≤ length weights → NotesStage n k (drop j stage) places_before weights_before places weights

@@ -201,9 +201,6 @@ numbered_bounds n units k u rising low high is =
     let inside : k - 1 < length units = omega (arith, low, high) in
     unit_bounds n units (k - 1) u rising inside (is ∙ get_or_default units (k - 1) no_unit u inside)
 
-pub unit_at : (m : ℕ) (units : List Unit) (i : ℕ) (u : Unit) → list_all (is_unit m) units ≡ true → i < length units → u ≡ get_or units i u → is_unit m u ≡ true
-unit_at m units i u all lt is = ap (is_unit m) is ∙ all_at (is_unit m) units i u all lt
-
 -- what the definition asks of a unit in a place
 abbrev asks : Cnf → List ℕ → ℕ → Unit → Bool
 asks F kept v u = is_zero u.d || list_any (λ (s : Share). not (among kept s.pos)) u.shares

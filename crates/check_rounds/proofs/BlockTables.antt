@@ -3,10 +3,9 @@ use Rattle.std.proofs.Common.{◌≡◌, ◌≢◌, ◌∙◌, ℕ, zero, suc, �
 use Rattle.std.specs.Prelude.{find, replicate, slice_set}
 use Rattle.std.proofs.Math.Bool.{or-false}
 use Rattle.std.specs.List.{list_any, flat_map}
-use Rattle.std.proofs.lemmas.Bool.{cases_Bool, cases_eq, cond-true, eq-eqb, ne_eqb, eqb-true, lt-ltb, le-ltb, ltb-true, ltb-false}
+use Rattle.std.proofs.lemmas.Bool.{cases_Bool, cases_eq, cond-true, eq-eqb, ne_eqb, lt-ltb, le-ltb, ltb-true, ltb-false}
 use Rattle.std.proofs.lemmas.List.{get_or-replicate, length-replicate, length-set, drop_more, drop_all, take_all, get_or_default, get_or_past}
 use Rattle.std.proofs.lemmas.List.Folds.{list_any-append, list_any_more}
-use Rattle.std.proofs.lemmas.Map.Views.{any-filter_same}
 use Rattle.lk_model.specs.Lists.{among}
 use Rattle.lk_model.specs.Formulas.Literal.{variable, mentions}
 use Rattle.lk_model.specs.Formulas.Formula.{Cnf, clause_at, is_formula, variable_occurs, variables_to}
@@ -16,21 +15,13 @@ use Rattle.lk_model.specs.Checks.RoundChecks.{not_blocked}
 use Rattle.lk_model.specs.declared.document.Round.{Round}
 use Rattle.lk_model.specs.declared.document.DoneDocument.{DoneDocument}
 use Rattle.lk_model.proofs.Booleans.{and_true, or_right}
-use Rattle.lk_model.proofs.Variables.{variable_bound, position_with}
+use Rattle.lk_model.proofs.Variables.{variable_bound, position_with, among_variables as variables_are}
 use Rattle.check_tables.specs.Occurring.{AreOccurring}
 use Rattle.check_rounds.specs.Blocking.{blocks, first_block, AreBlocks, is_before, is_unblocked, BlocksClause, BlocksRound}
 use Rattle.check_tables.proofs.KeptFlags.{find_to}
+use Rattle.kernel_laws.proofs.Protected.Crossing.{mentions_crossed as crossed_mentions}
 
 -- WHAT IS BLOCKED AFTER ROUNDS
-
--- the variables of a clause are those that it mentions
-variables_are : (c : List ℤ) (v : ℕ) → among (map variable c) v ≡ mentions c v
-variables_are [] v = refl
-variables_are (l ∷ c) v = ap (λ (b : Bool). (variable l == v) || b) (variables_are c v)
-
-crossed_mentions : (blocked : Variables) (c : List ℤ) (v : ℕ) → mentions (crossed_out blocked c) v ≡ (not (blocked v) && mentions c v)
-crossed_mentions blocked c v =
-    any-filter_same (λ (l : ℤ). variable l == v) (λ (l : ℤ). not (blocked (variable l))) (not (blocked v)) (λ l e. ap (λ (w : ℕ). not (blocked w)) (eqb-true (variable l) v e)) c
 
 -- the used variables are those that occur and were not blocked
 used_is : (F : Cnf) (blocked : Variables) (ps : List ℕ) (v : ℕ) → among (flat_map (λ p. map variable (crossed_out blocked (clause_at F p))) ps) v ≡ (not (blocked v) && variable_occurs F ps v)

@@ -1,5 +1,5 @@
 -- What a chain may name and makes, and the first bad step round by round.
-use Rattle.std.proofs.Common.{◌≡◌, ◌∙◌, ℕ, zero, suc, ◌+◌, ◌-◌, ◌*◌, ◌<◌, ◌≤◌, Bool, true, false, ◌==◌, List, [], ◌∷◌, ◌++◌, length, get_or, map, take, drop, refl, sym, ap, subst, arith, ℤ, pos, negsuc, Option, Some, None, find, option_map, slice_index_or}
+use Rattle.std.proofs.Common.{◌≡◌, ◌∙◌, ℕ, zero, suc, ◌+◌, ◌-◌, ◌*◌, ◌<◌, ◌≤◌, Bool, true, false, ◌==◌, List, [], ◌∷◌, ◌++◌, length, get_or, map, take, drop, refl, sym, ap, subst, arith, ℤ, Option, Some, None, find, option_map, slice_index_or}
 use Rattle.std.specs.Prelude.{option_and_then}
 use Rattle.std.specs.List.{list_all}
 use Rattle.std.specs.Option.{option_or}
@@ -20,6 +20,7 @@ use Rattle.lk_model.specs.declared.document.Round.{Round}
 use Rattle.lk_model.proofs.Booleans.{and_true}
 use Rattle.lk_model.proofs.ListTests.{all_at}
 use Rattle.lk_model.proofs.Rising.{rises}
+use Rattle.lk_model.proofs.Ranks.{ranked_literal}
 use Rattle.kernel_laws.proofs.General.JoinLaws.{blocked_joined}
 use Rattle.check_tables.proofs.Parts.{map_or}
 use Rattle.check_rounds.specs.declared.chains.RoundAt.{RoundAt}
@@ -43,10 +44,6 @@ crossed_none blocks (l ∷ c) = rw (none (variable l)) (ap (λ (ls : List ℤ). 
 pub position_named : (over : RoundAt) (i k : ℕ) (c : List ℤ) → k ≤ length over.formula.now.clauses → (among over.part.now k ≡ true) × (c ≡ clause_at over.formula.now k)
     → clause_named (premises_at over i) k ≡ Some (crossed_out (is_before (round_of over k) over.blocked_at.now) c)
 position_named over i k c le h = rw (le-leb k (length over.formula.now.clauses) le, h.0, h.1) refl
-
--- none where it is no position of the part
-pub position_none : (over : RoundAt) (i k : ℕ) → k ≤ length over.formula.now.clauses → among over.part.now k ≡ false → clause_named (premises_at over i) k ≡ None
-position_none over i k le out = rw (le-leb k (length over.formula.now.clauses) le, out) refl
 
 -- the step of a number is found at its offset
 found_at : (first : ℕ) (steps : List Step) (j : ℕ) (d : Step) → counts_from first (map (λ (s : Step). s.number) steps) ≡ true → j < length steps
@@ -116,14 +113,6 @@ number_found over i j t h inside low it =
 pub step_named : (over : RoundAt) (i k : ℕ) (c : List ℤ) → length over.formula.now.clauses < k → option_map (λ (u : Step). u.clause) (step_numbered over i k) ≡ Some c
     → clause_named (premises_at over i) k ≡ Some (crossed_out (is_before (round_of over k) over.blocked_at.now) c)
 step_named over i k c past e = rw (lt-leb k (length over.formula.now.clauses) past) (e ∙ ap Some (sym (crossed_none over.blocked_at.now c)))
-
-pub step_unnamed : (over : RoundAt) (i k : ℕ) → length over.formula.now.clauses < k → step_numbered over i k ≡ None → clause_named (premises_at over i) k ≡ None
-step_unnamed over i k past e = rw (lt-leb k (length over.formula.now.clauses) past) (ap (option_map (λ (u : Step). u.clause)) e)
-
--- the literals of a step are over the variables
-ranked_literal : (n : ℕ) (l : ℤ) → 1 < rank_of l → rank_of l ≤ 2 * n + 1 → is_literal n l ≡ true
-ranked_literal n (pos v) low high = rw (le-leb 1 v (omega (arith, low)), le-leb v n (omega (arith, high))) refl
-ranked_literal n (negsuc v) low high = rw (le-leb 1 (suc v) (omega arith), le-leb (suc v) n (omega (arith, high))) refl
 
 rising_literals : (n low : ℕ) (c : List ℤ) → 1 ≤ low → rises_within low (2 * n + 1) (map rank_of c) ≡ true → list_all (is_literal n) c ≡ true
 rising_literals n low [] least up = refl

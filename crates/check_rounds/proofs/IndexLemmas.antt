@@ -1,12 +1,12 @@
 -- Clauses that are found by lists, and what the lists of one literal more change.
-use Rattle.std.proofs.Common.{◌≡◌, ◌∙◌, ℕ, zero, suc, ◌+◌, ◌-◌, ◌<◌, ◌≤◌, Bool, true, false, not, ◌&&◌, ◌||◌, ◌==◌, nat_le, nat_lt, List, [], ◌∷◌, ◌++◌, length, get_or, take, refl, sym, ap, subst, arith, ℤ, ◌⊎◌, inl, inr, slice_index, slice_index_or, get_or-set_same, get_or-set_other}
+use Rattle.std.proofs.Common.{◌≡◌, ◌∙◌, ℕ, zero, suc, ◌+◌, ◌-◌, ◌<◌, ◌≤◌, Bool, true, false, not, ◌&&◌, ◌||◌, nat_le, nat_lt, List, [], ◌∷◌, ◌++◌, length, get_or, take, refl, sym, ap, subst, arith, ℤ, ◌⊎◌, inl, inr, slice_index, slice_index_or, get_or-set_same, get_or-set_other}
 use Rattle.std.specs.Prelude.{slice_set}
 use Rattle.std.specs.List.{list_all, All}
 use Rattle.std.specs.Ordering.{int_eq}
-use Rattle.std.proofs.lemmas.Bool.{cases_eq, eq-eqb, leb-true, le-leb, le-ltb, ltb-false, not-true}
+use Rattle.std.proofs.lemmas.Bool.{cases_eq, leb-true, le-leb, le-ltb, ltb-false, not-true}
 use Rattle.std.proofs.lemmas.Bool.Decides.{Decides-int_eq}
 use Rattle.std.proofs.lemmas.List.{take_more, take_all, get_or_default, length-take, get_or-take}
-use Rattle.std.proofs.lemmas.List.Folds.{list_any-append, list_all-append}
+use Rattle.std.proofs.lemmas.List.Folds.{list_all-append}
 use Rattle.lk_model.specs.Lists.{among, is_empty}
 use Rattle.lk_model.specs.Formulas.Literal.{variable, contains, is_literal, rank_of}
 use Rattle.lk_model.specs.Formulas.Formula.{Cnf, clause_at}
@@ -19,6 +19,7 @@ use Rattle.lk_model.proofs.Crossings.{contains_crossed}
 use Rattle.lk_model.proofs.Flags.{contains-push}
 use Rattle.lk_model.proofs.ListTests.{passes_each, all_weaker}
 use Rattle.lk_model.proofs.Ranks.{literal_bounds}
+use Rattle.lk_model.proofs.Lists.{among_front, among_last}
 use Rattle.check_rounds.specs.Blocking.{is_before}
 use Rattle.check_rounds.specs.Index.{list_of, block_of, IsFound, AreClausesFound, AreStepsFound, AreRoundsFound, KeepsFound}
 use Rattle.check_rounds.proofs.ChainChecks.{step_literals}
@@ -53,12 +54,6 @@ last_left n k blocks c l size lits there all some =
 
 -- ONE NUMBER MORE IN A LIST
 
-among_last : (ns : List ℕ) (n : ℕ) → among (ns ++ n ∷ []) n ≡ true
-among_last ns n = list_any-append (λ k. k == n) ns (n ∷ []) ∙ or_right (among ns n) ((n == n) || false) (or_left (n == n) false (eq-eqb n n refl))
-
-among_front : (ns : List ℕ) (n k : ℕ) → among ns k ≡ true → among (ns ++ n ∷ []) k ≡ true
-among_front ns n k there = list_any-append (λ j. j == k) ns (n ∷ []) ∙ or_left (among ns k) ((n == k) || false) there
-
 -- the clause is found where its number is put into the list of such a literal
 pub found_new : (n : ℕ) (blocks : List ℕ) (lists : List (List ℕ)) (c : List ℤ) (number : ℕ) (l : ℤ) (more : List ℕ) → length blocks ≡ n → list_all (is_literal n) c ≡ true → contains c l ≡ true
     → list_all (λ j. nat_le (block_of blocks j) (block_of blocks l)) c ≡ true → rank_of l < length lists → more ≡ list_of lists l ++ number ∷ []
@@ -84,10 +79,6 @@ found_kept blocks lists number l more inside is c other h k some =
         | inr apart ↦ ap (λ (ns : List ℕ). among ns other) (get_or-set_other lists (rank_of l) (rank_of w.0) more [] apart) ∙ w.2
       ],
     )
-
--- the empty clause holds no literal that is left
-pub found_none : (blocks : List ℕ) (lists : List (List ℕ)) (c : List ℤ) (number : ℕ) → c ≡ [] → IsFound blocks lists c number
-found_none blocks lists c number is k some = absurd (let f : ⊥ = cc (rw is at some) in f)
 
 -- THE BEST LITERAL
 

@@ -1,5 +1,5 @@
 -- What a learned clause contains, by lists and flags.
-use Rattle.std.proofs.Common.{◌≡◌, ◌∙◌, ℕ, zero, suc, ◌+◌, ◌<◌, ◌≤◌, Bool, true, false, not, ◌&&◌, ◌||◌, ◌==◌, nat_le, List, [], ◌∷◌, length, get_or, ◌*◌, take, drop, refl, sym, ap, subst, arith, ℤ, Option, Some, None, find, inl, inr}
+use Rattle.std.proofs.Common.{◌≡◌, ◌∙◌, ℕ, zero, suc, ◌+◌, ◌<◌, ◌≤◌, Bool, true, false, not, ◌&&◌, ◌||◌, ◌==◌, nat_le, List, [], ◌∷◌, length, get_or, ◌*◌, take, drop, refl, sym, ap, subst, arith, ℤ, Option, Some, None, inl, inr}
 use Rattle.std.specs.List.{list_any, list_all, range_with_len}
 use Rattle.std.proofs.lemmas.List.Folds.{list_all-append}
 use Rattle.std.specs.Option.{option_map_or}
@@ -13,8 +13,8 @@ use Rattle.lk_model.specs.Chains.Chain.{is_learned}
 use Rattle.lk_model.specs.Documents.Form.{is_step}
 use Rattle.lk_model.specs.declared.document.Step.{Step}
 use Rattle.lk_model.specs.declared.document.Round.{Round}
-use Rattle.lk_model.proofs.Booleans.{and_true, or_true, or_left, or_right, same_tests}
-use Rattle.lk_model.proofs.Clauses.{literals_of}
+use Rattle.lk_model.proofs.Booleans.{and_true, or_true, same_tests}
+use Rattle.lk_model.proofs.Clauses.{literals_of, clause_past}
 use Rattle.lk_model.proofs.Counting.{among-range}
 use Rattle.lk_model.proofs.Founds.{up_to_bounds}
 use Rattle.lk_model.proofs.Literals.{complement_literal}
@@ -31,9 +31,9 @@ use Rattle.check_tables.specs.LiteralSets.{IsSetOf, has_literal}
 use Rattle.check_rounds.proofs.ChainChecks.{crossed_none, number_found, step_form, step_literals}
 use Rattle.check_tables.proofs.FirstTables.{found_passes}
 use Rattle.check_tables.proofs.LiteralSetLemmas.{all_told}
-use Rattle.check_rounds.proofs.Reaching.{clause_past}
 use Rattle.check_rounds.specs.Steps.{AreRounds, IsRoundOf}
 use Rattle.check_rounds.proofs.StepPlaces.{no_round, round_is}
+use Rattle.kernel_laws.proofs.Lines.{found_any}
 
 -- LITERALS THAT ARE LEFT
 
@@ -58,11 +58,6 @@ pub within_is : (over : RoundAt) (flags : List Bool) (p : ℕ) (c : List ℤ) (a
 within_is over flags p c all some is a s =
     let b : Variables = is_before over.round over.blocked_at.now in
     (λ i. (a ∙ left_held b flags c) i && (s ∙ some_left b c) i) ∙ ap (λ (d : List ℤ). list_all (has_literal flags) (crossed_out b d) && not (is_empty (crossed_out b d))) is
-
--- of no position there is no literal left
-pub none_within : (over : RoundAt) (flags : List Bool) (p : ℕ) → clause_at over.formula.now p ≡ [] → false ≡ is_clause_within over flags p
-none_within over flags p is =
-    ap (λ (d : List ℤ). list_all (has_literal flags) (crossed_out (is_before over.round over.blocked_at.now) d) && not (is_empty (crossed_out (is_before over.round over.blocked_at.now) d))) (sym is)
 
 -- CLAUSES OF THE FORMULA
 
@@ -101,14 +96,6 @@ clauses_found over known c flags form h s =
     ]
 
 -- EARLIER STEPS
-
--- what is found passes what each item passes that the test finds
-found_any : {X : Type 0} (t q : X → Bool) (xs : List X) (x : X) → find t xs ≡ Some x → q x ≡ true → list_any q xs ≡ true
-found_any t q [] x e passes = absurd (let f : ⊥ = cc in f)
-found_any t q (y ∷ xs) x e passes = elim (cases_Bool (t y)) [
-  | inl there ↦ (let same : y ≡ x = cc (rw there at e) in or_left (q y) (list_any q xs) (ap q same ∙ passes))
-  | inr gone ↦ or_right (q y) (list_any q xs) (found_any t q xs x (rw gone at e) passes)
-]
 
 -- the place of an item that passes
 any_place : (q : Step → Bool) (xs : List Step) → list_any q xs ≡ true → (j : ℕ) × (s : Step) × (j < length xs) × (s ≡ get_or xs j s) × (q s ≡ true)

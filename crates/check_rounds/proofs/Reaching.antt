@@ -3,12 +3,12 @@ use Rattle.std.proofs.Common.{◌≡◌, ◌∙◌, ℕ, zero, suc, ◌+◌, ◌
 use Rattle.std.specs.Prelude.{replicate, slice_set, nat_le}
 use Rattle.std.specs.List.{list_all}
 use Rattle.std.proofs.lemmas.Bool.{cases_Bool, cases_eq, eqb-true, eq-eqb, ne_eqb, leb-true}
-use Rattle.std.proofs.lemmas.List.{get_or-replicate, length-replicate, length-set, drop_more, drop_all, take_more, map_push, get_or_past, get_or_default}
-use Rattle.std.proofs.lemmas.List.Folds.{list_any-append, list_all-append}
+use Rattle.std.proofs.lemmas.List.{get_or-replicate, length-replicate, length-set, drop_more, drop_all, take_more, map_push, get_or_default}
+use Rattle.std.proofs.lemmas.List.Folds.{list_all-append}
 use Rattle.lk_model.specs.Lists.{among, is_between, is_empty}
 use Rattle.lk_model.specs.Laws.{last_number}
 use Rattle.lk_model.specs.Formulas.Literal.{mentions, is_literal}
-use Rattle.lk_model.specs.Formulas.Formula.{Cnf, clause_at, variable_occurs, positions_of}
+use Rattle.lk_model.specs.Formulas.Formula.{Cnf, variable_occurs, positions_of}
 use Rattle.lk_model.specs.Chains.Chain.{names_of}
 use Rattle.lk_model.specs.Chains.Rounds.{reached, is_refutation, used_positions}
 use Rattle.lk_model.specs.Documents.Form.{counts_from, is_step, is_turn, are_steps}
@@ -18,9 +18,10 @@ use Rattle.lk_model.specs.declared.document.Turn.{Turn}
 use Rattle.lk_model.specs.declared.document.Round.{Round}
 use Rattle.lk_model.proofs.Booleans.{and_true, same_tests}
 use Rattle.lk_model.proofs.Counting.{among-range, in_filter, from_filter}
-use Rattle.lk_model.proofs.Lists.{among_here}
+use Rattle.lk_model.proofs.Lists.{among_here, among_append as among_both}
 use Rattle.lk_model.proofs.ListTests.{all_at}
 use Rattle.lk_model.proofs.Variables.{occurs, position_with}
+use Rattle.lk_model.proofs.Clauses.{clause_past}
 use Rattle.kernel_laws.proofs.General.PartLaws.{is_position}
 use Rattle.check_rounds.specs.Blocking.{AreMarked, AreRoundSteps, BlocksRound, first_number}
 
@@ -103,9 +104,6 @@ abbrev pub reached_from : ℕ → List Step → List ℕ
 reached_from last [] = last ∷ []
 reached_from last (s ∷ later) = let known = reached_from last later in cond (among known s.number) (names_of s ++ known) known
 
-pub among_both : (ns ms : List ℕ) (k : ℕ) → among (ns ++ ms) k ≡ (among ns k || among ms k)
-among_both ns ms k = list_any-append (λ n. n == k) ns ms
-
 -- from the last number on, that is what the steps reach
 pub same_reached : (s : Step) (later : List Step) (k : ℕ) → among (reached_from (last_number (s ∷ later)) (s ∷ later)) k ≡ among (reached (s ∷ later)) k
 unfolding reached
@@ -126,12 +124,7 @@ same_reached s (t ∷ later) k =
       | inr n ↦ rw (test ∙ n, n) (same_reached t later k)
     ]
 
--- a clause past the last position is none
-pub clause_past : (F : Cnf) (p : ℕ) → length F.clauses < p → clause_at F p ≡ []
-clause_past F zero lt = refl
-clause_past F (suc k) lt = get_or_past F.clauses k [] (omega (arith, lt))
-
--- so the variables of what is reached are those of the used positions
+-- the variables of what is reached are those of the used positions
 used_same : (F : Cnf) (r : Round) (known : List ℕ) (v : ℕ) → ((k : ℕ) → among known k ≡ among (reached r.steps) k)
     → variable_occurs F known v ≡ variable_occurs F (used_positions F r) v
 used_same F r known v same = same_tests (variable_occurs F known v) (variable_occurs F (used_positions F r) v)
@@ -304,11 +297,4 @@ round_marked F k first (s ∷ later) before marks table whole size h = record {
       h.blocked v least most ∙ ap (λ (b : Bool). cond b k (slice_index before (v - 1)))
       (used_same F (record { steps = s ∷ later }) (reached_from (last_number (s ∷ later)) (s ∷ later)) v (same_reached s later)
       ∙ ap (λ (b : Bool). b && variable_occurs F (used_positions F (record { steps = s ∷ later })) v) (sym whole));
-}
-
--- a round that is not whole blocks nothing
-pub none_blocked : (F : Cnf) (k : ℕ) (r : Round) (table : List ℕ) → is_refutation r.steps ≡ false → BlocksRound F k r table table
-none_blocked F k r table open_ended = record {
-  size = refl;
-  told = λ v least most. ap (λ (b : Bool). cond (b && variable_occurs F (used_positions F r) v) k (slice_index table (v - 1))) (sym open_ended);
 }

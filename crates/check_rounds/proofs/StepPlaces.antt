@@ -1,5 +1,5 @@
 -- The places of all steps lead to the steps of all rounds, in their order.
-use Rattle.std.proofs.Common.{◌≡◌, ◌∙◌, ℕ, zero, suc, ◌+◌, ◌<◌, Bool, true, false, ◌&&◌, nat_lt, List, [], ◌∷◌, ◌++◌, length, get_or, map, take, drop, append_assoc, append-nil, refl, sym, ap, subst, arith, Option, Some, None, find, option_map, inl, inr}
+use Rattle.std.proofs.Common.{◌≡◌, ◌∙◌, ℕ, zero, suc, ◌+◌, ◌<◌, Bool, true, false, ◌&&◌, nat_lt, List, [], ◌∷◌, ◌++◌, length, get_or, map, take, drop, append_assoc, append-nil, refl, sym, ap, subst, arith, Option, Some, find, option_map, inl, inr}
 use Rattle.std.specs.List.{list_all}
 use Rattle.std.specs.Option.{option_or}
 use Rattle.std.proofs.lemmas.Bool.{cases_Bool, lt-ltb, ltb-true}
@@ -48,9 +48,6 @@ place_first t over ps j at lt is passes = ap (first_step t over) (drop_more ps j
 pub place_later : (t : StepAt → Bool) (over : Rounds) (ps : List StepPlace) (j : ℕ) (at : StepPlace) → j < length ps → at ≡ get_or ps j at → t (step_at over at) ≡ false
     → first_step t over (drop j ps) ≡ first_step t over (drop (j + 1) ps)
 place_later t over ps j at lt is fails = ap (first_step t over) (drop_more ps j at lt ∙ ap (λ (q : StepPlace). q ∷ drop (j + 1) ps) (sym is)) ∙ rw fails refl
-
-pub place_none : (t : StepAt → Bool) (over : Rounds) (ps : List StepPlace) (j : ℕ) → length ps < j + 1 → first_step t over (drop j ps) ≡ None
-place_none t over ps j past = ap (first_step t over) (drop_all j ps (omega (arith, past)))
 
 -- one round more
 pub places_joined : (k : ℕ) (rounds more : List Round) → places_from k (rounds ++ more) ≡ places_from k rounds ++ places_from (k + length rounds) more

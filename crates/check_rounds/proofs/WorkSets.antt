@@ -1,5 +1,5 @@
 -- The literals of a chain's clause as a set, under the changes that a turn makes.
-use Rattle.std.proofs.Common.{◌≡◌, ◌∙◌, ℕ, ◌+◌, ◌<◌, Bool, true, false, cond, not, ◌&&◌, ◌||◌, List, [], ◌∷◌, ◌++◌, length, get_or, take, filter, All, append_assoc, refl, sym, ap, subst, ℤ, inl, inr}
+use Rattle.std.proofs.Common.{◌≡◌, ◌∙◌, ℕ, ◌+◌, ◌<◌, Bool, true, false, cond, not, ◌&&◌, List, [], ◌∷◌, ◌++◌, length, get_or, take, filter, All, append_assoc, refl, sym, ap, subst, ℤ, inl, inr}
 use Rattle.std.specs.List.{list_any, list_all}
 use Rattle.std.specs.Ordering.{int_eq}
 use Rattle.std.proofs.lemmas.Bool.{cases_Bool}
@@ -10,53 +10,15 @@ use Rattle.lk_model.specs.Lists.{is_empty}
 use Rattle.lk_model.specs.Formulas.Literal.{variable, contains, is_literal, is_within, is_same_set, rank_of}
 use Rattle.lk_model.specs.Formulas.Crossed.{Variables, crossed_out}
 use Rattle.lk_model.specs.Chains.Chain.{without}
-use Rattle.lk_model.proofs.Booleans.{or_true, or_left, or_right}
-use Rattle.lk_model.proofs.Flags.{contains-push}
+use Rattle.lk_model.proofs.Booleans.{or_left}
 use Rattle.lk_model.proofs.Literals.{contains_filter, literal_at}
-use Rattle.lk_model.proofs.ListTests.{passes_one, passes_each, all_more}
+use Rattle.lk_model.proofs.ListTests.{passes_one, passes_each}
 use Rattle.check_rounds.specs.declared.work.Work.{Work}
-use Rattle.check_tables.specs.LiteralSets.{has_literal, with_literal, without_literal, less, IsSetOf}
+use Rattle.check_tables.specs.LiteralSets.{has_literal, without_literal, less, IsSetOf}
 use Rattle.check_rounds.specs.Chains.{IsWork}
-use Rattle.check_tables.proofs.LiteralSetLemmas.{set_more, set_less, rank_within, all_told}
+use Rattle.check_tables.proofs.LiteralSetLemmas.{set_less, rank_within, all_told}
 
 -- CHANGES
-
--- the same literals
-pub work_same : (n : ℕ) (c d : List ℤ) (w : Work) → ((k : ℤ) → contains c k ≡ contains d k) → IsWork n c w → IsWork n d w
-work_same n c d w same h = record {
-  set = record { small = h.set.small; size = h.set.size; told = λ k kit. h.set.told k kit ∙ same k };
-  listed = λ k e. h.listed k (same k ∙ e);
-  literals = h.literals;
-}
-
--- a literal that was not in it
-pub work_added : (n : ℕ) (c : List ℤ) (l : ℤ) (w v : Work) → is_literal n l ≡ true → v.flags ≡ with_literal w.flags l → v.literals.items ≡ w.literals.items ++ l ∷ []
-    → IsWork n c w → IsWork n (c ++ l ∷ []) v
-work_added n c l w v lit flags items h = record {
-  set = subst (λ (fs : List Bool). IsSetOf n (c ++ l ∷ []) fs) (sym flags) (set_more n c w.flags l h.set lit);
-  listed = λ k e. ap (λ (ls : List ℤ). contains ls k) items ∙ contains-push w.literals.items l k
-      ∙ elim (or_true (contains c k) (int_eq k l || false) (sym (contains-push c l k) ∙ e)) [
-        | inl there ↦ or_left (contains w.literals.items k) (int_eq k l || false) (h.listed k there)
-        | inr new ↦ or_right (contains w.literals.items k) (int_eq k l || false) new
-      ];
-  literals = ap (list_all (is_literal n)) items ∙ all_more (is_literal n) w.literals.items l h.literals lit;
-}
-
--- one that was in it
-pub work_kept : (n : ℕ) (c : List ℤ) (l : ℤ) (w : Work) → is_literal n l ≡ true → has_literal w.flags l ≡ true → IsWork n c w → IsWork n (c ++ l ∷ []) w
-work_kept n c l w lit up h =
-    let there : contains c l ≡ true = sym (h.set.told l lit) ∙ up in
-    work_same n c (c ++ l ∷ []) w (λ k. elim (cases_Bool (int_eq k l)) [
-      | inl same ↦
-          (let is : k ≡ l = (Decides-int_eq k l).0 same in
-          let here : contains c k ≡ true = ap (contains c) is ∙ there in
-          here ∙ sym (contains-push c l k ∙ or_left (contains c k) (int_eq k l || false) here))
-      | inr other ↦ nothing (contains c k) ∙ sym (contains-push c l k ∙ ap (λ (b : Bool). contains c k || (b || false)) other)
-    ]) h
-  where
-    nothing : (b : Bool) → b ≡ (b || (false || false))
-    nothing true = refl
-    nothing false = refl
 
 pub work_removed : (n : ℕ) (c : List ℤ) (l : ℤ) (w v : Work) → is_literal n l ≡ true → v.flags ≡ without_literal w.flags l → v.literals.items ≡ w.literals.items
     → IsWork n c w → IsWork n (without c l) v

@@ -1,24 +1,15 @@
 -- The flags of kept positions, and tests that agree.
 use Rattle.std.proofs.Common.{◌≡◌, ◌≢◌, ◌∙◌, ℕ, zero, suc, ◌+◌, ◌-◌, ◌<◌, ◌≤◌, Bool, true, false, ◌||◌, List, [], ◌∷◌, ◌++◌, length, get_or, take, refl, sym, ap, subst, arith, inl, inr, get_or-set_same, get_or-set_other}
-use Rattle.std.specs.Prelude.{find, replicate, slice_set, ◌==◌, nat_le}
+use Rattle.std.specs.Prelude.{find, slice_set, ◌==◌, nat_le}
 use Rattle.std.specs.List.{range_with_len}
 use Rattle.std.proofs.lemmas.Bool.{cases_eq, eq-eqb, ne_eqb, leb-true}
-use Rattle.std.proofs.lemmas.List.{get_or-replicate, length-replicate, length-set, take_more}
+use Rattle.std.proofs.lemmas.List.{length-set, take_more}
 use Rattle.std.proofs.lemmas.List.Folds.{list_any-append}
 use Rattle.lk_model.specs.Lists.{among, rises_within, up_to}
 use Rattle.lk_model.proofs.Booleans.{and_true}
 use Rattle.lk_model.proofs.Flags.{or_no, or_yes}
 use Rattle.lk_model.proofs.Rising.{rising_bounds}
 use Rattle.check_tables.specs.Flags.{AreKeptFlags}
-
--- no position is kept at first
-pub flags_none : (m : ℕ) (flags : List Bool) → flags ≡ replicate m false → AreKeptFlags m [] flags
-flags_none m flags e = record {
-  size = ap length e ∙ length-replicate m false;
-  told = λ p within.
-      let b = and_true (nat_le 1 p) (nat_le p m) within in
-      ap (λ (fs : List Bool). get_or fs (p - 1) false) e ∙ get_or-replicate m (p - 1) false false (omega (arith, leb-true 1 p b.0, leb-true p m b.1));
-}
 
 -- a position that rises with the others lies within
 pub kept_bounds : (m : ℕ) (kept : List ℕ) (i : ℕ) → rises_within 0 m kept ≡ true → i < length kept → (1 ≤ get_or kept i 0) × (get_or kept i 0 ≤ m)

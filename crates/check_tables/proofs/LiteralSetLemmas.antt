@@ -1,11 +1,11 @@
 -- Sets of literals that grow.
-use Rattle.std.proofs.Common.{◌≡◌, ◌≢◌, ℕ, zero, suc, ◌+◌, ◌*◌, ◌<◌, ◌≤◌, true, false, not, ◌&&◌, ◌||◌, List, [], ◌∷◌, ◌++◌, length, get_or, take, refl, sym, ◌∙◌, ap, subst, arith, ℤ, Bool, inl, inr, get_or-set_same, get_or-set_other}
-use Rattle.std.specs.Prelude.{replicate, slice_set}
+use Rattle.std.proofs.Common.{◌≡◌, ◌≢◌, ℕ, zero, suc, ◌+◌, ◌*◌, ◌<◌, true, false, not, ◌&&◌, ◌||◌, List, [], ◌∷◌, ◌++◌, length, get_or, take, refl, sym, ◌∙◌, ap, subst, arith, ℤ, Bool, inl, inr, get_or-set_same, get_or-set_other}
+use Rattle.std.specs.Prelude.{slice_set}
 use Rattle.std.specs.List.{list_all, All}
 use Rattle.std.specs.Ordering.{int_eq}
 use Rattle.std.proofs.lemmas.Bool.{cases_Bool}
 use Rattle.std.proofs.lemmas.Bool.Decides.{Decides-int_eq}
-use Rattle.std.proofs.lemmas.List.{get_or-replicate, length-replicate, length-set, take_more}
+use Rattle.std.proofs.lemmas.List.{length-set, take_more}
 use Rattle.lk_model.specs.Formulas.Literal.{contains, is_literal, rank_of}
 use Rattle.lk_model.proofs.Booleans.{and_true}
 use Rattle.lk_model.proofs.Ranks.{rank_apart, rank_small}
@@ -13,14 +13,6 @@ use Rattle.lk_model.proofs.Flags.{contains-push, or_no, or_yes}
 use Rattle.lk_model.specs.Chains.Chain.{without}
 use Rattle.lk_model.proofs.Literals.{literal_at, contains_filter}
 use Rattle.check_tables.specs.LiteralSets.{has_literal, with_literal, without_literal, less, IsSetOf}
-
--- a set without flags is empty
-pub set_none : (n : ℕ) → n ≤ 1000000 → IsSetOf n [] (replicate (2 * n + 2) false)
-set_none n small = record {
-  small = small;
-  size = length-replicate (2 * n + 2) false;
-  told = λ l lit. get_or-replicate (2 * n + 2) (rank_of l) false false (rank_small n l lit);
-}
 
 -- a literal's rank has a place
 pub rank_within : (n : ℕ) (l : ℤ) (flags : List Bool) → length flags ≡ 2 * n + 2 → is_literal n l ≡ true → rank_of l < length flags

@@ -1,12 +1,11 @@
 -- One clause more is counted.
-use Rattle.std.proofs.Common.{◌≡◌, ℕ, ◌+◌, ◌<◌, ◌≤◌, List, [], take, length, get_or, Bool, true, false, ℤ, refl, ap, add-one, arith}
+use Rattle.std.proofs.Common.{◌≡◌, ℕ, ◌+◌, ◌<◌, ◌≤◌, List, [], take, length, get_or, Bool, true, false, ℤ, refl, arith}
 use Rattle.std.specs.Prelude.{count_by}
 use Rattle.std.specs.Int.{from_bool}
 use Rattle.std.proofs.lemmas.List.{length-take}
 use Rattle.std.proofs.lemmas.List.Sums.{count_by-le-length, count_by_more_yes, count_by_more_no, sum_by_more}
 use Rattle.lk_model.specs.Lists.{is_empty}
 use Rattle.lk_model.specs.Formulas.Literal.{is_tautology}
-use Rattle.lk_model.specs.Formulas.Formula.{Cnf, clause_at}
 use Rattle.command_endings.specs.Commands.Reporting.{is_unit}
 use Rattle.command_endings.specs.Counting.{counts_of, with_clause}
 
@@ -24,10 +23,6 @@ counted cs i h =
     let units = one_more is_unit cs i h in
     let tautologies = one_more is_tautology cs i h in
     λ k. record { literals = literals k; empty = empty k; units = units k; tautologies = tautologies k }
-
--- the clause at the next position
-pub next_clause : (F : Cnf) (i : ℕ) → clause_at F (i + 1) ≡ get_or F.clauses i []
-next_clause F i = ap (clause_at F) (add-one i)
 
 -- no more are counted than there are
 pub few : (t : List ℤ → Bool) (cs : List (List ℤ)) (i : ℕ) → count_by t (take i cs) ≤ length cs

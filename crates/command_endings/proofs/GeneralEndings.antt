@@ -23,7 +23,7 @@ use Rattle.kernel_laws.specs.Protected.FoundLaw.{rest_of, open_written_for}
 use Rattle.kernel_laws.proofs.General.OpenResults.{open_result_law}
 use Rattle.kernel_laws.proofs.Protected.CheckLaws.{check_law}
 use Rattle.kernel_laws.proofs.Protected.Crossing.{same_count}
-use Rattle.kernel_laws.proofs.Protected.FoundLaws.{found_law}
+use Rattle.kernel_laws.proofs.Protected.FoundLaws.{found_law, limits_without as limits_left}
 use Rattle.kernel_laws.proofs.Protected.Parts.{run_law}
 use Rattle.round_laws.specs.Budgets.{AreWithinBudget, CanBeFinished}
 use Rattle.round_laws.proofs.RoundLaws.{round_law}
@@ -36,7 +36,6 @@ use Rattle.reductions.specs.declared.document.Found.{Found}
 use Rattle.reductions.specs.declared.problem.Problem.{Problem}
 use Rattle.command_endings.specs.declared.status.Status.{Status}
 use Rattle.command_endings.specs.declared.status.Status.TheVariants.{Done, Budget}
-use Rattle.reductions.proofs.Founds.{limits_left}
 use Rattle.reductions.proofs.Protecting.{line_form}
 
 -- WHERE ALL OF THE KERNEL IS FOUND

@@ -1,5 +1,6 @@
 -- The stops of inputs: of a formula's refusal, and of what comes while bytes are read.
-use Rattle.std.proofs.Common.{ℕ, Bool, List, Option, Some, None, sym, subst}
+use Rattle.std.proofs.Common.{ℕ, Bool, List, Option, Some, None}
+use Rattle.std.specs.Prelude.{IfSome}
 use Rattle.std.specs.Io.KnownBytes.{Consumes, IsAtEnd}
 use Rattle.dimacs_reader.specs.Faults.{IsRefusalOf, IsSettledAs}
 use Rattle.dimacs_reader.specs.declared.refusal.Refused.{Refused}
@@ -9,7 +10,7 @@ use Rattle.command_words.specs.declared.shape.Grammar.TheVariants.{Formula as Fo
 use Rattle.command_inputs.specs.Stops.{stop_of}
 use Rattle.command_inputs.specs.declared.stop.Stop.{Stop}
 use Rattle.command_inputs.specs.declared.stop.Stop.TheVariants.{Words, Formula, Document, Model, Answer, Edits, Read, Memory}
-use Rattle.command_inputs.proofs.Streams.{all_taken}
+use Rattle.command_inputs.proofs.Streams.{at_end, in_midst}
 
 -- what stops the bytes of a text stops a formula
 pub stops_reading : (told : Option (List ℕ)) (ailing : Bool) (s : Stop) → StopsText ailing s → StopsReading FormulaText nothing_known told ailing s
@@ -48,14 +49,14 @@ stop_untold ailing (refused.TooFewClauses line) = tt
 stop_untold ailing (refused.Limit line) = tt
 stop_untold ailing (refused.TooLong line) = tt
 
+stop_told : (told : Option (List ℕ)) (ailing : Bool) (r : Refused) → IfSome told (λ b. IsRefusalOf b r) → StopsReading FormulaText nothing_known told ailing (stop_of r)
+stop_told None ailing r h = stop_untold ailing r
+stop_told (Some bytes) ailing r h = stop_by bytes ailing r h
+
 -- a refusal of what was fed up to the end is that of the whole text
 pub stops_at_end : (before now : Option (List ℕ)) (fed : List ℕ) (ailing : Bool) (r : Refused) → Consumes before now fed → IsAtEnd now → IsRefusalOf fed r → StopsReading FormulaText nothing_known before ailing (stop_of r)
-stops_at_end None now fed ailing r p e h = stop_untold ailing r
-stops_at_end (Some a) None fed ailing r p e h = absurd p
-stops_at_end (Some a) (Some b) fed ailing r p e h = stop_by a ailing r (subst (λ (bytes : List ℕ). IsRefusalOf bytes r) (sym (all_taken a b fed p e)) h)
+stops_at_end before now fed ailing r p e h = stop_told before ailing r (at_end (λ b. IsRefusalOf b r) before now fed p e h)
 
 -- a refusal of what was fed that stays, is that of the whole text
 pub stops_in_midst : (before now : Option (List ℕ)) (fed : List ℕ) (ailing : Bool) (r : Refused) → Consumes before now fed → IsSettledAs fed r → StopsReading FormulaText nothing_known before ailing (stop_of r)
-stops_in_midst None now fed ailing r p h = stop_untold ailing r
-stops_in_midst (Some a) None fed ailing r p h = absurd p
-stops_in_midst (Some a) (Some b) fed ailing r p h = stop_by a ailing r (subst (λ (bytes : List ℕ). IsRefusalOf bytes r) (sym p) (h b))
+stops_in_midst before now fed ailing r p h = stop_told before ailing r (in_midst (λ b. IsRefusalOf b r) before now fed p h)

@@ -16,13 +16,14 @@ ghost use Rattle.command_words.specs.declared.shape.Grammar.TheVariants.{Formula
 
 use crate::stop::Stop;
 use answer_check::{Answer, answer_reader};
-use cert_text::{document_reader, read_model};
+use cert_text::document_reader;
 use dimacs_reader::Reader;
 use edit_text::{Edit, EditsReader};
 use line_pieces::PieceReader;
 use line_text::LineReader;
 use lk_model::{Document, Formula, List, ReadStop as TextStop};
 use lk_outside::Shelf;
+use model_text::ModelReader;
 use partial_assign::Partial;
 use std::alloc::Global;
 
@@ -156,8 +157,39 @@ pub fn read_values<H: Shelf>(
     ensures cause { HasCause (H.faults shelf.old) (H.faults shelf.new) (IsErrAnd result (λ s. s ≡ Stop.Read)) }
     ensures well { IsTrue (H.ailing shelf.new) → IsErrAnd result IsFailure }
 {
-    let text = read_text(alloc, shelf, name)?;
-    match read_model(alloc, text.as_slice(), formula.vars()) {
+    let mut piece = vec![in alloc; 0u8; PIECE]?;
+    start_text(shelf, name)?;
+    read_started_model(alloc, shelf, piece.as_mut_slice(), formula)
+}
+
+/// Reads what is left of the started text as a model, for the variables of a formula. Behind a line that is
+/// refused nothing more is read.
+fn read_started_model<H: Shelf>(
+    alloc: Global,
+    shelf: &mut H,
+    piece: &mut [u8],
+    formula: &Formula,
+) -> Result<Partial, Stop>
+    requires started { IsTrue (H.started shelf.old) }
+    requires room { 0 < length piece.old }
+    ensures told { TellsTheSame (H.told shelf.old) (H.told shelf.new) }
+    ensures model { IfOk result (IsModelRead (H.left shelf.old) formula.now) }
+    ensures stop { IfErr result (StopsReading ModelText formula.now (H.left shelf.old) (H.ailing shelf.new)) }
+    ensures current { H.current shelf.new ≡ H.current shelf.old }
+    ensures cause { HasCause (H.faults shelf.old) (H.faults shelf.new) (IsErrAnd result (λ s. s ≡ Stop.Read)) }
+    ensures well { IsTrue (H.ailing shelf.new) → IsErrAnd result IsFailure }
+{
+    let mut reader = ModelReader::new(alloc, formula.vars())?;
+    'pieces: loop {
+        let count = read_piece(shelf, piece)?;
+        if count == 0 {
+            break 'pieces;
+        }
+        if let Err(stop) = reader.feed(&piece[..count]) {
+            return Err(Stop::of_model(stop));
+        }
+    }
+    match reader.finish() {
         Ok(model) => Ok(model),
         Err(stop) => Err(Stop::of_model(stop)),
     }
@@ -347,40 +379,4 @@ fn read_started_lines<H: Shelf, R: LineReader + Drop>(
         }
     }
     Ok(pieces.finish())
-}
-
-/// Reads the bytes under a name, up to their end.
-fn read_text<H: Shelf>(alloc: Global, shelf: &mut H, name: &str) -> Result<Vec<u8>, Stop>
-    ensures told { TellsTheSame (H.told shelf.old) (H.told shelf.new) }
-    ensures text { IfOk result (λ text. IfSome (H.told shelf.old name.now) (λ bytes. text.items ≡ bytes)) }
-    ensures stop { IfErr result (StopsText (H.ailing shelf.new)) }
-    ensures current { IsErrAnd result (λ s. s ≡ Stop.Read) → H.current shelf.new ≡ Some name.now }
-    ensures cause { HasCause (H.faults shelf.old) (H.faults shelf.new) (IsErrAnd result (λ s. s ≡ Stop.Read)) }
-    ensures well { IsTrue (H.ailing shelf.new) → IsErrAnd result IsFailure }
-{
-    let mut piece = vec![in alloc; 0u8; PIECE]?;
-    start_text(shelf, name)?;
-    keep_started(alloc, shelf, piece.as_mut_slice())
-}
-
-/// Keeps what is left of the started text.
-fn keep_started<H: Shelf>(alloc: Global, shelf: &mut H, piece: &mut [u8]) -> Result<Vec<u8>, Stop>
-    requires started { IsTrue (H.started shelf.old) }
-    requires room { 0 < length piece.old }
-    ensures told { TellsTheSame (H.told shelf.old) (H.told shelf.new) }
-    ensures text { IfOk result (λ text. IfSome (H.left shelf.old) (λ bytes. text.items ≡ bytes)) }
-    ensures stop { IfErr result (StopsText (H.ailing shelf.new)) }
-    ensures current { H.current shelf.new ≡ H.current shelf.old }
-    ensures cause { HasCause (H.faults shelf.old) (H.faults shelf.new) (IsErrAnd result (λ s. s ≡ Stop.Read)) }
-    ensures well { IsTrue (H.ailing shelf.new) → IsErrAnd result IsFailure }
-{
-    let mut text = Vec::new(alloc);
-    'pieces: loop {
-        let count = read_piece(shelf, piece)?;
-        if count == 0 {
-            break 'pieces;
-        }
-        text.extend_from_slice(&piece[..count])?;
-    }
-    Ok(text)
 }

@@ -8,7 +8,7 @@ use Rattle.std.proofs.lemmas.Slice.Eq.{bytes_eq-Decides}
 use Rattle.lk_model.specs.Texts.Lines.{Word}
 use Rattle.lk_model.specs.Texts.NumberWords.{natural}
 use Rattle.lk_model.proofs.Booleans.{and_true, or_true}
-use Rattle.command_words.specs.Settings.{Key, conflicts, workers, is_in_range, is_number_of, is_value_of, is_allowed, sets, parts_of, number_within, value_behind, number_in}
+use Rattle.command_words.specs.Settings.{Key, conflicts, is_in_range, is_number_of, is_value_of, is_allowed, sets, parts_of, number_within, value_behind, number_in}
 use Rattle.command_words.specs.OptionRows.{number_or, number_given}
 use Rattle.command_words.specs.OptionPlaces.{is_new, is_value}
 use Rattle.command_words.specs.declared.range.Range.{Range}
@@ -124,9 +124,3 @@ conflicts_fit o =
     let low = r.0 in
     let high = r.1 in
     (omega (arith, low), omega (arith, high))
-
-pub workers_fit : (o : Option Word) → (0 < number_or workers 1 o) × (number_or workers 1 o ≤ 64)
-workers_fit o =
-    let r = in_range workers 1 o (omega arith) (omega arith) in
-    let low = r.0 in
-    (omega (arith, low), r.1)

@@ -1,5 +1,5 @@
 -- The checks of a core, one kind after another.
-use Rattle.std.proofs.Common.{◌≡◌, ◌∙◌, ℕ, List, [], ◌∷◌, refl, sym, ap, Option, Some, None}
+use Rattle.std.proofs.Common.{◌≡◌, ◌∙◌, ℕ, List, [], ◌∷◌, sym, ap, Option, Some}
 use Rattle.std.specs.Option.{option_map_or}
 use Rattle.lk_model.specs.Formulas.Formula.{Cnf}
 use Rattle.lk_model.specs.Formulas.Crossed.{no_variable}
@@ -20,9 +20,6 @@ why_of kind place = record { kind = kind; place = place }
 pub fails_here : (c : Check) (cs : List Check) (o : Option ℕ) (p : ℕ) → o ≡ Some p → o ≡ c.place → Some (why_of c.kind p) ≡ first_of (c ∷ cs)
 fails_here c cs o p is e = sym (ap (λ (q : Option ℕ). option_map_or (λ place. Some (why_of c.kind place)) q (first_of cs)) (sym e ∙ is))
 
-pub fails_later : (c : Check) (cs : List Check) (o : Option ℕ) → o ≡ None → o ≡ c.place → first_of cs ≡ first_of (c ∷ cs)
-fails_later c cs o is e = sym (ap (λ (q : Option ℕ). option_map_or (λ place. Some (why_of c.kind place)) q (first_of cs)) (sym e ∙ is))
-
 -- THE KINDS
 
 pub clause_here : (F : Cnf) (a : MusAnswer) (o : Option ℕ) (p : ℕ) → o ≡ Some p → o ≡ (core_clause F a).place → Some (why_of KeptClause p) ≡ first_failure_of_core F a
@@ -35,16 +32,7 @@ unfolding bad_step
 step_here F a core o p same is e =
     fails_here (bad_step no_variable F a.core (a.round ∷ [])) (bad_without F a.core a.without ∷ []) o p is (e ∙ ap (λ (ps : List ℕ). (bad_step no_variable F ps (a.round ∷ [])).place) same)
 
-pub step_later : (F : Cnf) (a : MusAnswer) (core : List ℕ) (o : Option ℕ) → core ≡ a.core → o ≡ None → o ≡ (bad_step no_variable F core (a.round ∷ [])).place
-    → first_of (bad_without F a.core a.without ∷ []) ≡ first_of (bad_step no_variable F a.core (a.round ∷ []) ∷ bad_without F a.core a.without ∷ [])
-step_later F a core o same is e =
-    fails_later (bad_step no_variable F a.core (a.round ∷ [])) (bad_without F a.core a.without ∷ []) o is (e ∙ ap (λ (ps : List ℕ). (bad_step no_variable F ps (a.round ∷ [])).place) same)
-
 pub without_here : (F : Cnf) (a : MusAnswer) (core : List ℕ) (ws : List Without) (o : Option ℕ) (p : ℕ) → core ≡ a.core → ws ≡ a.without → o ≡ Some p → o ≡ (bad_without F core ws).place
     → Some (why_of BadWithout p) ≡ first_of (bad_without F a.core a.without ∷ [])
 unfolding bad_without
 without_here F a core ws o p same these is e = fails_here (bad_without F a.core a.without) [] o p is (e ∙ (λ i. (bad_without F (same i) (these i)).place))
-
-pub without_none : (F : Cnf) (a : MusAnswer) (core : List ℕ) (ws : List Without) (o : Option ℕ) → core ≡ a.core → ws ≡ a.without → o ≡ None → o ≡ (bad_without F core ws).place
-    → None ≡ first_of (bad_without F a.core a.without ∷ [])
-without_none F a core ws o same these is e = fails_later (bad_without F a.core a.without) [] o is (e ∙ (λ i. (bad_without F (same i) (these i)).place))

@@ -15,10 +15,10 @@ use Rattle.lk_model.specs.declared.document.MusAnswer.{MusAnswer}
 use Rattle.lk_model.proofs.Booleans.{and_true, or_true}
 use Rattle.lk_model.proofs.Founds.{none_found, same_itself, line_of}
 use Rattle.lk_model.proofs.Lists.{among_at, among_here, among_later}
-use Rattle.lk_model.proofs.Rising.{rises, bounded}
+use Rattle.lk_model.proofs.Rising.{rises, bounded, beside}
 use Rattle.kernel_laws.proofs.Lines.{none_among}
 use Rattle.kernel_laws.proofs.Protected.Commons.{same_list}
-use Rattle.core_check.proofs.CoreClauses.{is_changed, beside, core_clause_is}
+use Rattle.core_check.proofs.CoreClauses.{is_changed, core_clause_is}
 use Rattle.core_check.proofs.CoreWitnesses.{is_bad, bad_without_is}
 
 -- THE CLAUSES

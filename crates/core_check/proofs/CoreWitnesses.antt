@@ -1,12 +1,12 @@
 -- The literals for each position of a core, by a set that holds them.
-use Rattle.std.proofs.Common.{◌≡◌, ◌≢◌, ◌∙◌, ℕ, zero, suc, ◌+◌, ◌<◌, ◌≤◌, Bool, true, false, not, ◌||◌, List, [], ◌∷◌, ◌++◌, length, get_or, map, take, refl, sym, ap, subst, arith, ℤ, Option, Some, None}
+use Rattle.std.proofs.Common.{◌≡◌, ◌≢◌, ◌∙◌, ℕ, zero, suc, ◌+◌, ◌<◌, Bool, true, false, not, ◌||◌, List, [], ◌∷◌, length, get_or, take, refl, sym, ap, arith, ℤ, Option, Some}
 use Rattle.std.specs.Prelude.{◌==◌, find}
 use Rattle.std.specs.Option.{option_map_or}
 use Rattle.std.specs.List.{list_all, list_any}
-use Rattle.std.proofs.lemmas.Bool.{and_from, eq-eqb, eqb-true, ne_eqb, lt-ltb, le-leb}
+use Rattle.std.proofs.lemmas.Bool.{eqb-true, ne_eqb}
 use Rattle.std.proofs.lemmas.List.{take_more}
 use Rattle.lk_model.specs.Lists.{rises_within}
-use Rattle.lk_model.specs.Formulas.Literal.{variable, contains, is_literal, is_clause, is_distinct}
+use Rattle.lk_model.specs.Formulas.Literal.{is_literal}
 use Rattle.lk_model.specs.Formulas.Formula.{Cnf, clause_at, is_formula}
 use Rattle.lk_model.specs.Formulas.Assignment.{assignment_of, makes_true, satisfies}
 use Rattle.lk_model.specs.Documents.CoreText.{are_for, is_without}
@@ -16,23 +16,11 @@ use Rattle.lk_model.proofs.Booleans.{and_true}
 use Rattle.lk_model.proofs.Clauses.{form_at}
 use Rattle.lk_model.proofs.ListTests.{all_at, all_more}
 use Rattle.lk_model.proofs.Rising.{rises, rising_bounds}
+use Rattle.lk_model.proofs.Literals.{clause_literals}
 use Rattle.kernel_laws.proofs.ApartLiterals.{AreApart, true_is, rising_apart}
 use Rattle.check_tables.specs.LiteralSets.{has_literal, IsSetOf}
 
 -- LITERALS
-
--- literals whose variables rise are literals
-pub rising_literals : (low n : ℕ) (ls : List ℤ) → rises_within low n (map variable ls) ≡ true → list_all (is_literal n) ls ≡ true
-rising_literals low n [] up = refl
-rising_literals low n (l ∷ ls) up =
-    let r = rises low n (variable l) (map variable ls) up in
-    and_from (is_literal n l) (list_all (is_literal n) ls)
-    (and_from _ _ (le-leb 1 (variable l) (omega (arith, r.above))) (le-leb (variable l) n r.within))
-    (rising_literals (variable l) n ls r.more)
-
--- the literals of a clause are literals
-pub clause_literals : (n : ℕ) (c : List ℤ) → is_clause n c ≡ true → list_all (is_literal n) c ≡ true
-clause_literals n c h = (and_true (list_all (is_literal n) c) (is_distinct c) h).0
 
 -- a clause has a literal of the set exactly where the literals satisfy it
 hit : (n : ℕ) (ls : List ℤ) (flags : List Bool) → AreApart ls → IsSetOf n ls flags → (c : List ℤ) → list_all (is_literal n) c ≡ true → list_any (has_literal flags) c ≡ satisfies (assignment_of ls) c

@@ -21,19 +21,18 @@ use Rattle.lk_model.proofs.Booleans.{and_true}
 use Rattle.lk_model.proofs.Rising.{rising_bounds, rising_count}
 use Rattle.line_text.specs.DraftReading.{run}
 use Rattle.line_text.specs.FieldLists.{rising_from}
-use Rattle.line_text.proofs.CleanNumbers.{clean_cons, clean_ended, clean_literals, clean_number, clean_numbers, lines_append, lines_cons, lines_map}
+use Rattle.line_text.proofs.CleanNumbers.{clean_cons, clean_ended, clean_literals, clean_number, clean_numbers, lines_append, lines_cons, lines_map, clean_formula}
 use Rattle.line_text.proofs.CleanWords.{is_clean_line, are_clean}
 use Rattle.line_text.proofs.DraftReads.{RunsTo}
 use Rattle.line_text.proofs.ListForms.{rising_back}
+use Rattle.line_text.proofs.Words.{after_ended}
 use Rattle.round_text.specs.RoundLines.{fresh_rounds, next_step, is_round, rounds_next}
 use Rattle.round_text.specs.declared.read_rounds.RoundsPart.{RoundsPart}
 use Rattle.round_text.proofs.CleanRounds.{clean_round}
-use Rattle.core_text.proofs.OneRounds.{numbered_from_first}
-use Rattle.round_text.proofs.RoundRuns.{rounds_run, open_at, shut_at, whole_run}
+use Rattle.round_text.proofs.RoundRuns.{rounds_run, open_at, shut_at, whole_run, numbered_from_first}
 use Rattle.formula_text.specs.FormulaLines.{problem_line, next_clause}
 use Rattle.formula_text.proofs.ClauseForms.{clauses_run, formula_with, clauses_back}
-use Rattle.formula_text.proofs.CleanFormulas.{clean_formula}
-use Rattle.formula_text.proofs.SizeForms.{after_ended, sizes_are, problem_is}
+use Rattle.formula_text.proofs.SizeForms.{sizes_are, problem_is}
 use Rattle.core_text.specs.CoreDrafts.{format_line, size_line, fresh_core, with_rounds, without_within, next_without, next_problem, next_draft, last_round, core_by, is_core_of, core_drafts}
 use Rattle.core_text.specs.declared.draft.CoreDraft.{CoreDraft}
 use Rattle.core_text.specs.declared.draft.LineDue.TheVariants.{Sizes, Positions, Steps, Witnesses, Clauses}

@@ -11,7 +11,6 @@ use Rattle.lk_model.specs.Documents.CoreText.{is_without, core_line, without_lin
 use Rattle.lk_model.specs.declared.document.Without.{Without}
 use Rattle.line_text.specs.Fields.{after}
 use Rattle.line_text.specs.FieldLists.{rising_from}
-use Rattle.line_text.proofs.LastOnes.{tested_more}
 use Rattle.line_text.proofs.ListForms.{rising_form}
 use Rattle.line_text.proofs.Options.{MapSome, map_some, then_some}
 use Rattle.line_text.proofs.Words.{after_form}
@@ -28,6 +27,7 @@ use Rattle.core_text.specs.declared.draft.LineDue.{LineDue}
 use Rattle.core_text.specs.declared.draft.LineDue.TheVariants.{Format, Sizes, Positions, Steps, Witnesses, Clauses}
 use Rattle.core_text.proofs.LineForms.{format_form, without_form}
 use Rattle.core_text.proofs.DraftForms.{positions, due_at, AreFirst, for_all, Facts, AtSteps, AtWitnesses, AtClauses, early, IsDraftAt}
+use Rattle.lk_model.proofs.ListTests.{all_more as tested_more}
 
 -- a next draft is in form, of the same formula, and has one line more
 pub record IsStep (d e : CoreDraft) (before : List (List Word)) (words : List Word) : Type 0 where

@@ -1,44 +1,26 @@
 -- Texts with one round: it is open, or it has ended.
-use Rattle.std.proofs.Common.{◌≡◌, ℕ, ◌+◌, ◌<◌, ◌∙◌, Bool, true, false, cond, ◌&&◌, ◌==◌, List, [], ◌∷◌, ◌++◌, map, refl, sym, ap, subst, arith, Some, None}
+use Rattle.std.proofs.Common.{◌≡◌, ℕ, ◌<◌, ◌∙◌, Bool, true, false, cond, ◌&&◌, List, [], ◌∷◌, ◌++◌, refl, sym, ap, subst, Some, None}
 use Rattle.std.specs.List.{list_all, flat_map}
-use Rattle.std.proofs.lemmas.Bool.{eqb-true}
 use Rattle.std.proofs.lemmas.List.{append-nil}
 use Rattle.std.proofs.lemmas.Option.{cond_some}
 use Rattle.lk_model.specs.Lists.{is_empty}
 use Rattle.lk_model.specs.Texts.Lines.{Word}
 use Rattle.lk_model.specs.Documents.Text.{round_lines}
 use Rattle.lk_model.specs.Documents.Documents.{steps_of}
-use Rattle.lk_model.specs.Documents.Form.{counts_from, is_step, are_steps, ends_at_empty, is_whole}
+use Rattle.lk_model.specs.Documents.Form.{are_steps, ends_at_empty, is_whole}
 use Rattle.lk_model.specs.declared.document.Step.{Step}
 use Rattle.lk_model.specs.declared.document.Round.{Round}
 use Rattle.lk_model.proofs.Booleans.{and_true}
 use Rattle.line_text.proofs.Options.{map_some}
 use Rattle.round_text.specs.declared.read_rounds.RoundsPart.{RoundsPart}
 use Rattle.round_text.specs.RoundLines.{round_of, rounds_lines, closed, with_step, put_step, next_step, is_round, rounds_next}
-use Rattle.round_text.proofs.RoundForms.{step_parts}
 use Rattle.round_text.proofs.RoundParts.{IsRounds}
 use Rattle.round_text.proofs.RoundEnds.{closing, shut_rounds}
-use Rattle.round_text.proofs.RoundRuns.{AreNumbered}
+use Rattle.round_text.proofs.RoundRuns.{some_clauses}
 
 -- NUMBERED FROM THE FIRST STEP ON
 
-pub numbered_from_first : (n m : ℕ) (steps : List Step) → are_steps n m steps ≡ true → AreNumbered n m 0 steps
-numbered_from_first n m steps h =
-    let both = and_true (counts_from (m + 1) (map (λ (x : Step). x.number) steps)) (list_all (is_step n) steps) h in
-    let zero_more : m + 1 + 0 ≡ m + 1 = omega arith in
-    record { counts = ap (λ (j : ℕ). counts_from j (map (λ (x : Step). x.number) steps)) zero_more ∙ both.0; forms = both.1 }
-
--- a chain over no clauses has no first clause
-pub some_clauses : (n m : ℕ) (steps others : List Step) → ends_at_empty steps ≡ true → are_steps n m (steps ++ others) ≡ true → 0 < m
-some_clauses n m [] others e h = absurd (let f : ⊥ = cc in f)
-some_clauses n m (s ∷ steps) others e h =
-    let both = and_true (counts_from (m + 1) (map (λ (x : Step). x.number) (s ∷ (steps ++ others)))) (list_all (is_step n) (s ∷ (steps ++ others))) h in
-    let number = eqb-true s.number (m + 1) (and_true (s.number == m + 1) (counts_from (m + 1 + 1) (map (λ (x : Step). x.number) (steps ++ others))) both.0).0 in
-    let form = (and_true (is_step n s) (list_all (is_step n) (steps ++ others)) both.1).0 in
-    let range = (step_parts n s form).first in
-    omega (arith, range.least, range.most, number)
-
--- so a round in form is over some clauses
+-- a round in form is over some clauses
 pub over_some : (n m : ℕ) (steps : List Step) → are_steps n m steps ≡ true → ends_at_empty steps ≡ true → 0 < m
 over_some n m steps h e = some_clauses n m steps [] e (ap (are_steps n m) (append-nil steps) ∙ h)
 

@@ -1,12 +1,13 @@
 -- Words and lines, one byte after the other.
-use Rattle.std.proofs.Common.{◌≡◌, ℕ, ◌+◌, ◌-◌, ◌<◌, ◌∙◌, Bool, true, false, not, cond, ◌&&◌, List, [], ◌∷◌, ◌++◌, length, refl, ap, arith, inl, inr}
+use Rattle.std.proofs.Common.{◌≡◌, ℕ, ◌+◌, ◌-◌, ◌<◌, ◌∙◌, Bool, true, false, not, cond, ◌&&◌, List, [], ◌∷◌, ◌++◌, length, refl, ap, arith}
 use Rattle.std.specs.Prelude.{filter}
 use Rattle.std.specs.List.{slice_split, onto_first}
-use Rattle.std.proofs.lemmas.Bool.{cases_Bool}
 use Rattle.std.proofs.lemmas.List.Splits.{slice_split_at, slice_split_none, slice_split-cons_yes}
 use Rattle.lk_model.specs.Lists.{is_empty}
 use Rattle.lk_model.specs.Texts.Lines.{Piece, Word, is_blank, placed_after, words_of, texts}
 use Rattle.lk_model.proofs.ListTests.{none_pass}
+use Rattle.lk_model.proofs.Lists.{not_empty}
+use Rattle.lk_model.proofs.Pieces.{texts_placed, texts_filter}
 use Rattle.dimacs_reader.specs.Contents.{words_in, words_after, has_no_blank}
 use Rattle.dimacs_reader.proofs.NumberLemmas.{split_part, HasPart}
 
@@ -19,10 +20,6 @@ words_among pieces = filter (λ word. not (is_empty word.bytes)) pieces
 
 pub moved_words : (m n : ℕ) (bytes : List ℕ) → m ≡ n → words_after m bytes ≡ words_after n bytes
 moved_words m n bytes e = ap (λ (k : ℕ). words_after k bytes) e
-
-pub not_empty : (xs : List ℕ) → 0 < length xs → is_empty xs ≡ false
-not_empty [] h = absurd (omega (arith, h))
-not_empty (x ∷ xs) h = refl
 
 -- CUTS
 
@@ -69,17 +66,6 @@ pub words_of_line : (before : ℕ) (line : List ℕ) → words_of (piece line (b
 words_of_line before line = moved_words (before + length line - length line) before line (omega arith)
 
 -- WORDS WITHOUT THEIR PLACES
-
-pub texts_placed : (n : ℕ) (parts : List (List ℕ)) → texts (placed_after n parts) ≡ parts
-texts_placed n [] = refl
-texts_placed n (part ∷ parts) = ap (λ ps. part ∷ ps) (texts_placed (n + length part + 1) parts)
-
-texts_filter : (p : List ℕ → Bool) (pieces : List Piece) → texts (filter (λ piece. p piece.bytes) pieces) ≡ filter p (texts pieces)
-texts_filter p [] = refl
-texts_filter p (x ∷ xs) = elim (cases_Bool (p x.bytes)) [
-  | inl e ↦ rw e (ap (λ ps. x.bytes ∷ ps) (texts_filter p xs))
-  | inr e ↦ rw e (texts_filter p xs)
-]
 
 pub words_texts : (n : ℕ) (bytes : List ℕ) → texts (words_after n bytes) ≡ words_in bytes
 words_texts n bytes =

@@ -1,21 +1,16 @@
 -- Digits, and one more.
-use Rattle.std.proofs.Common.{◌≡◌, ◌==◌, ℕ, ◌+◌, ◌-◌, ◌*◌, ◌^◌, ◌<◌, ◌≤◌, ◌∙◌, min, Bool, true, false, not, cond, ◌&&◌, List, [], ◌∷◌, ◌++◌, length, Some, None, refl, ap, arith, inl, inr, length-append}
+use Rattle.std.proofs.Common.{◌≡◌, ◌==◌, ℕ, ◌+◌, ◌-◌, ◌*◌, ◌^◌, ◌<◌, ◌≤◌, ◌∙◌, min, Bool, true, false, not, cond, ◌&&◌, List, [], ◌∷◌, ◌++◌, length, Some, None, refl, ap, arith, length-append}
 use Rattle.std.specs.Char.{is_ascii_digit}
 use Rattle.std.specs.List.{list_all}
-use Rattle.std.proofs.lemmas.Bool.{cases_Bool, and_from, eqb-true, leb-true, le-leb}
+use Rattle.std.proofs.lemmas.Bool.{and_from, le-leb, ne_eqb as not_equal}
 use Rattle.std.proofs.lemmas.List.Folds.{list_all-append}
 use Rattle.std.proofs.lemmas.List.Sums.{fold_push}
 use Rattle.lk_model.specs.Texts.Lines.{is_blank}
 use Rattle.lk_model.specs.Texts.NumberWords.{digits_value, natural}
 use Rattle.lk_model.proofs.Booleans.{and_true}
+use Rattle.lk_model.proofs.Spellings.{digit_range}
 use Rattle.dimacs_reader.specs.Contents.{has_no_blank}
 use Rattle.dimacs_reader.specs.Words.{AreDigits}
-
-pub digit_range : (d : ℕ) → is_ascii_digit d ≡ true → (48 ≤ d) × (d ≤ 57)
-digit_range d h = let both = and_true _ _ h in (leb-true 48 d both.0, leb-true d 57 both.1)
-
-pub not_equal : (x y : ℕ) → (x ≡ y → ⊥) → (x == y) ≡ false
-not_equal x y ne = elim (cases_Bool (x == y)) [ inl t ↦ absurd (ne (eqb-true x y t)) | inr t ↦ t ]
 
 -- a digit is no blank
 digit_no_blank : (d : ℕ) → is_ascii_digit d ≡ true → is_blank d ≡ false

@@ -4,7 +4,7 @@ use Rattle.std.specs.Prelude.{codes}
 use Rattle.std.specs.Str.{bytes_eq}
 use Rattle.std.specs.Option.{option_zip}
 use Rattle.std.specs.Char.{is_ascii_digit}
-use Rattle.std.proofs.lemmas.Bool.{and_from, lt-ltb}
+use Rattle.std.proofs.lemmas.Bool.{and_from, lt-ltb, ne_eqb as not_equal}
 use Rattle.std.proofs.lemmas.List.{append-nil}
 use Rattle.std.proofs.lemmas.List.Folds.{list_all-append}
 use Rattle.lk_model.specs.Limits.{max_vars, max_clauses}
@@ -18,7 +18,7 @@ use Rattle.dimacs_reader.specs.ProblemLines.{BeginsAs, IsLineSoFar, problem_line
 use Rattle.dimacs_reader.specs.declared.problem.ProblemLine.{ProblemLine}
 use Rattle.dimacs_reader.specs.declared.problem.ProblemLine.TheVariants.{P, BehindP, C, Cn, Cnf, BehindCnf, Vars, BehindVars, Clauses, BehindClauses, Other}
 use Rattle.dimacs_reader.proofs.Cuts.{blank_before, word_before, one_word, grows}
-use Rattle.dimacs_reader.proofs.Digits.{not_equal, digits_no_blank, digits_more, one_digit, natural_is, natural_wrong}
+use Rattle.dimacs_reader.proofs.Digits.{digits_no_blank, digits_more, one_digit, natural_is, natural_wrong}
 
 -- BYTES BEHIND
 

@@ -11,8 +11,9 @@ use Rattle.lk_model.specs.Texts.Lines.{Piece, Word, is_newline, lines_of, words_
 use Rattle.lk_model.specs.Texts.NumberWords.{number}
 use Rattle.lk_model.specs.Texts.Dimacs.{Spells, first_byte, is_blank_line, is_comment, is_end_mark, content_lines, stated_by}
 use Rattle.dimacs_reader.specs.Contents.{words_in, first_of, is_end, is_content, content_of, IsWritten}
-use Rattle.dimacs_reader.proofs.Cuts.{texts_placed, words_texts}
+use Rattle.dimacs_reader.proofs.Cuts.{words_texts}
 use Rattle.dimacs_reader.proofs.OutcomeLaws.{content_line, with_line}
+use Rattle.lk_model.proofs.Pieces.{texts_placed}
 
 -- PIECES BY THEIR BYTES
 

@@ -1,4 +1,7 @@
-//! Reading, byte by byte.
+//! Reading formulas, byte by byte.
+//!
+//! A text is before the end of its problem line, or behind it, and each byte moves it on. So it may come in any pieces, of
+//! which nothing but a number that has not ended is kept, and a fault is known at its byte.
 ghost use Rattle.std.specs.Prelude.{◌≡◌, ◌<◌, ◌≤◌, ◌+◌, ◌∷◌, [], ◌++◌, ℕ, List, length, OnOk, IfOk, IfErr, count_by};
 ghost use Rattle.lk_model.specs.Limits.{max_bytes};
 ghost use Rattle.lk_model.specs.Texts.Lines.{is_newline};

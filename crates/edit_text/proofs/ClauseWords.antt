@@ -1,14 +1,14 @@
 -- The words of a clause, one after the other.
-use Rattle.std.proofs.Common.{◌≡◌, ◌∙◌, ℕ, zero, suc, Bool, true, false, ◌&&◌, cond, List, [], ◌∷◌, ◌++◌, refl, sym, ap, append_assoc, ℤ, pos, negsuc, Option, Some, None, arith}
+use Rattle.std.proofs.Common.{◌≡◌, ◌∙◌, ℕ, Bool, true, false, ◌&&◌, cond, List, [], ◌∷◌, ◌++◌, refl, sym, ap, append_assoc, ℤ, Option, Some, None}
 use Rattle.std.specs.Prelude.{filter_map, nat_le}
 use Rattle.std.specs.List.{list_any, list_all}
 use Rattle.std.specs.Option.{option_map_or}
-use Rattle.std.proofs.lemmas.Bool.{and_from, le-leb}
+use Rattle.std.proofs.lemmas.Bool.{and_from}
 use Rattle.std.proofs.lemmas.List.{append-nil}
 use Rattle.std.proofs.lemmas.List.Elements.{filter_map-append}
 use Rattle.std.proofs.lemmas.List.Folds.{list_all-append, list_any-append}
 use Rattle.lk_model.specs.Lists.{is_empty, is_zero}
-use Rattle.lk_model.specs.Formulas.Literal.{variable, is_literal}
+use Rattle.lk_model.specs.Formulas.Literal.{variable}
 use Rattle.lk_model.specs.Texts.Lines.{Word}
 use Rattle.lk_model.specs.Texts.Dimacs.{without_repeats}
 use Rattle.lk_model.specs.Texts.ModelText.{is_model_number, ends_at_zero, literals_among}
@@ -69,17 +69,6 @@ is_number n word x h = rw (h.some, h.small) refl
 one_number : (n : ℕ) (word : Word) (x : ℤ) → IsNumber n (number word) x → filter_map number (word ∷ []) ≡ x ∷ []
 one_number n word x h = rw h.some refl
 
--- a literal of the variables
-pub entry_literal : (n : ℕ) (o : Option ℤ) (l : ℤ) → Literal l ≡ entry_of n o → is_literal n l ≡ true
-entry_literal n o l e =
-    let is = literal_is n o l e in
-    and_from (nat_le 1 (variable l)) (nat_le (variable l) n) (some_variable l is.1) is.0.small
-  where
-    some_variable : (x : ℤ) → is_zero x ≡ false → nat_le 1 (variable x) ≡ true
-    some_variable (pos zero) z = absurd (let f : ⊥ = cc in f)
-    some_variable (pos (suc v)) z = le-leb 1 (suc v) (omega arith)
-    some_variable (negsuc k) z = le-leb 1 (suc k) (omega arith)
-
 -- WORDS IN A ROW
 
 -- some of the words are literals, and these words are left
@@ -89,9 +78,6 @@ pub record AreRead (n : ℕ) (words rest : List Word) (literals : List ℤ) : Ty
   pub numbers : list_all (is_model_number n) done ≡ true
   pub not_closed : list_any is_zero (filter_map number done) ≡ false
   pub literals_are : literals ≡ without_repeats (literals_among (filter_map number done))
-
-pub none_read : (n : ℕ) (words : List Word) → AreRead n words words []
-none_read n words = record { done = []; parts = refl; numbers = refl; not_closed = refl; literals_are = refl }
 
 numbers_more : (a b : List Word) → filter_map number (a ++ b) ≡ filter_map number a ++ filter_map number b
 numbers_more a b = filter_map-append number a b

@@ -38,12 +38,6 @@ clause_more F k literals clause lt so_far is =
     let same : clause ≡ get_or F.clauses k [] = is ∙ ap (clause_at F) place in
     omega (arith, so_far, ap length same, sum_at F.clauses k lt)
 
-pub sum_take : (cs : List (List ℤ)) (i : ℕ) → sum_by length (take i cs) ≤ sum_by length cs
-sum_take [] zero = omega arith
-sum_take [] (suc i) = omega arith
-sum_take (c ∷ cs) zero = omega arith
-sum_take (c ∷ cs) (suc i) = omega (arith, sum_take cs i, sum_by-cons length c cs, sum_by-cons length c (take i cs))
-
 -- LIVE CLAUSES
 
 -- at first all are live

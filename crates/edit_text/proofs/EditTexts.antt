@@ -8,14 +8,15 @@ use Rattle.std.specs.Str.{bytes_eq}
 use Rattle.std.proofs.lemmas.Bool.{and_from, le-leb, ltb-false}
 use Rattle.lk_model.specs.Lists.{is_zero}
 use Rattle.lk_model.specs.Limits.{max_bytes}
-use Rattle.lk_model.specs.Formulas.Literal.{variable, contains, is_literal, is_distinct}
+use Rattle.lk_model.specs.Formulas.Literal.{variable, is_literal, is_distinct}
 use Rattle.lk_model.specs.Formulas.Formula.{Cnf}
 use Rattle.lk_model.specs.Texts.Lines.{Word, line_number}
 use Rattle.lk_model.specs.Texts.Dimacs.{without_repeats}
 use Rattle.lk_model.specs.Texts.ModelText.{word_lines, is_model_number, ends_at_zero, literals_among}
 use Rattle.lk_model.specs.Texts.NumberWords.{number, natural}
 use Rattle.lk_model.proofs.Booleans.{and_true}
-use Rattle.lk_model.proofs.Literals.{contains_filter, int_self}
+use Rattle.lk_model.proofs.Literals.{once_distinct}
+use Rattle.lk_model.proofs.ListTests.{all_left as filter_literals}
 use Rattle.edit_text.specs.LiveClauses.{LiveClauses, live_of}
 use Rattle.edit_text.specs.Edits.{CanBeMade, is_edit_over, after_all}
 use Rattle.edit_text.specs.EditText.{IsEdits, IsFaultyAt, added, removed, edit_by, edit_in, edits_in, faults, is_closed, unless_faulty, fault_by, is_passed, line_fault, live_behind, line_faults}
@@ -30,42 +31,11 @@ use Rattle.edit_text.proofs.TextLines.{vars_behind, live_more, faults_behind, fa
 
 -- CLAUSES THAT WORDS WRITE
 
--- without some literals
-filter_literals : (t p : ℤ → Bool) (c : List ℤ) → list_all t c ≡ true → list_all t (filter p c) ≡ true
-filter_literals t p [] h = refl
-filter_literals t p (l ∷ c) h = let both = and_true (t l) (list_all t c) h in by_test (p l) refl both.0 (filter_literals t p c both.1)
-  where
-    by_test : (b : Bool) → p l ≡ b → t l ≡ true → list_all t (filter p c) ≡ true → list_all t (filter p (l ∷ c)) ≡ true
-    by_test true e first rest = rw e (and_from (t l) (list_all t (filter p c)) first rest)
-    by_test false e first rest = rw e rest
-
-filter_distinct : (p : ℤ → Bool) (c : List ℤ) → is_distinct c ≡ true → is_distinct (filter p c) ≡ true
-filter_distinct p [] h = refl
-filter_distinct p (l ∷ c) h = let both = and_true (not (contains c l)) (is_distinct c) h in by_test (p l) refl both.0 (filter_distinct p c both.1)
-  where
-    absent : (a b : Bool) → not b ≡ true → not (a && b) ≡ true
-    absent true b h = h
-    absent false b h = refl
-
-    by_test : (b : Bool) → p l ≡ b → not (contains c l) ≡ true → is_distinct (filter p c) ≡ true → is_distinct (filter p (l ∷ c)) ≡ true
-    by_test true e first rest =
-        let out = ap not (contains_filter p c l) ∙ absent (p l) (contains c l) first in
-        rw e (and_from (not (contains (filter p c) l)) (is_distinct (filter p c)) out rest)
-    by_test false e first rest = rw e rest
-
 once_literals : (t : ℤ → Bool) (ls : List ℤ) → list_all t ls ≡ true → list_all t (without_repeats ls) ≡ true
 once_literals t [] h = refl
 once_literals t (l ∷ ls) h =
     let p = and_true (t l) (list_all t ls) h in
     and_from (t l) (list_all t (filter (λ k. not (int_eq l k)) (without_repeats ls))) p.0 (filter_literals t (λ k. not (int_eq l k)) (without_repeats ls) (once_literals t ls p.1))
-
-once_distinct : (ls : List ℤ) → is_distinct (without_repeats ls) ≡ true
-once_distinct [] = refl
-once_distinct (l ∷ ls) =
-    let others : ℤ → Bool = λ k. not (int_eq l k) in
-    let absent : contains (filter others (without_repeats ls)) l ≡ false = contains_filter others (without_repeats ls) l ∙ ap (λ (b : Bool). not b && contains (without_repeats ls) l) (int_self l) in
-    and_from (not (contains (filter others (without_repeats ls)) l)) (is_distinct (filter others (without_repeats ls))) (ap not absent)
-    (filter_distinct others (without_repeats ls) (once_distinct ls))
 
 -- numbers up to n without the zeros are literals
 nonzero_literal : (n : ℕ) (x : ℤ) → nat_le (variable x) n ≡ true → is_zero x ≡ false → is_literal n x ≡ true

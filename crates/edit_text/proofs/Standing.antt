@@ -12,6 +12,7 @@ use Rattle.lk_text.specs.Cutting.{is_one_line}
 use Rattle.model_text.specs.ModelTexts.{words_in}
 use Rattle.lk_model.proofs.ListTests.{all_more}
 use Rattle.model_text.proofs.Numbers.{fails}
+use Rattle.model_text.proofs.Lines.{line_ended, line_last}
 use Rattle.edit_text.specs.LiveClauses.{LiveClauses, live_of}
 use Rattle.edit_text.specs.Edits.{CanBeMade, after_all}
 use Rattle.edit_text.proofs.EditTexts.{lines_made}
@@ -24,24 +25,11 @@ use Rattle.edit_text.specs.declared.draft.Draft.{Draft}
 use Rattle.edit_text.specs.declared.refusal.EditsRefused.{EditsRefused}
 use Rattle.edit_text.specs.declared.progress.OpenLine.{OpenLine}
 use Rattle.edit_text.specs.declared.progress.Progress.{Progress}
-use Rattle.edit_text.proofs.TextLines.{line_ended, line_last, edits_more, live_more, faults_behind, none_more, first_more}
+use Rattle.edit_text.proofs.TextLines.{edits_more, live_more, faults_behind, none_more, first_more}
 
 -- one byte more, before what comes behind it
 behind_byte : (fed more : List ℕ) (b : ℕ) → (fed ++ b ∷ []) ++ more ≡ fed ++ b ∷ more
 behind_byte fed more b = append_assoc fed (b ∷ []) more
-
--- the open line goes on
-pub line_longer : (F : Cnf) (fed : List ℕ) (line b : ℕ) (open_line next : OpenLine) → StandsInLine F fed line open_line → next.draft ≡ open_line.draft
-    → next.bytes.items ≡ open_line.bytes.items ++ b ∷ [] → StandsInLine F (fed ++ b ∷ []) line next
-line_longer F fed line b open_line next s draft bytes = record {
-  before = s.before;
-  count = s.count;
-  fine = s.fine;
-  tells = subst (Tells (live_behind F s.before) (edits_in F.vars s.before)) (sym draft) s.tells;
-  goes_on = λ more.
-      ap word_lines (behind_byte fed more b) ∙ s.goes_on (b ∷ more)
-      ∙ ap (λ (bs : List ℕ). s.before ++ word_lines bs) (sym (behind_byte open_line.bytes.items more b) ∙ ap (λ (bs : List ℕ). bs ++ more) (sym bytes));
-}
 
 -- the lines where the open line ends here
 ended_lines : (F : Cnf) (fed more : List ℕ) (line : ℕ) (open_line : OpenLine) → (s : StandsInLine F fed line open_line) → is_one_line open_line.bytes.items ≡ true
@@ -91,12 +79,6 @@ sound_longer open_line next b other s draft bytes = record {
   draft = subst IsSoundDraft (sym draft) s.draft;
   one_line = ap is_one_line bytes ∙ all_more (λ k. not (is_newline k)) open_line.bytes.items b s.one_line (ap not (not_newline b other));
 }
-
-pub byte_more : (F : Cnf) (fed : List ℕ) (line b : ℕ) (open_line next : OpenLine) → b ≢ 10 → StandsInLine F fed line open_line → next.draft ≡ open_line.draft
-    → next.bytes.items ≡ open_line.bytes.items ++ b ∷ [] → StandsInLine F (fed ++ b ∷ []) (line_behind line b) next
-byte_more F fed line b open_line next other s draft bytes =
-    subst (λ (k : ℕ). StandsInLine F (fed ++ b ∷ []) k next) (sym (ap (λ (t : Bool). cond t (line + 1) line) (not_newline b other)))
-    (line_longer F fed line b open_line next s draft bytes)
 
 pub end_fine : (F : Cnf) (fed : List ℕ) (line b : ℕ) (open_line next : OpenLine) → b ≡ 10 → is_one_line open_line.bytes.items ≡ true → (s : StandsInLine F fed line open_line)
     → TakesLine (live_behind F s.before) (edits_in F.vars s.before) (words_in open_line.bytes.items) None next.draft → next.bytes.items ≡ []

@@ -1,19 +1,12 @@
--- The lines of a text of edits, and their faults.
-use Rattle.std.proofs.Common.{◌≡◌, ◌⊎◌, ◌∙◌, ℕ, ◌+◌, true, List, [], ◌∷◌, ◌++◌, length, map, refl, sym, ap, append_assoc, Option, Some, None, inl, inr, arith}
+-- What is live behind the lines of a text of edits, and their faults.
+use Rattle.std.proofs.Common.{◌≡◌, ◌∙◌, ℕ, ◌+◌, List, [], ◌∷◌, ◌++◌, length, refl, sym, ap, append_assoc, Option, Some, None}
 use Rattle.std.specs.Prelude.{filter_map}
-use Rattle.std.specs.List.{slice_split}
 use Rattle.std.specs.Option.{option_to_list}
 use Rattle.std.proofs.lemmas.List.{append-nil}
 use Rattle.std.proofs.lemmas.List.Elements.{filter_map-append}
-use Rattle.std.proofs.lemmas.List.Splits.{slice_split_at, slice_split_none}
 use Rattle.lk_model.specs.Lists.{with_earlier}
 use Rattle.lk_model.specs.Formulas.Formula.{Cnf}
-use Rattle.lk_model.specs.Texts.Lines.{Word, is_newline}
-use Rattle.lk_model.specs.Texts.ModelText.{word_lines}
-use Rattle.lk_model.proofs.ListTests.{none_pass}
-use Rattle.lk_text.specs.Cutting.{is_one_line}
-use Rattle.model_text.specs.ModelTexts.{words_in}
-use Rattle.model_text.proofs.Lines.{none_before, lines_from}
+use Rattle.lk_model.specs.Texts.Lines.{Word}
 use Rattle.edit_text.specs.LiveClauses.{LiveClauses, live_of}
 use Rattle.edit_text.specs.Edits.{after, after_all}
 use Rattle.edit_text.specs.EditText.{edit_in, edits_in, line_fault, live_behind, fault_behind, line_faults}
@@ -21,28 +14,6 @@ use Rattle.edit_text.specs.Fed.{line_edits}
 use Rattle.edit_text.specs.declared.edit.Edit.{Edit}
 use Rattle.edit_text.specs.declared.edit.Edit.TheVariants.{Add, Remove}
 use Rattle.edit_text.specs.declared.edit.EditFault.{EditFault}
-
--- LINES
-
-lines_are : (text : List ℕ) → word_lines text ≡ map words_in (slice_split is_newline text)
-lines_are text = from_start text (none_before text).rest (none_before text).parts (none_before text).left
-  where
-    from_start : (bytes : List ℕ) (rest : List (List Word)) → word_lines bytes ≡ rest → (rest ≡ lines_from bytes 0) ⊎ ((rest ≡ []) × (0 ≡ length bytes))
-        → word_lines bytes ≡ map words_in (slice_split is_newline bytes)
-    from_start bytes rest parts (inl e) = parts ∙ e
-    from_start [] rest parts (inr e) = absurd (let none : word_lines [] ≡ [] = parts ∙ e.0 in let f : ⊥ = cc in f)
-    from_start (b ∷ bs) rest parts (inr e) = absurd (let size = e.1 in omega (arith, size))
-
--- a line that its byte 10 ends
-pub line_ended : (line more : List ℕ) → is_one_line line ≡ true → word_lines (line ++ 10 ∷ more) ≡ words_in line ∷ word_lines more
-line_ended line more h =
-    lines_are (line ++ 10 ∷ more)
-    ∙ ap (map words_in) (slice_split_at is_newline line 10 more (none_pass is_newline line h) refl)
-    ∙ ap (λ (ls : List (List Word)). words_in line ∷ ls) (sym (lines_are more))
-
--- the last line
-pub line_last : (line : List ℕ) → is_one_line line ≡ true → word_lines line ≡ words_in line ∷ []
-line_last line h = lines_are line ∙ ap (map words_in) (slice_split_none is_newline line (none_pass is_newline line h))
 
 -- WHAT IS LIVE BEHIND LINES
 

@@ -1,5 +1,5 @@
 -- Rows that are cleared one after another.
-use Rattle.std.proofs.Common.{◌≡◌, ℕ, zero, suc, ◌+◌, ◌<◌, ◌≤◌, List, [], ◌∷◌, ◌++◌, take, drop, set, length, get_or, Some, None, ℤ, refl, sym, ap, ◌∙◌, arith, drop-cons}
+use Rattle.std.proofs.Common.{◌≡◌, ℕ, suc, ◌+◌, ◌<◌, ◌≤◌, List, [], ◌++◌, take, drop, set, length, get_or, Some, None, ℤ, refl, sym, ap, ◌∙◌, arith, drop-cons}
 use Rattle.std.proofs.lemmas.List.{drop_all}
 use Rattle.std.specs.Option.{option_or}
 use Rattle.lk_model.specs.Linear.Arithmetic.{first_wide}
@@ -7,28 +7,11 @@ use Rattle.lk_model.specs.Linear.Rows.{Row}
 use Rattle.lk_model.specs.Linear.Pivot.{made_to_clear}
 use Rattle.lk_model.specs.declared.wide.Wide.{Wide}
 use Rattle.exact_rows.proofs.Wides.{first_wide-append}
+use Rattle.exact_rows.proofs.Quotients.{written, unwritten}
 use Rattle.exact_rows.specs.Sparse.{IsStop}
 use Rattle.exact_rows.specs.declared.sparse.SparseStop.{SparseStop}
 use Rattle.exact_rows.specs.declared.sparse.SparseStop.TheVariants as stops
 use Rattle.exact_pivot.specs.Moves.{made_to_clear_all}
-
-written : {X : Type 0} (zs xs : List X) (i : ℕ) (d : X) → length zs ≡ length xs → i < length xs
-    → set (take i zs ++ drop i xs) i (get_or zs i d) ≡ take (i + 1) zs ++ drop (i + 1) xs
-written [] [] i d e h = absurd (omega arith)
-written [] (x ∷ xs) i d e h = absurd (omega arith)
-written (z ∷ zs) [] i d e h = absurd (omega arith)
-written (z ∷ zs) (x ∷ xs) zero d e h = refl
-written (z ∷ zs) (x ∷ xs) (suc i) d e h =
-    let more : suc i + 1 ≡ suc (i + 1) = omega arith in
-    rw more (ap (λ ys. z ∷ ys) (written zs xs i d (omega arith) (omega arith)))
-
-pub unwritten : {X : Type 0} (zs xs : List X) (i : ℕ) (d : X) → length zs ≡ length xs → i < length xs
-    → get_or (take i zs ++ drop i xs) i d ≡ get_or xs i d
-unwritten [] [] i d e h = absurd (omega arith)
-unwritten [] (x ∷ xs) i d e h = absurd (omega arith)
-unwritten (z ∷ zs) [] i d e h = absurd (omega arith)
-unwritten (z ∷ zs) (x ∷ xs) zero d e h = refl
-unwritten (z ∷ zs) (x ∷ xs) (suc i) d e h = unwritten zs xs i d (omega arith) (omega arith)
 
 pub step_cleared : (zs xs rows : List Row) (i : ℕ) (y d : Row) → length zs ≡ length xs → i < length xs → rows ≡ take i zs ++ drop i xs
     → (get_or rows i d ≡ get_or xs i d → y ≡ get_or zs i d) → set rows i y ≡ take (i + 1) zs ++ drop (i + 1) xs

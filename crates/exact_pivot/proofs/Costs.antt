@@ -13,7 +13,7 @@ use Rattle.lk_model.specs.Linear.Rows.{Row, entry, less_column}
 use Rattle.lk_model.proofs.Rising.{rises}
 use Rattle.exact_rows.specs.declared.sparse.Entry.{Entry}
 use Rattle.exact_rows.specs.Sparse.{AreEntries, entries_of, number_in, row_of}
-use Rattle.exact_rows.proofs.Entries.{columns_of, number_before, number_is, row_of_entries}
+use Rattle.exact_rows.proofs.Entries.{columns_of, number_before, number_is, row_of_entries, number_first as number_here}
 use Rattle.exact_rows.specs.Made.{AreInRange}
 use Rattle.exact_pivot.specs.Small.{AreSmall, cost_of}
 use Rattle.exact_pivot.proofs.Pivots.{map_range, map_places}
@@ -49,9 +49,6 @@ pub entry_at : (f : ℕ → ℤ) (n k : ℕ) → 0 < k → k ≤ n → entry (ma
 entry_at f n k some most = get_or-map-range_with_len f 1 n (k - 1) k (pos 0) (omega (arith, some, most)) (omega (arith, some))
 
 -- ONE ROW
-
-number_here : (e : Entry) (es : List Entry) (k : ℕ) → e.column ≡ k → number_in (e ∷ es) k ≡ e.value
-number_here e es k h = grind (arith, nat_tests, h)
 
 number_other : (e : Entry) (es : List Entry) (k : ℕ) → e.column ≢ k → number_in (e ∷ es) k ≡ number_in es k
 number_other e es k h = grind (arith, nat_tests, h)

@@ -44,12 +44,6 @@ join_wide k rows i d l q w all h at g m e =
     let start : map (denominator k) (drop i rows) ≡ q ∷ map (denominator k) (drop (suc i) rows) = ap (map (denominator k)) (drop-cons rows i d h) ∙ ap (λ x. x ∷ map (denominator k) (drop (suc i) rows)) (sym f) in
     made-err Product (reduced l q) q (made_in_lcm (reduced l q *ℤ q) (map (denominator k) (drop (suc i) rows))) w m ∙ ap (λ qs. first_wide (made_in_lcm l qs)) (sym start) ∙ e
 
--- behind the last row
-pub join_end : (k : ℕ) (rows : List Row) (i : ℕ) (l all : ℤ) → length rows ≤ i → lcm_from l (map (denominator k) (drop i rows)) ≡ all → l ≡ all
-join_end k rows i l all h e =
-    let last : lcm_from l (map (denominator k) (drop i rows)) ≡ l = ap (λ rs. lcm_from l (map (denominator k) rs)) (drop_all i rows h) in
-    sym last ∙ e
-
 -- what is made behind the last row
 pub join_made_end : (k : ℕ) (rows : List Row) (i : ℕ) (l : ℤ) (all : Option Wide) → length rows ≤ i → first_wide (made_in_lcm l (map (denominator k) (drop i rows))) ≡ all → None ≡ all
 unfolding first_wide

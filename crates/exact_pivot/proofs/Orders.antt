@@ -1,9 +1,6 @@
 -- The order of rows by quotient and basic column.
-use Rattle.std.proofs.Common.{◌≡◌, ℕ, ◌*◌, ◌<◌, ◌≤◌, ◌⊎◌, inl, inr, Bool, true, false, cond, ◌&&◌, ◌||◌, sym, ap, arith}
+use Rattle.std.proofs.Common.{◌≡◌, ℕ, ◌*◌, ◌<◌, ◌≤◌, ◌⊎◌, inl, inr, sym, ap, arith}
 use Rattle.std.proofs.Math.Nat.{mul-lt-mul_of_pos_right, le_of_mul-le-mul_right, lt_of_mul-lt-mul_right}
-use Rattle.std.specs.declared.cmp.Ordering.{Ordering}
-use Rattle.std.specs.declared.cmp.Ordering.TheVariants.{Less, Equal, Greater}
-use Rattle.std.specs.Ordering.{is_eq}
 
 -- the second of two fractions is less, or they are equal and its mark is less
 abbrev pub Before : ℕ → ℕ → ℕ → ℕ → ℕ → ℕ → Type 0
@@ -38,14 +35,3 @@ module _ (h a b i c d j e f : ℕ) (pa : 0 < a) (pc : 0 < c) (pe : 0 < e) where
 pub before_asym : (h a b i c d : ℕ) → Before h a b i c d → NotBefore i c d h a b
 before_asym h a b i c d (inl x) = inl x
 before_asym h a b i c d (inr (x, y)) = inr (sym x, omega arith)
-
--- what the answer of a comparison decides, and then a second test
-abbrev pub by_order : Ordering → Bool → Bool
-by_order Less q = true
-by_order Equal q = q
-by_order Greater q = false
-
-pub order_decides : (x y q : Bool) (r : Ordering) → r ≡ cond x Less (cond y Greater Equal) → by_order r q ≡ (x || (is_eq (cond x Less (cond y Greater Equal)) && q))
-order_decides true y q r e = ap (λ o. by_order o q) e
-order_decides false true q r e = ap (λ o. by_order o q) e
-order_decides false false q r e = ap (λ o. by_order o q) e

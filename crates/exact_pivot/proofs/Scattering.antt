@@ -11,8 +11,8 @@ use Rattle.lk_model.specs.Formulas.Literal.{variable, complement, contains, is_l
 use Rattle.lk_model.specs.Formulas.Formula.{Cnf, clause_at}
 use Rattle.lk_model.specs.Formulas.Balance.{incidence}
 use Rattle.lk_model.proofs.Booleans.{and_true}
-use Rattle.lk_model.proofs.Flags.{contains-push, same_false}
-use Rattle.lk_model.proofs.Literals.{int_self, literal_at, new_at, variable_negative}
+use Rattle.lk_model.proofs.Flags.{contains-push, same_false, push_other as contains_other, contains_here}
+use Rattle.lk_model.proofs.Literals.{literal_at, new_at, variable_negative}
 use Rattle.lk_model.proofs.Ranks.{literal_bounds}
 use Rattle.lk_model.proofs.Rising.{rises}
 use Rattle.exact_rows.specs.declared.sparse.Entry.{Entry}
@@ -67,22 +67,9 @@ last_within xs = (let most = column_most 0 (0 + length xs) (entries_of xs) (leng
 
 -- ONE CLAUSE
 
-apart : (k l : ℤ) → variable k ≢ variable l → int_eq k l ≡ false
-apart k l h = same_false k l (λ e. h (ap variable e))
-
 or_false : (b d : Bool) → d ≡ false → (b || (d || false)) ≡ b
 or_false true d e = refl
 or_false false d e = rw e refl
-
-or_true : (b d : Bool) → d ≡ true → (b || (d || false)) ≡ true
-or_true true d e = refl
-or_true false d e = rw e refl
-
-contains_other : (xs : List ℤ) (l k : ℤ) → variable k ≢ variable l → contains (xs ++ l ∷ []) k ≡ contains xs k
-contains_other xs l k h = contains-push xs l k ∙ or_false (contains xs k) (int_eq k l) (apart k l h)
-
-contains_here : (xs : List ℤ) (l : ℤ) → contains (xs ++ l ∷ []) l ≡ true
-contains_here xs l = contains-push xs l l ∙ or_true (contains xs l) (int_eq l l) (int_self l)
 
 pub incidence_other : (xs : List ℤ) (l : ℤ) (v : ℕ) → v ≢ variable l → incidence (xs ++ l ∷ []) v ≡ incidence xs v
 incidence_other xs l v h =

@@ -14,10 +14,11 @@ use Rattle.lk_model.specs.Formulas.Balance.{incidence}
 use Rattle.lk_model.specs.Linear.Rows.{lack, sign_of, start_row}
 use Rattle.lk_model.proofs.Founds.{filtered_rise}
 use Rattle.lk_model.proofs.Rising.{rises, rising_bounds}
+use Rattle.lk_model.proofs.ListTests.{zero_is as zero_from}
 use Rattle.exact_rows.specs.declared.sparse.Entry.{Entry}
 use Rattle.exact_rows.specs.Made.{AreInRange}
 use Rattle.exact_rows.specs.Sparse.{AreEntries, entries_of, row_of}
-use Rattle.exact_rows.proofs.Entries.{entries_behind, are_entries, row_of_entries, map_twice, zero_from}
+use Rattle.exact_rows.proofs.Entries.{entries_behind, are_entries, row_of_entries, map_twice}
 use Rattle.exact_pivot.specs.Small.{AreSmall, AreSmallEntries}
 use Rattle.exact_pivot.specs.Scattered.{with_number, entries_in, lack_of, sign_at, times_sign, start_entries}
 use Rattle.exact_pivot.proofs.Wholes.{one_mul}

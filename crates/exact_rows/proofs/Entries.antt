@@ -10,6 +10,7 @@ use Rattle.lk_model.specs.Linear.Rows.{entry}
 use Rattle.std.proofs.lemmas.List.FromFn.{get_or-map-range_with_len, length-map-range_with_len}
 use Rattle.std.proofs.lemmas.List.{get_or_past}
 use Rattle.lk_model.proofs.Rising.{rises, rises_from}
+use Rattle.lk_model.proofs.ListTests.{zero_is as zero_from}
 use Rattle.exact_rows.specs.declared.sparse.Entry.{Entry}
 use Rattle.exact_rows.specs.Made.{AreInRange}
 use Rattle.exact_rows.specs.Sparse.{AreEntries, IsEntry, entries_of, number_in, row_of, turned}
@@ -39,12 +40,6 @@ without_first e es low (suc n) h =
     let here : number_in (e ∷ es) (low + 1) ≡ number_in es (low + 1) = grind (arith, nat_tests) in
     let later = without_first e es (low + 1) n (omega (arith, h)) in
     λ i. here i ∷ later i
-
--- a number that is not told from 0
-pub zero_from : (x : ℤ) → is_nonzero x ≡ false → x ≡ pos 0
-zero_from (pos zero) h = refl
-zero_from (pos (suc n)) h = absurd (grind (arith, nat_tests))
-zero_from (negsuc n) h = absurd (grind (arith, nat_tests))
 
 pub nonzero_is : (x : ℤ) → x ≢ pos 0 → is_nonzero x ≡ true
 nonzero_is (pos zero) h = absurd (h refl)
@@ -187,7 +182,7 @@ turned-nonzero (pos zero) h = h
 turned-nonzero (pos (suc n)) h = grind (arith, nat_tests)
 turned-nonzero (negsuc n) h = grind (arith, nat_tests)
 
-turned-in_range : (x : ℤ) → is_in_range x ≡ true → is_in_range (neg_ℤ x) ≡ true
+pub turned-in_range : (x : ℤ) → is_in_range x ≡ true → is_in_range (neg_ℤ x) ≡ true
 turned-in_range (pos zero) h = h
 turned-in_range (pos (suc n)) h = h
 turned-in_range (negsuc n) h = h

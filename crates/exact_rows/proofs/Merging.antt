@@ -3,14 +3,14 @@ use Rattle.std.proofs.Common.{◌≡◌, ◌≢◌, ℕ, zero, suc, ◌+◌, ◌
 use Rattle.std.proofs.lemmas.Bool.Decides.{nat_tests}
 use Rattle.std.proofs.lemmas.Bool.{cases_lt, lt-ltb, le-leb}
 use Rattle.std.proofs.lemmas.Int.{ints}
-use Rattle.std.proofs.lemmas.List.Elements.{All-nil, All-push}
+use Rattle.std.proofs.lemmas.List.Elements.{All-push}
 use Rattle.std.specs.List.{All, range_with_len}
 use Rattle.std.specs.Option.{option_or}
 use Rattle.lk_model.specs.Limits.{is_in_range}
 use Rattle.lk_model.specs.Lists.{is_nonzero, rises_within}
 use Rattle.lk_model.specs.Linear.Arithmetic.{first_wide}
 use Rattle.lk_model.specs.declared.wide.Wide.{Wide}
-use Rattle.lk_model.proofs.Rising.{rises, rises_from}
+use Rattle.lk_model.proofs.Rising.{rises, rises_from, rises_to}
 use Rattle.exact_rows.specs.declared.sparse.Entry.{Entry}
 use Rattle.exact_rows.specs.Made.{made_at, made_by, mixed}
 use Rattle.exact_rows.specs.Sparse.{AreEntries, IsEntry, number_in, row_of}
@@ -25,12 +25,6 @@ again : (low mid high : ℕ) (e : Entry) (es : List Entry) → rises_within low 
 again low mid high e es r h =
     let s = rises low high e.column (columns_of es) r in
     rw (lt-ltb mid e.column h, le-leb e.column high s.within, s.more) refl
-
-rises_to : (low high end : ℕ) (ks : List ℕ) → rises_within low high ks ≡ true → high ≤ end → rises_within low end ks ≡ true
-rises_to low high end [] r h = refl
-rises_to low high end (k ∷ ks) r h =
-    let s = rises low high k ks r in
-    rw (lt-ltb low k s.above, le-leb k end (omega (arith, s.within, h)), rises_to k high end ks s.more h) refl
 
 rises_push : (low b : ℕ) (es : List Entry) (e : Entry) → rises_within low b (columns_of es) ≡ true → low ≤ b → e.column ≡ b + 1 → rises_within low (b + 1) (columns_of (es ++ e ∷ [])) ≡ true
 rises_push low b [] e r h same = rw (lt-ltb low e.column (omega (arith, h, same)), le-leb e.column (b + 1) (omega (arith, same))) refl
@@ -169,19 +163,6 @@ pub record Merged (n c : ℕ) (s t : ℤ) (row other left right out : List Entry
   pub in_range : (k : ℕ) → 0 < k → k ≤ c → first_wide (made_at s t (number_in row k) (number_in other k)) ≡ None
   pub out_same : (k : ℕ) → 0 < k → k ≤ c → number_in out k ≡ s *ℤ number_in row k -ℤ t *ℤ number_in other k
 
-pub begun : (n : ℕ) (s t : ℤ) (row other : List Entry) → AreEntries n row → AreEntries n other → Merged n 0 s t row other row other []
-begun n s t row other h k = record {
-  width = omega arith;
-  left_rise = h.rise;
-  right_rise = k.rise;
-  left_same = λ i _. refl;
-  right_same = λ i _. refl;
-  out_rise = refl;
-  out_each = All-nil IsEntry;
-  in_range = λ i some most. absurd (omega (arith, some, most));
-  out_same = λ i some most. absurd (omega (arith, some, most));
-}
-
 times_zero : (s : ℤ) → s *ℤ pos 0 ≡ pos 0
 times_zero s = omega (arith, ints)
 
@@ -204,7 +185,7 @@ skipped n c b s t row other left right out h k l r m =
       right_rise = r;
       left_same = λ i above. m.left_same i (omega (arith, h, above));
       right_same = λ i above. m.right_same i (omega (arith, h, above));
-      out_rise = rises_to 0 c b (columns_of out) m.out_rise h;
+      out_rise = rises_to 0 c b (columns_of out) h m.out_rise;
       out_each = m.out_each;
       in_range = λ i some most. elim (cases_lt c i) [
         | inl above ↦ zeros_in_range s t (number_in row i) (number_in other i) (none_left i above most) (none_right i above most)
@@ -256,7 +237,7 @@ module _ (n b : ℕ) (s t : ℤ) (row other left right out : List Entry) (m : Me
       → z ≡ s *ℤ first_number left (b + 1) -ℤ t *ℤ first_number right (b + 1) → z ≡ pos 0
       → Merged n (b + 1) s t row other (past left (b + 1)) (past right (b + 1)) out
   stepped-zero z h none value is_zero =
-      stepped z out h none value (rises_to 0 b (b + 1) (columns_of out) m.out_rise (omega arith)) m.out_each (number_past 0 b out (b + 1) m.out_rise (omega arith) ∙ sym is_zero) (λ k _ _. refl)
+      stepped z out h none value (rises_to 0 b (b + 1) (columns_of out) (omega arith) m.out_rise) m.out_each (number_past 0 b out (b + 1) m.out_rise (omega arith) ∙ sym is_zero) (λ k _ _. refl)
 
   pub stepped-push : (z : ℤ) → b < n → first_wide (made_at s t (first_number left (b + 1)) (first_number right (b + 1))) ≡ None
       → z ≡ s *ℤ first_number left (b + 1) -ℤ t *ℤ first_number right (b + 1) → IsTrue (is_nonzero z) → IsTrue (is_in_range z)

@@ -1,5 +1,5 @@
 -- Clause lines: what they lead to, one after another.
-use Rattle.std.proofs.Common.{◌≡◌, ℕ, zero, suc, ◌+◌, ◌-◌, ◌≤◌, ◌∙◌, Bool, true, false, cond, List, [], ◌∷◌, ◌++◌, map, length, replicate, refl, sym, ap, subst, arith, ℤ, Option, Some, None, append_assoc, length-append, nat_le, nat_lt, sum_by}
+use Rattle.std.proofs.Common.{◌≡◌, ℕ, ◌+◌, ◌-◌, ◌≤◌, ◌∙◌, Bool, true, false, cond, List, [], ◌∷◌, ◌++◌, map, length, replicate, refl, sym, ap, subst, arith, ℤ, Option, Some, None, append_assoc, length-append, nat_le, nat_lt, sum_by}
 use Rattle.std.specs.Prelude.{option_and_then}
 use Rattle.std.specs.List.{list_all}
 use Rattle.std.proofs.lemmas.Bool.{and_from, le-leb, lt-ltb, leb-true, ltb-true}
@@ -13,6 +13,7 @@ use Rattle.lk_model.specs.Texts.Lines.{Word}
 use Rattle.lk_model.specs.Texts.PlainText.{literal_words}
 use Rattle.lk_model.proofs.Booleans.{and_true}
 use Rattle.lk_model.proofs.Cuts.{formula_push}
+use Rattle.lk_model.proofs.Clauses.{empty_clauses as all_clauses, no_literals}
 use Rattle.line_text.specs.FieldLists.{clause_from}
 use Rattle.line_text.proofs.ListForms.{clause_form, clause_back}
 use Rattle.line_text.proofs.Options.{ThenSome, then_some}
@@ -82,14 +83,6 @@ clauses_back n count cs (c ∷ ds) few h room fits =
     ∙ ap (λ (xs : List (List ℤ)). Some (formula_with n xs)) joined
 
 -- WHAT MAY STILL COME
-
-all_clauses : (n k : ℕ) → list_all (is_clause n) (replicate k []) ≡ true
-all_clauses n zero = refl
-all_clauses n (suc k) = all_clauses n k
-
-no_literals : (k : ℕ) → sum_by length (replicate {A = List ℤ} k []) ≡ 0
-no_literals zero = refl
-no_literals (suc k) = omega (arith, sum_by-cons {X = List ℤ} length [] (replicate k []), no_literals k)
 
 -- an empty clause for each clause line that is to come
 abbrev pub missing : ℕ → List (List ℤ) → List (List ℤ)

@@ -1,4 +1,2 @@
-pub mod WrittenLines
 pub mod SizeForms
 pub mod ClauseForms
-pub mod CleanFormulas

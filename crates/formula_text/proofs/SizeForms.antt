@@ -2,22 +2,15 @@
 use Rattle.std.proofs.Common.{◌≡◌, ℕ, ◌≤◌, ◌∙◌, true, false, ◌&&◌, ◌==◌, List, [], ◌∷◌, refl, ap, arith, Option, Some, None}
 use Rattle.std.specs.Prelude.{option_and_then, codes}
 use Rattle.std.specs.Option.{option_map_or}
-use Rattle.std.specs.Str.{bytes_eq}
 use Rattle.std.proofs.lemmas.Bool.{and_from, eq-eqb, eqb-true}
 use Rattle.lk_model.specs.Limits.{max_vars, max_clauses}
 use Rattle.lk_model.specs.Texts.Lines.{Word}
-use Rattle.lk_model.specs.Texts.PlainText.{ended, number_words}
-use Rattle.lk_model.specs.Documents.Text.{comment}
+use Rattle.lk_model.specs.Texts.PlainText.{number_words}
 use Rattle.lk_model.proofs.Booleans.{and_true}
 use Rattle.line_text.specs.Fields.{after, two_within}
 use Rattle.line_text.proofs.NumberForms.{two_form, two_back}
-use Rattle.line_text.proofs.Words.{after_form, after_first}
+use Rattle.line_text.proofs.Words.{after_form}
 use Rattle.formula_text.specs.FormulaLines.{has_sizes, problem_line, is_problem}
-
--- words behind a keyword that are closed by 0
-pub after_ended : (keyword : Word) (words : List Word) → bytes_eq keyword keyword ≡ true → after (codes "c") keyword (comment keyword (ended words)) ≡ Some (ended words)
-after_ended keyword [] e = rw e refl
-after_ended keyword (word ∷ words) e = rw e refl
 
 -- a line of sizes is spelled so
 pub sizes_form : (first second : Word) (n count : ℕ) (words : List Word) → has_sizes first second n count words ≡ true → words ≡ first ∷ second ∷ number_words (n ∷ count ∷ [])
@@ -55,9 +48,3 @@ problem_form n count words e = sizes_form (codes "p") (codes "cnf") n count word
 
 pub problem_is : (n count : ℕ) → n ≤ 1000000 → count ≤ 4000000 → is_problem n count (problem_line n count) ≡ true
 problem_is n count few small = sizes_are (codes "p") (codes "cnf") n count refl few small
-
--- a comment is no problem line
-pub not_problem : (n count : ℕ) (words : List Word) → is_problem n count (codes "c" ∷ words) ≡ false
-not_problem n count words =
-    ap (λ (o : Option (List Word)). option_map_or (λ (h : ℕ × ℕ). h.0 == n && h.1 == count) (option_and_then (two_within max_vars max_clauses) o) false)
-    (after_first (codes "c") (codes "p") (codes "cnf") words refl)

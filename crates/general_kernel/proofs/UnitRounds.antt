@@ -1,36 +1,36 @@
 -- A refutation by unit propagation as a round.
-use Rattle.std.proofs.Common.{◌≡◌, ◌∙◌, ℕ, suc, ◌+◌, ◌<◌, ◌≤◌, ◌^◌, ◌==◌, ◌||◌, ◌&&◌, Bool, true, false, not, nat_lt, List, [], ◌∷◌, ◌++◌, Option, Some, None, ℤ, length, map, refl, sym, ap, subst, arith, inl, inr}
+use Rattle.std.proofs.Common.{◌≡◌, ◌∙◌, ℕ, suc, ◌+◌, ◌<◌, ◌≤◌, ◌^◌, ◌==◌, ◌||◌, ◌&&◌, Bool, true, false, not, nat_lt, List, [], ◌∷◌, ◌++◌, Option, Some, ℤ, length, refl, sym, ap, subst, arith, inl, inr}
 use Rattle.std.specs.List.{list_all}
 use Rattle.std.specs.Option.{option_map_or}
 use Rattle.std.proofs.lemmas.Bool.{eq-eqb, le-leb, and_from}
-use Rattle.lk_model.specs.Lists.{among, is_empty, is_between, rises_within}
-use Rattle.lk_model.specs.Formulas.Literal.{mentions, is_same_set}
-use Rattle.lk_model.specs.Formulas.Formula.{Cnf, clause_at, positions_of, variable_occurs}
+use Rattle.lk_model.specs.Lists.{among, is_empty, is_between}
+use Rattle.lk_model.specs.Formulas.Literal.{is_same_set}
+use Rattle.lk_model.specs.Formulas.Formula.{Cnf, positions_of, variable_occurs}
 use Rattle.lk_model.specs.Formulas.Lean.{are_positions}
 use Rattle.lk_model.specs.Held.VariableSets.{is_in, IsCrossed, premises_of}
-use Rattle.lk_model.specs.Chains.Chain.{names_of, chain_clause, states_its_clause, is_learned}
-use Rattle.lk_model.specs.Chains.Rounds.{reached, is_refutation, used_positions}
+use Rattle.lk_model.specs.Chains.Chain.{names_of, chain_clause, states_its_clause}
+use Rattle.lk_model.specs.Chains.Rounds.{reached, used_positions}
 use Rattle.lk_model.specs.declared.crossed.Crossed.{Crossed}
 use Rattle.lk_model.specs.declared.document.Step.{Step}
 use Rattle.lk_model.specs.declared.document.Turn.{Turn}
-use Rattle.lk_model.proofs.Booleans.{and_true, or_true, or_left, or_right, same_tests}
+use Rattle.lk_model.proofs.Booleans.{and_true, or_true, or_right, same_tests}
 use Rattle.lk_model.proofs.Counting.{in_filter}
 use Rattle.lk_model.proofs.Rising.{bounded}
 use Rattle.lk_model.proofs.Variables.{occurs, position_with, in_variables}
+use Rattle.lk_model.proofs.ListTests.{one_number, each_number}
 use Rattle.kernel_laws.proofs.General.Unblocked.{unblocked}
-use Rattle.refutation_log.specs.Derivation.{Derivation, IsDerivation, are_numbered, are_chains, names_lower}
-use Rattle.refutation_log.specs.Trimmed.{are_filled_before_last}
+use Rattle.refutation_log.specs.Derivation.{are_chains, names_lower}
 use Rattle.learning_laws.specs.ModelLaw.{clause_over}
-use Rattle.learning_laws.specs.SolveLaw.{IsRoundOver, names_filled, all_learned}
+use Rattle.learning_laws.specs.SolveLaw.{all_learned}
 use Rattle.cdcl_core.specs.Decision.{IsRefutedOver}
 use Rattle.unit_refutations.specs.Chains.{is_filled}
 use Rattle.unit_refutations.specs.Standing.{IsUnitRefutation, IsAnswer, IsKept, IsWithin, are_between}
 use Rattle.unit_refutations.specs.declared.units.Units.{Units}
 use Rattle.unit_refutations.specs.declared.units.UnitRefutation.{UnitRefutation}
 use Rattle.general_kernel.specs.declared.rounds.Rounds.{Rounds}
-use Rattle.general_kernel.proofs.Names.{each_number, one_number, used_named}
+use Rattle.general_kernel.proofs.Names.{used_named}
 use Rattle.general_kernel.proofs.Needed.{round_of}
-use Rattle.general_kernel.proofs.States.{IsAt, IsPut, goes_on}
+use Rattle.general_kernel.proofs.States.{IsAt, goes_on}
 
 -- the step that states the empty clause
 abbrev empty_step : ℕ → ℕ → List Turn → Step

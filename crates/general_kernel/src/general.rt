@@ -4,9 +4,9 @@
 //! of such clauses is an autarky that satisfies the rest (Kullmann, "Investigations on Autark Assignments", 2000). So
 //! refutations in turn, each over the clauses without the variables of those before, end at the largest lean part.
 //!
-//! What unit propagation alone refutes comes first in each round. Only where it refutes nothing a refutation learns clauses from
-//! conflicts, by two orders of the variables that take turns; the one that answered begins in the next round. A refutation is kept with what it uses of it, so that the kernel can be checked without a
-//! search.
+//! What unit propagation alone refutes comes first in each round, and then what short clauses refute. Only where neither
+//! does, all clauses of the part are searched, by two orders of the variables that take turns; the one that answered begins
+//! in the next such search. A refutation is kept with what it uses of it, so that the kernel can be checked without a search.
 ghost use Rattle.std.specs.Prelude.{◌≡◌, ◌<◌, ◌^◌, length, IfOk, IsTrue};
 ghost use Rattle.lk_model.specs.Formulas.Lean.{are_positions};
 ghost use Rattle.lk_model.specs.Formulas.Formula.{variable_occurs};
@@ -16,9 +16,10 @@ ghost use Rattle.general_kernel.specs.Ends.{IsBegun, EndsRounds};
 ghost use Rattle.general_kernel.specs.SetLiterals.{literals_on};
 ghost use Rattle.unit_refutations.specs.Standing.{IsKept, IsWithin};
 
-use crate::blocking::{add_variables, covered};
+use crate::blocking::{add_variables, covered, is_covered};
 use crate::rounds::Rounds;
 use crate::setting::literals_on;
+use crate::short::{ShortRefutation, refute_short};
 use cdcl_core::{Decided, Turns, decide_by_turns};
 use lk_model::{
     Budget, Crossed, Formula, General, GeneralResult, List, Lit, OutOfMemory, Round, VarSet,
@@ -89,6 +90,7 @@ fn round_after_round(
     ensures { IfOk result (EndsRounds f.now part.now rounds.old.left rounds.new) }
 {
     let mut turns = Turns::new();
+    let mut again = 0;
     'rounds: loop {
         let over = Crossed {
             formula: f,
@@ -100,8 +102,8 @@ fn round_after_round(
             units.block(f, used.as_slice(), &mut rounds.blocked)?;
             continue 'rounds;
         }
-        let kept = covered(alloc, f, part, &rounds.blocked)?;
-        if kept.len() == part.len() {
+        if is_covered(f, part, &rounds.blocked) {
+            let kept = covered(alloc, f, part, &rounds.blocked)?;
             let set = List::new(alloc);
             return Ok(End::Kernel { kept, set });
         }
@@ -109,8 +111,24 @@ fn round_after_round(
             let steps = List::new(alloc);
             return Ok(End::Open(Round { steps }));
         }
+        let so_far = rounds.whole.len();
+        let short = refute_short(
+            alloc,
+            &over,
+            units,
+            rounds.next,
+            rounds.left,
+            so_far,
+            &mut again,
+        )?;
+        if let Some(ShortRefutation { round, used }) = short {
+            rounds.push_round(round)?;
+            units.block(f, used.as_slice(), &mut rounds.blocked)?;
+            continue 'rounds;
+        }
         match decide_by_turns(alloc, &over, &mut turns, rounds.next, rounds.left)? {
             Decided::Sat(values) => {
+                let kept = covered(alloc, f, part, &rounds.blocked)?;
                 let set = set_of(alloc, f, part, &values)?;
                 return Ok(End::Kernel { kept, set });
             }

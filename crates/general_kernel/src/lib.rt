@@ -5,5 +5,6 @@ mod blocking;
 mod general;
 mod rounds;
 mod setting;
+mod short;
 
 pub use general::{general_kernel, set_of};

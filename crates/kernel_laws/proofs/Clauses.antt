@@ -25,10 +25,6 @@ from_filtered t c l e = and_true (t l) (contains c l) (sym (contains_filter t c 
 pub in_without : (c : List ℤ) (t l : ℤ) → contains c l ≡ true → int_eq l t ≡ false → contains (without c t) l ≡ true
 in_without c t l e n = in_filtered (λ k. not (int_eq k t)) c l (not_from_false (int_eq l t) n) e
 
--- a literal of one of two clauses
-pub in_left : (c d : List ℤ) (l : ℤ) → contains c l ≡ true → contains (c ++ d) l ≡ true
-in_left c d l e = list_any-append (int_eq l) c d ∙ or_left (contains c l) (contains d l) e
-
 -- or of the other one
 pub in_right : (c d : List ℤ) (l : ℤ) → contains d l ≡ true → contains (c ++ d) l ≡ true
 in_right c d l e = list_any-append (int_eq l) c d ∙ or_right (contains c l) (contains d l) e

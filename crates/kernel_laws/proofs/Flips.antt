@@ -1,20 +1,14 @@
 -- Assignments of which one has priority over another, and assignments with one literal made true.
-use Rattle.std.proofs.Common.{◌≡◌, zero, suc, Bool, true, false, cond, not, ◌==◌, List, refl, sym, ◌∙◌, ap, subst, ℤ, pos, negsuc, Option, Some, None, is_some, unwrap_or, ◌⊎◌, inl, inr, arith}
+use Rattle.std.proofs.Common.{◌≡◌, Bool, true, false, cond, not, ◌==◌, List, refl, sym, ◌∙◌, ap, subst, ℤ, pos, negsuc, Option, Some, None, is_some, unwrap_or, inl, inr}
 use Rattle.std.proofs.lemmas.Bool.{both_ways, cases_Bool, eqb-true, eq-eqb, cond-true, cond-false}
 use Rattle.lk_model.specs.Lists.{is_nonzero}
 use Rattle.lk_model.specs.Formulas.Literal.{variable, complement, contains, is_positive}
 use Rattle.lk_model.specs.Formulas.Assignment.{Assignment, makes_true, touches, satisfies, composed}
 use Rattle.kernel_laws.proofs.Assignments.{satisfying, satisfied_at, touched_at}
 use Rattle.lk_model.specs.Formulas.Minimal.{with_made_true}
+use Rattle.lk_model.proofs.Literals.{one_variable}
 
 -- LITERALS OF ONE VARIABLE
-
-one_variable : (k l : ℤ) → variable k ≡ variable l → (k ≡ l) ⊎ (k ≡ complement l)
-one_variable (pos a) (pos b) e = inl (ap pos e)
-one_variable (pos a) (negsuc b) e = inr (ap pos e)
-one_variable (negsuc a) (pos zero) e = absurd (let f : ⊥ = cc in f)
-one_variable (negsuc a) (pos (suc b)) e = inr (ap negsuc (let f : a ≡ b = omega (arith, e) in f))
-one_variable (negsuc a) (negsuc b) e = inl (ap negsuc (let f : a ≡ b = omega (arith, e) in f))
 
 -- what the literal has of the value of its variable
 pub value_true : ℤ → Option Bool → Bool

@@ -1,5 +1,5 @@
 -- An empty clause is a refutation by itself.
-use Rattle.std.proofs.Common.{◌≡◌, ℕ, zero, suc, ◌∙◌, ◌+◌, ◌-◌, ◌<◌, ◌≤◌, ◌^◌, ◌==◌, nat_lt, nat_le, Bool, true, not, List, [], ◌∷◌, refl, sym, ap, subst, arith, ℤ, length, Option, Some, None, IfSome, false, inl, inr}
+use Rattle.std.proofs.Common.{◌≡◌, ℕ, zero, suc, ◌∙◌, ◌+◌, ◌-◌, ◌<◌, ◌≤◌, ◌^◌, ◌==◌, Bool, true, not, List, [], ◌∷◌, refl, sym, ap, subst, arith, ℤ, length, Option, Some, None, IfSome, false, inl, inr}
 use Rattle.std.specs.Prelude.{find}
 use Rattle.std.specs.List.{range_with_len}
 use Rattle.std.proofs.lemmas.Bool.{and_from, cases_Bool, cond-true, cond-false, eq-eqb, eqb-true, eqb-false, le-leb, lt-ltb, not_from_false}
@@ -10,10 +10,10 @@ use Rattle.lk_model.specs.Formulas.Lean.{are_positions}
 use Rattle.lk_model.specs.Chains.Chain.{states_its_clause}
 use Rattle.lk_model.specs.Chains.Rounds.{is_trimmed, reached}
 use Rattle.lk_model.specs.declared.document.Step.{Step}
-use Rattle.lk_model.specs.declared.document.Round.{Round}
 use Rattle.lk_model.proofs.Founds.{none_at, none_found, up_to_bounds}
 use Rattle.lk_model.proofs.Lists.{among_here}
 use Rattle.lk_model.proofs.ListTests.{all_weaker}
+use Rattle.lk_model.proofs.Literals.{empty_is}
 use Rattle.kernel_laws.specs.General.RefutationLaw.{IsRefutation}
 use Rattle.kernel_laws.proofs.Lines.{found_any, found_passes}
 use Rattle.kernel_laws.proofs.General.JoinLaws.{none_misstated}
@@ -47,10 +47,6 @@ first_passing t a (suc n) p low high before pass = elim (cases_Bool (a == p)) [
 -- the clause at a position is empty
 abbrev is_empty_at : Cnf → ℕ → Bool
 is_empty_at F p = is_empty (clause_at F p)
-
-empty_is : (c : List ℤ) → is_empty c ≡ true → c ≡ []
-empty_is [] e = refl
-empty_is (l ∷ c) e = absurd (let f : ⊥ = cc in f)
 
 -- the step of an empty clause
 abbrev empty_step : Cnf → ℕ → Step

@@ -17,9 +17,9 @@ use Rattle.lk_model.specs.declared.result.MatchingResult.{MatchingResult}
 use Rattle.lk_model.proofs.Booleans.{or_true, or_left}
 use Rattle.lk_model.proofs.Counting.{in_filter, among-range}
 use Rattle.lk_model.proofs.Keys.{first_in, later_in}
-use Rattle.lk_model.proofs.Lists.{among_here, among_later, among_at, place_of}
+use Rattle.lk_model.proofs.Lists.{among_at, place_of, in_mapped, from_mapped}
 use Rattle.lk_model.proofs.Literals.{variable_negative}
-use Rattle.lk_model.proofs.Rising.{bounded}
+use Rattle.lk_model.proofs.Rising.{bounded, part_rises as is_rising}
 use Rattle.lk_model.proofs.Variables.{occurs, position_with}
 use Rattle.kernel_laws.specs.General.ForeignLaw.{HasForeign, IsAmongForeign}
 use Rattle.kernel_laws.specs.General.GeneralResults.{IsGeneralResult}
@@ -30,7 +30,7 @@ use Rattle.kernel_laws.proofs.General.PartResults.{no_rounds}
 use Rattle.kernel_laws.proofs.Matching.MatchingReductions.{matching_result_law}
 use Rattle.part_formula.specs.Decisions.{IsPartModel, sets_only}
 use Rattle.renaming_laws.specs.Renaming.{nth}
-use Rattle.renaming_laws.proofs.Mapped.{from_mapped, rises_mapped}
+use Rattle.renaming_laws.proofs.Mapped.{rises_mapped}
 use Rattle.renaming_laws.proofs.Told.{told as place_told, told_low, told_rise}
 use Rattle.renaming_laws.proofs.Telling.{kept_told}
 use Rattle.kernel_solve.specs.KernelParts.{IsKernelPart, told}
@@ -50,13 +50,6 @@ place_clause F kept (suc k) lt = at kept k ∙ ap (λ (i : ℕ). clause_at F (sl
 
 place_at : (kept : List ℕ) (k : ℕ) → 0 < k → k ≤ length kept → among kept (nth kept k) ≡ true
 place_at kept k least most = among_at kept (k - 1) (omega (arith, least, most))
-
-in_mapped : (f : ℕ → ℕ) (ns : List ℕ) (k : ℕ) → among ns k ≡ true → among (map f ns) (f k) ≡ true
-in_mapped f [] k m = absurd (let g : ⊥ = cc in g)
-in_mapped f (n ∷ ns) k m = elim (or_true (n == k) (among ns k) m) [
-  | inl here ↦ subst (λ (j : ℕ). among (map f (n ∷ ns)) (f j) ≡ true) (eqb-true n k here) (among_here (f n) (map f ns))
-  | inr later ↦ among_later (f n) (f k) (map f ns) (in_mapped f ns k later)
-]
 
 -- the places of a part lie from 1 to the number of kept positions
 place_bounds : (F : Cnf) (kept part : List ℕ) (k : ℕ) → are_positions (clauses_at F kept) part ≡ true → among part k ≡ true → (0 < k) × (k ≤ length kept)
@@ -84,10 +77,6 @@ occurs_in_kernel F kept part v rise o =
     let b = place_bounds F kept part k.0 rise k.1 in
     let there = subst (λ (q : ℕ). mentions (clause_at F q) v ≡ true) (sym k.2) p.2 in
     occurs (clauses_at F kept) part k.0 v k.1 (subst (λ (c : List ℤ). mentions c v ≡ true) (sym (place_clause F kept k.0 b.0)) there)
-
-pub is_rising : (G : Cnf) (part : List ℕ) → IsPart G part → are_positions G part ≡ true
-is_rising G [] h = absurd h
-is_rising G (least ∷ more) h = h.0
 
 -- a part of the kernel
 is_part : (F : Cnf) (r : MatchingResult) (part : List ℕ) → is_formula F ≡ true → IsMatchingResult F (positions_of F) r

@@ -1,21 +1,19 @@
 -- What a refutation shows, and what is learned over a part.
-use Rattle.std.proofs.Common.{◌≡◌, ℕ, ◌^◌, ◌<◌, true, not, List, [], ◌∷◌, sym, subst, length, None, filter}
+use Rattle.std.proofs.Common.{◌≡◌, ℕ, ◌^◌, ◌<◌, true, not, List, [], ◌∷◌, sym, subst, length, filter}
 use Rattle.std.proofs.lemmas.List.{append-nil}
 use Rattle.lk_model.specs.Lists.{is_empty}
 use Rattle.lk_model.specs.Formulas.Formula.{Cnf, is_formula, positions_of}
 use Rattle.lk_model.specs.Formulas.Crossed.{no_variable}
 use Rattle.lk_model.specs.Formulas.Lean.{are_positions}
-use Rattle.lk_model.specs.Checks.RoundChecks.{not_learned, learned_steps}
+use Rattle.lk_model.specs.Checks.RoundChecks.{learned_steps}
 use Rattle.lk_model.specs.declared.document.Step.{Step}
 use Rattle.lk_model.specs.declared.document.Round.{Round}
-use Rattle.lk_model.proofs.Founds.{option_map-none}
 use Rattle.kernel_laws.specs.General.ForeignLaw.{IsAmongForeign}
 use Rattle.kernel_laws.specs.General.OpenResults.{IsOpenResult}
 use Rattle.kernel_laws.proofs.General.Foreign.{foreign_law}
-use Rattle.kernel_laws.proofs.General.JoinLaws.{misstated_none}
-use Rattle.kernel_laws.proofs.General.Learning.{is_unlearned, round_learns}
+use Rattle.kernel_laws.proofs.General.JoinLaws.{misstated_none, unlearned_none}
+use Rattle.kernel_laws.proofs.General.Learning.{round_learns}
 use Rattle.kernel_laws.proofs.General.Refuting.{refutation_law as refuted_law}
-use Rattle.kernel_laws.proofs.General.Stated.{NoneOf, none_in}
 use Rattle.refutation_laws.proofs.UsedLaws.{used_law}
 use Rattle.kernel_solve.specs.RefutationLaw.{SolveRefutationLaw}
 
@@ -25,16 +23,10 @@ whole F part rounds rise foreign h =
     let both = foreign_law.whole F no_variable part rounds rise h.steps foreign h.stated h.learned in
     record { steps = h.steps; ends = h.ends; stated = both.0; learned = both.1; progress = h.progress }
 
--- no step of the round has a clause that is not learned
-none_unlearned : (F : Cnf) (part : List ℕ) (r : Round) → (not_learned no_variable F part (r ∷ [])).place ≡ None
-    → NoneOf is_unlearned F part no_variable [] r.steps
-unfolding not_learned
-none_unlearned F part r e = (none_in is_unlearned F part no_variable (r ∷ []) (option_map-none _ _ e)).0
-
 few : (F : Cnf) (part : List ℕ) (r : Round) → is_formula F ≡ true → IsOpenResult F part (r ∷ [])
     → length (learned_steps (r ∷ [])) < 3 ^ F.vars
 few F part r form h =
-    let learned = round_learns F part no_variable r.steps form (misstated_none F no_variable part (r ∷ []) h.stated).0 (none_unlearned F part r h.learned) in
+    let learned = round_learns F part no_variable r.steps form (misstated_none F no_variable part (r ∷ []) h.stated).0 (unlearned_none F part r h.learned) in
     subst (λ (us : List Step). length (filter (λ (s : Step). not (is_empty s.clause)) us) < 3 ^ F.vars) (sym (append-nil r.steps)) learned
 
 -- all of it

@@ -18,7 +18,7 @@ use Rattle.lk_model.specs.declared.result.GeneralResult.{GeneralResult}
 use Rattle.lk_model.specs.declared.result.MatchingResult.{MatchingResult}
 use Rattle.lk_model.proofs.Booleans.{and_true}
 use Rattle.lk_model.proofs.Counting.{among-range}
-use Rattle.lk_model.proofs.Rising.{bounded, rising_count}
+use Rattle.lk_model.proofs.Rising.{bounded, rising_count, part_rises as is_rising}
 use Rattle.kernel_laws.specs.General.GeneralResults.{IsGeneralResult, AreGeneralResults}
 use Rattle.kernel_laws.specs.Matching.MatchingResults.{IsMatchingResult, set_line}
 use Rattle.kernel_laws.proofs.General.OpenResults.{open_result_law}
@@ -34,7 +34,7 @@ use Rattle.kernel_solve.specs.Solutions.{IsTotalModel, IsRefuted, IsUnfinished, 
 use Rattle.kernel_solve.specs.declared.solving.Solved.{Solved}
 use Rattle.kernel_solve.specs.declared.solving.Solved.TheVariants as solved
 use Rattle.kernel_solve.proofs.EmptyClauses.{filled_at}
-use Rattle.kernel_solve.proofs.ModelLaws.{model_law, is_rising}
+use Rattle.kernel_solve.proofs.ModelLaws.{model_law}
 use Rattle.kernel_solve.proofs.OpenRounds.{open_sound}
 use Rattle.kernel_solve.proofs.RefutationLaws.{refutation_law}
 

@@ -1,11 +1,11 @@
 -- The first failing check, from the places of the checks in their order.
-use Rattle.std.proofs.Common.{◌≡◌, ◌∙◌, ℕ, true, List, [], ◌∷◌, ◌++◌, length, map, refl, sym, ap, subst, arith, ℤ, Option, Some, None}
+use Rattle.std.proofs.Common.{◌≡◌, ◌∙◌, ℕ, true, List, [], ◌∷◌, ◌++◌, length, map, refl, sym, ap, subst, ℤ, Option, Some, None}
 use Rattle.std.specs.Prelude.{◌==◌, nat_le}
 use Rattle.std.specs.List.{list_all}
 use Rattle.std.specs.Option.{option_map_or, option_or}
-use Rattle.std.proofs.lemmas.Bool.{eqb-true, le-leb}
+use Rattle.std.proofs.lemmas.Bool.{eqb-true}
 use Rattle.lk_model.specs.Lists.{rises_within}
-use Rattle.lk_model.specs.Formulas.Literal.{variable, is_literal}
+use Rattle.lk_model.specs.Formulas.Literal.{is_literal}
 use Rattle.lk_model.specs.Limits.{max_literals}
 use Rattle.lk_model.specs.Formulas.Formula.{Cnf, is_formula, literal_count}
 use Rattle.lk_model.specs.Formulas.Crossed.{Variables, no_variable, protected_by}
@@ -24,7 +24,7 @@ use Rattle.lk_model.specs.declared.verdict.Kind.{Kind}
 use Rattle.lk_model.specs.declared.verdict.Kind.TheVariants.{OtherFormula, BadOrder, BadPair}
 use Rattle.lk_model.specs.declared.verdict.Why.{Why}
 use Rattle.lk_model.proofs.Booleans.{and_true}
-use Rattle.lk_model.proofs.Rising.{rises}
+use Rattle.lk_model.proofs.Ranks.{rising_literals}
 use Rattle.kernel_laws.proofs.Passed.{in_form}
 use Rattle.lean_checker.specs.Common.{common_checks}
 
@@ -89,9 +89,6 @@ order_fails F d order pairs p e = ap (λ (k : Kind). Some (failure k p)) (sym (o
 pub pair_fails : (F : Cnf) (d : DoneDocument) (order : List ℤ) (pairs : List Pair) (p : ℕ) → None ≡ (bad_order F d order).place → Some p ≡ (bad_pair no_variable F d pairs).place → Some (failure BadPair p) ≡ first_of (class_checks no_variable F d (Pure order pairs))
 pair_fails F d order pairs p a e = ap (λ (k : Kind). Some (failure k p)) (sym (pair_kind F d pairs)) ∙ fails_first (bad_pair no_variable F d pairs) [] p e ∙ passes_first (bad_order F d order) (bad_pair no_variable F d pairs ∷ []) a
 
-pub none_of_pure : (F : Cnf) (d : DoneDocument) (order : List ℤ) (pairs : List Pair) → None ≡ (bad_order F d order).place → None ≡ (bad_pair no_variable F d pairs).place → None ≡ first_of (class_checks no_variable F d (Pure order pairs))
-none_of_pure F d order pairs a e = passes_first (bad_pair no_variable F d pairs) [] e ∙ passes_first (bad_order F d order) (bad_pair no_variable F d pairs ∷ []) a
-
 -- ALL
 
 failure_is : (F : Cnf) (d : DoneDocument) → option_or (first_of (first_five (protected_by d.protect) F d)) (first_of (class_checks (protected_by d.protect) F d d.body)) ≡ first_failure F (Done d)
@@ -129,13 +126,6 @@ parts_of n m order pairs form =
 
 pub pure_parts : (d : DoneDocument) (order : List ℤ) (pairs : List Pair) → is_done_in_form d ≡ true → d.body ≡ Pure order pairs → ArePureParts d.vars d.clauses order pairs
 pure_parts d order pairs form is = parts_of d.vars d.clauses order pairs (subst (λ (b : Body). is_body d.vars d.clauses b ≡ true) is (in_form d form).body)
-
--- the literals of a rising line are literals over the variables
-rising_literals : (low n : ℕ) (ls : List ℤ) → rises_within low n (map variable ls) ≡ true → list_all (is_literal n) ls ≡ true
-rising_literals low n [] up = refl
-rising_literals low n (l ∷ ls) up =
-    let r = rises low n (variable l) (map variable ls) up in
-    rw (le-leb 1 (variable l) (omega (arith, r.above)), le-leb (variable l) n r.within, rising_literals (variable l) n ls r.more) refl
 
 pub set_literals : (d : DoneDocument) → is_done_in_form d ≡ true → list_all (is_literal d.vars) d.set ≡ true
 set_literals d form = rising_literals 0 d.vars d.set (in_form d form).set

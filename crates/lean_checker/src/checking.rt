@@ -1,4 +1,7 @@
 //! The whole check.
+//!
+//! The checks are made one after another: first those of every document, and then those of its class. The first one that
+//! fails is the answer.
 ghost use Rattle.std.specs.Prelude.{◌≡◌, ◌<◌, ℕ, None, IfOk, IsTrue};
 ghost use Rattle.lk_model.specs.Formulas.Formula.{is_formula};
 ghost use Rattle.lk_model.specs.Formulas.Crossed.{no_variable, protected_by};

@@ -9,7 +9,7 @@ use Rattle.lk_model.specs.Formulas.Assignment.{Assignment, makes_true, satisfies
 use Rattle.lk_model.proofs.Booleans.{and_true, or_left, or_right}
 use Rattle.lk_model.proofs.ListTests.{passes_each}
 use Rattle.lk_model.proofs.Founds.{all_literals}
-use Rattle.lk_model.proofs.Literals.{int_self, variable_complement, complement_twice}
+use Rattle.lk_model.proofs.Literals.{int_self, variable_complement, complement_twice, filled}
 use Rattle.kernel_laws.proofs.Clauses.{same_of, of_same}
 use Rattle.watch_prop.specs.declared.entry.Entry.{Entry}
 use Rattle.watch_prop.specs.declared.entry.NumberedClause.{NumberedClause}
@@ -149,11 +149,6 @@ false_apart_all p c h f = rw (none_of c (λ l m. m)) refl
     none_of (l ∷ d) inside =
         rw (one_sign l (inside l (or_left (int_eq l l) (contains d l) (int_self l))))
         (none_of d (λ k m. inside k (or_right (int_eq k l) (contains d k) m)))
-
--- a clause that holds a literal is not empty
-pub filled : (c : List ℤ) (l : ℤ) → contains c l ≡ true → not (is_empty c) ≡ true
-filled [] l m = absurd (let f : ⊥ = cc in f)
-filled (k ∷ c) l m = refl
 
 -- a learned clause in which no literal stands twice may be held
 pub may_hold_learned : (p : Propagation) (c : List ℤ) (u : ℤ) (level : ℕ) → IsPropagation p → IsLearnedFor p.trail c u level → is_distinct c ≡ true

@@ -1,10 +1,11 @@
 -- A trail place by place, and the variables of a false clause.
-use Rattle.std.proofs.Common.{pos, ◌≡◌, ◌≢◌, ◌∙◌, ℕ, zero, suc, ◌+◌, ◌<◌, ◌≤◌, ◌==◌, ◌++◌, ◌∷◌, [], Bool, true, false, not, ◌&&◌, ◌||◌, List, ℤ, Some, None, option_map, option_and_then, length, map, take, drop, get_or, refl, sym, ap, subst, arith, inl, inr, append_assoc}
+use Rattle.std.proofs.Common.{pos, ◌≡◌, ◌≢◌, ◌∙◌, ℕ, suc, ◌+◌, ◌<◌, ◌≤◌, ◌==◌, ◌++◌, ◌∷◌, [], Bool, true, false, not, ◌&&◌, ◌||◌, List, ℤ, Some, None, option_map, option_and_then, length, map, take, drop, get_or, refl, sym, ap, subst, arith, inl, inr, append_assoc}
 use Rattle.std.specs.List.{list_all, range_with_len}
 use Rattle.std.specs.Ordering.{int_eq}
 use Rattle.std.proofs.lemmas.Bool.{eqb-true, eq-eqb, false_from_ne_true, and_from}
 use Rattle.std.proofs.lemmas.List.{take_more, take-append-drop, get_or-map}
 use Rattle.std.proofs.lemmas.List.Folds.{list_any-append}
+use Rattle.std.proofs.lemmas.List.FromFn.{length-range_with_len as length_range}
 use Rattle.lk_model.specs.Lists.{among}
 use Rattle.lk_model.specs.Formulas.Literal.{variable, complement, contains, mentions}
 use Rattle.lk_model.specs.Chains.Chain.{without}
@@ -16,8 +17,8 @@ use Rattle.kernel_laws.proofs.Clauses.{mentions_of, in_without, from_filtered}
 use Rattle.watch_prop.specs.declared.entry.Entry.{Entry}
 use Rattle.watch_prop.specs.Trail.{literals_of, true_in, false_in, entry_of, clause_numbered, may_come, forces, is_path}
 use Rattle.watch_prop.specs.Propagation.{Propagation, IsPropagation}
-use Rattle.watch_prop.proofs.Truths.{ComeAfter, none_later, one_variable, same_true, no_sign_twice}
-use Rattle.lk_model.proofs.Literals.{same_int, variable_complement, complement_twice}
+use Rattle.watch_prop.proofs.Truths.{ComeAfter, none_later, same_true, no_sign_twice}
+use Rattle.lk_model.proofs.Literals.{same_int, variable_complement, complement_twice, one_variable}
 use Rattle.watch_prop.proofs.Along.{literal_on_path}
 use Rattle.learning_laws.specs.Learned.{are_false_in}
 use Rattle.learning_laws.specs.PlaceLaw.{IsPlace}
@@ -96,12 +97,7 @@ length_variables : (trail : List Entry) → length (variables_along trail) ≡ l
 length_variables [] = refl
 length_variables (e ∷ trail) = ap suc (length_variables trail)
 
--- a range is as long as it says
-length_range : (a n : ℕ) → length (range_with_len a n) ≡ n
-length_range a zero = refl
-length_range a (suc n) = ap suc (length_range (a + 1) n)
-
--- so there are at most as many entries as variables
+-- there are at most as many entries as variables
 pub few_entries : (p : Propagation) → IsPropagation p → length p.trail ≤ p.vars
 few_entries p h =
     let taken : TakesInto (λ v. v) (variables_along p.trail) (range_with_len 1 p.vars) = record {

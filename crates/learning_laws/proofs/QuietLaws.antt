@@ -18,12 +18,13 @@ use Rattle.watch_prop.specs.Trail.{assignment_along, present_level, up_to_level}
 use Rattle.watch_prop.specs.Propagation.{Propagation, IsPropagation, GoesOn, assigned, is_quiet, with_held, with_assigned, back_at, crossed_clauses}
 use Rattle.watch_prop.proofs.Paths.{last_level, back_there}
 use Rattle.lk_model.proofs.ListTests.{all_more}
+use Rattle.lk_model.proofs.Literals.{filled}
 use Rattle.watch_prop.proofs.Trails.{same_level}
 use Rattle.watch_prop.proofs.Levels.{level_more, level_twice}
 use Rattle.learning_laws.specs.Learned.{IsQuietBelow, IsLearnedFor, HoldsAll, held_step}
 use Rattle.learning_laws.specs.QuietLaw.{QuietLaw}
 use Rattle.learning_laws.proofs.Levels.{path_of, level_up_to}
-use Rattle.learning_laws.proofs.News.{is_quiet_clause, none_held_inside, learned_quiet, false_apart_all, filled, may_hold_learned, learned_same}
+use Rattle.learning_laws.proofs.News.{is_quiet_clause, none_held_inside, learned_quiet, false_apart_all, may_hold_learned, learned_same}
 use Rattle.learning_laws.proofs.Tests.{never_both}
 
 -- numbers that a test tells apart

@@ -14,6 +14,7 @@ use Rattle.lk_model.specs.declared.document.Step.{Step}
 use Rattle.lk_model.specs.declared.document.Turn.{Turn}
 use Rattle.lk_model.proofs.Booleans.{and_true, or_left, or_right}
 use Rattle.lk_model.proofs.ListTests.{passes_each, all_more}
+use Rattle.lk_model.proofs.Literals.{filled}
 use Rattle.kernel_laws.proofs.General.Chains.{stated}
 use Rattle.kernel_laws.proofs.General.Learning.{few_steps}
 use Rattle.refutation_log.specs.Derivation.{Derivation, next_number, are_numbered, are_chains, is_ascending, IsDerivation, step_of, Extends}
@@ -29,7 +30,7 @@ use Rattle.learning_laws.specs.Learned.{IsLearnedFor, HoldsAll, held_step, names
 use Rattle.learning_laws.specs.ModelLaw.{is_open, clause_over}
 use Rattle.learning_laws.specs.SolveLaw.{names_filled, all_learned, IsRoundOver, IsSolving, HasLearned, SolveLaw}
 use Rattle.learning_laws.proofs.Levels.{trail_up_to}
-use Rattle.learning_laws.proofs.News.{may_hold_learned, learned_same, filled}
+use Rattle.learning_laws.proofs.News.{may_hold_learned, learned_same}
 use Rattle.learning_laws.proofs.QuietLaws.{quiet_law}
 use Rattle.learning_laws.proofs.Naming.{held_named, next_fresh}
 use Rattle.learning_laws.proofs.Models.{model_law}

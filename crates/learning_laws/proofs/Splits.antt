@@ -66,13 +66,6 @@ assigned_above p before e after h split none =
     eqb-true e.level (present_level before + 1)
     (subst (λ (r : Option ℕ). option_map_or (λ _. e.level == present_level before) r (e.level == present_level before + 1) ≡ true) none (comes_there p before e after h split).level)
 
--- a forced one is at the level of what stands before it
-pub forced_beside : (p : Propagation) (before : List Entry) (e : Entry) (after : List Entry) (k : ℕ) → IsPropagation p → p.trail ≡ before ++ e ∷ after → e.reason ≡ Some k
-    → e.level ≡ present_level before
-forced_beside p before e after k h split some =
-    eqb-true e.level (present_level before)
-    (subst (λ (r : Option ℕ). option_map_or (λ _. e.level == present_level before) r (e.level == present_level before + 1) ≡ true) some (comes_there p before e after h split).level)
-
 -- WHAT IS FALSE BEFORE AN ENTRY
 
 -- what is false with one more entry is false before it, or is the entry's complement

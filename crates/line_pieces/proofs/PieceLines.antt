@@ -12,7 +12,7 @@ use Rattle.lk_model.specs.declared.verdict.ReadStop.{ReadStop}
 use Rattle.lk_model.specs.declared.verdict.ReadStop.TheVariants as read
 use Rattle.lk_text.specs.Cutting.{is_one_line, IsNextLine}
 use Rattle.lk_text.specs.declared.cuts.Cut.{Cut}
-use Rattle.line_text.specs.LineReading.{is_whole_line, are_whole_lines, Grammar, IsReadBy, IsAdmitted, CanComplete, LeadsOn, LeadsNowhere}
+use Rattle.line_text.specs.LineReading.{is_whole_line, are_whole_lines, Grammar, IsReadBy, IsAdmitted, LeadsOn, LeadsNowhere}
 use Rattle.line_text.proofs.LineCuts.{line_next}
 use Rattle.line_text.proofs.LineReads.{IsAt, cut_behind, whole_line, stops_at_line, stops_unended, ends_whole, ends_early}
 use Rattle.line_pieces.specs.Fed.{StandsAt, Stands, HasTaken, IsSound, Extends, Refuses, EndsLine, RefusesLine}
@@ -82,10 +82,6 @@ at_open Start Now fed unended more lines h = record {
   same = h.same;
   completed = h.completed;
 }
-
--- before the first byte
-pub stands_first : {V : Type 0} (Start : Grammar V) (unended : List ℕ) (lines : ℕ) → unended ≡ [] → lines ≡ 0 → CanComplete Start → StandsAt Start Start [] unended lines
-stands_first Start unended lines none first c = record { taken = []; whole = refl; bytes = sym none; count = sym first; same = λ value more. (λ x. x, λ x. x); completed = c }
 
 -- bytes more of the open line
 pub goes_on : {V : Type 0} (Start Now : Grammar V) (fed unended rest : List ℕ) (lines : ℕ) → StandsAt Start Now fed unended lines → StandsAt Start Now (fed ++ rest) (unended ++ rest) lines

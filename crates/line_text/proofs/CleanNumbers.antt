@@ -1,15 +1,16 @@
 -- Numbers and lists of them are clean words, and lines of such words are clean.
-use Rattle.std.proofs.Common.{◌≡◌, ℕ, zero, suc, ◌/◌, ◌%◌, ◌+◌, ◌≤◌, ◌∙◌, Bool, true, false, not, cond, ◌==◌, nat_lt, List, [], ◌∷◌, ◌++◌, map, refl, ap, arith, ℤ, pos, negsuc}
+use Rattle.std.proofs.Common.{◌≡◌, ℕ, zero, suc, ◌/◌, ◌%◌, ◌+◌, ◌≤◌, ◌∙◌, Bool, true, false, not, cond, ◌==◌, nat_lt, List, [], ◌∷◌, ◌++◌, map, refl, ap, arith, ℤ, pos, negsuc, length}
 use Rattle.std.specs.Prelude.{codes}
 use Rattle.std.specs.List.{list_all, flat_map}
 use Rattle.std.specs.Fmt.{decimal, signed_decimal, digits, digits_onto, digit_glyph}
 use Rattle.std.proofs.lemmas.Bool.{ne_eqb, and_from}
 use Rattle.std.proofs.lemmas.List.Folds.{list_all-append}
 use Rattle.lk_model.specs.Texts.Lines.{Word}
-use Rattle.lk_model.specs.Texts.PlainText.{ended, number_words}
+use Rattle.lk_model.specs.Texts.PlainText.{ended, number_words, literal_words, formula_lines}
 use Rattle.lk_text.specs.Cutting.{is_one_line}
 use Rattle.line_text.specs.Fields.{has_no_space}
 use Rattle.line_text.proofs.CleanWords.{is_clean, is_clean_line, are_clean}
+use Rattle.lk_model.specs.Formulas.Formula.{Cnf}
 
 -- NUMBERS
 
@@ -85,3 +86,7 @@ lines_cons words lines h g = and_from (is_clean_line words) (are_clean lines) h 
 pub lines_map : {X : Type 0} (spell : X → List Word) → ((x : X) → is_clean_line (spell x) ≡ true) → (xs : List X) → are_clean (map spell xs) ≡ true
 lines_map spell h [] = refl
 lines_map spell h (x ∷ xs) = lines_cons (spell x) (map spell xs) (h x) (lines_map spell h xs)
+
+-- and so have those of a formula
+pub clean_formula : (F : Cnf) → are_clean (formula_lines F) ≡ true
+clean_formula F = lines_cons (codes "p" ∷ codes "cnf" ∷ number_words (F.vars ∷ length F.clauses ∷ [])) (map literal_words F.clauses) (clean_numbers (F.vars ∷ length F.clauses ∷ [])) (lines_map literal_words (λ c. clean_closed (map signed_decimal c) (clean_literals c)) F.clauses)

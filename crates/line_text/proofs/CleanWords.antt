@@ -111,13 +111,6 @@ cut_lines_in_row (words ∷ lines) h =
     ∙ cut_line content (concat (map line lines)) (joined_one_line words (and_true (not (is_empty words)) (list_all is_clean words) p.0).1)
     ∙ ap (λ (ls : List (List ℕ)). line words ∷ ls) (cut_lines_in_row lines p.1)
 
--- a line ends with its byte 10
-pub line_ends : (words : List Word) → is_one_line (line words) ≡ true → ⊥
-line_ends words h =
-    let both = and_true (is_one_line (join_with_byte 32 words)) (is_one_line (10 ∷ [])) (sym (list_all-append _ (join_with_byte 32 words) (10 ∷ [])) ∙ h) in
-    let e = both.1 in
-    cc
-
 -- lines of clean words are whole
 pub clean_whole : (lines : List (List Word)) → are_clean lines ≡ true → are_whole_lines (map line lines) ≡ true
 clean_whole [] h = refl

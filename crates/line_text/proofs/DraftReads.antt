@@ -88,9 +88,6 @@ IsRunOf r d = run r r.fresh (r.lines d) ≡ Some d
 pub draft_form : {D V : Type 0} (r : DraftReader D V) (IsDraft : D → Type 0) → IsDrafting r IsDraft → (d : D) → IsRunOf r d → IsDraft d
 draft_form r IsDraft i d h = runs_form r IsDraft i r.fresh d (r.lines d) i.begins h
 
-pub begins_run : {D V : Type 0} (r : DraftReader D V) (IsDraft : D → Type 0) → IsDrafting r IsDraft → IsRunOf r r.fresh
-begins_run r IsDraft i = ap (run r r.fresh) i.nothing
-
 -- one line more
 reads_on : {D V : Type 0} (r : DraftReader D V) (IsDraft : D → Type 0) → IsDrafting r IsDraft → (d next : D) (raw : List ℕ) → IsRunOf r d → r.next d (fields raw) ≡ Some next
     → IsRunOf r next × (length (r.lines next) ≡ length (r.lines d) + 1)
@@ -216,7 +213,7 @@ pub can_begin : {D V : Type 0} (r : DraftReader D V) (IsDraft : D → Type 0) �
 can_begin r IsDraft i = can_complete r IsDraft i r.fresh i.begins (omega (arith, ap length i.nothing))
 
 -- lines in a row
-in_row : (lines : List (List Word)) → concat (map line lines) ≡ flat_map line lines
+pub in_row : (lines : List (List Word)) → concat (map line lines) ≡ flat_map line lines
 in_row [] = refl
 in_row (words ∷ lines) = ap (λ (s : List ℕ). line words ++ s) (in_row lines)
 

@@ -29,11 +29,6 @@ last_or_more low n (k ∷ ns) = last_or_more k n ns
 pub last_more : {X : Type 0} (key : X → ℕ) (low : ℕ) (xs : List X) (x : X) → last_or low (map key (xs ++ x ∷ [])) ≡ key x
 last_more key low xs x = ap (last_or low) (map-append key xs (x ∷ [])) ∙ last_or_more low (key x) (map key xs)
 
--- the last of numbers that rise is within their bounds
-pub last_within : (low high : ℕ) (ns : List ℕ) → rises_within low high ns ≡ true → low ≤ high → last_or low ns ≤ high
-last_within low high [] h le = le
-last_within low high (n ∷ ns) h le = let r = rises low high n ns h in last_within n high ns r.more r.within
-
 -- one more number behind numbers that rise
 pub rises_last : (low high n : ℕ) (ns : List ℕ) → rises_within low high (ns ++ n ∷ []) ≡ true → (last_or low ns < n) × (n ≤ high)
 rises_last low high n [] h = let r = rises low high n [] h in (r.above, r.within)
@@ -89,10 +84,6 @@ listed_front key test low high xs ys h =
     and_from (rises_within low high (map key xs)) (list_all test xs)
     (rises_front low high (map key xs) (map key ys) (ap (rises_within low high) (sym (map-append key xs ys)) ∙ both.0))
     (and_true (list_all test xs) (list_all test ys) (sym (list_all-append test xs ys) ∙ both.1)).0
-
--- items that pass a test alone
-pub tested_more : {X : Type 0} (test : X → Bool) (xs : List X) (x : X) → list_all test xs ≡ true → test x ≡ true → list_all test (xs ++ x ∷ []) ≡ true
-tested_more test xs x h t = list_all-append test xs (x ∷ []) ∙ rw (h, t) refl
 
 pub tested_last : {X : Type 0} (test : X → Bool) (xs : List X) (x : X) → list_all test (xs ++ x ∷ []) ≡ true → test x ≡ true
 tested_last test xs x h = (and_true (test x) true (and_true (list_all test xs) (list_all test (x ∷ [])) (sym (list_all-append test xs (x ∷ [])) ∙ h)).1).0

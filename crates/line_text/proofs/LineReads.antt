@@ -67,10 +67,6 @@ pub record IsAt {V : Type 0} (Start Now : Grammar V) (bytes : List ℕ) (at numb
   pub same : (value : V) (more : List (List ℕ)) → Now value more ↔ Start value (taken ++ more)
   pub completed : CanComplete Now
 
--- before the first line
-pub at_start : {V : Type 0} (Start : Grammar V) (bytes : List ℕ) → CanComplete Start → IsAt Start Start bytes 0 0
-at_start Start bytes c = record { taken = []; whole = refl; lines = refl; count = refl; same = λ value more. (λ x. x, λ x. x); completed = c }
-
 -- one line more
 pub at_next : {V : Type 0} (Start Now Next : Grammar V) (bytes : List ℕ) (at number : ℕ) (cut : Cut) → IsAt Start Now bytes at number → IsNextLine bytes at cut → cut.end < length bytes
     → LeadsOn Now Next (slice_range bytes cut.begin cut.end ++ 10 ∷ []) → IsAt Start Next bytes cut.next (number + 1)

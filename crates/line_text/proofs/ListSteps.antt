@@ -131,8 +131,3 @@ clause_step whole ls n l words word behind told e is new =
 pub clause_none : (whole : Option (List ℤ)) (ls : List ℤ) (n : ℕ) (words : List Word) (word : Word) (behind : List ℕ)
     → whole ≡ option_map (λ ms. ls ++ ms) (clause_from n ls words) → words ≡ word ∷ fields behind → None ≡ literal_within n (plain_number word) → whole ≡ None
 clause_none whole ls n words word behind told e is = clause_as whole ls n words word behind None told e (ap (if_new ls) is)
-
-pub clause_twice : (whole : Option (List ℤ)) (ls : List ℤ) (n : ℕ) (l : ℤ) (words : List Word) (word : Word) (behind : List ℕ)
-    → whole ≡ option_map (λ ms. ls ++ ms) (clause_from n ls words) → words ≡ word ∷ fields behind → Some l ≡ literal_within n (plain_number word) → contains ls l ≡ true → whole ≡ None
-clause_twice whole ls n l words word behind told e is old =
-    clause_as whole ls n words word behind None told e (sym (ap (if_new ls) (sym is) ∙ ap (λ (b : Bool). cond b None (Some l)) old))

@@ -1,6 +1,6 @@
 -- Lines as they are printed.
-use Rattle.std.proofs.Common.{◌≡◌, ℕ, List, [], ◌∷◌, ◌++◌, ap, refl, ◌∙◌, append_assoc}
-use Rattle.std.specs.List.{join_with_byte}
+use Rattle.std.proofs.Common.{◌≡◌, ℕ, List, [], ◌∷◌, ◌++◌, ap, refl, ◌∙◌, append_assoc, map}
+use Rattle.std.specs.List.{join_with_byte, flat_map}
 use Rattle.std.specs.Prelude.{codes}
 use Rattle.lk_model.specs.Texts.Lines.{Word}
 use Rattle.lk_model.specs.Texts.PlainText.{line, ended}
@@ -26,3 +26,7 @@ ended_comment keyword (word ∷ words) = simp append_assoc
 pub ended_behind : (before with_keyword with_words : List ℕ) (keyword : Word) (words : List Word) → with_keyword ≡ before ++ spaced (codes "c" ∷ keyword ∷ []) → with_words ≡ with_keyword ++ spaced words → with_words ++ codes "0\n" ≡ before ++ line (comment keyword (ended words))
 ended_behind before with_keyword with_words keyword words first second =
     rw (second, append_assoc with_keyword (spaced words) (codes "0\n"), ← ended_line words, first, append_assoc before _ _, ← ended_comment keyword words) refl
+
+-- one more line behind those that are written
+pub next_line : {X : Type 0} (line_of : X → List Word) (x : X) (xs rest : List X) (written next whole : List ℕ) → rest ≡ x ∷ xs → written ++ flat_map line (map line_of rest) ≡ whole → next ≡ written ++ line (line_of x) → next ++ flat_map line (map line_of xs) ≡ whole
+next_line line_of x xs rest written next whole first before more = rw (more, append_assoc) (rw first at before)

@@ -16,11 +16,6 @@ pub twos_step : {X : Type 0} (read : List X → Word → Word → Option X) (who
 twos_step read whole xs x words more word other told e is =
     told ∙ ap (twos read xs) e ∙ ap (option_and_then (λ y. twos read (xs ++ y ∷ []) more)) is
 
-pub twos_none : {X : Type 0} (read : List X → Word → Word → Option X) (whole : Option (List X)) (xs : List X) (words more : List Word) (word other : Word)
-    → whole ≡ twos read xs words → words ≡ word ∷ other ∷ more → read xs word other ≡ None → None ≡ whole
-twos_none read whole xs words more word other told e is =
-    sym (told ∙ ap (twos read xs) e ∙ ap (option_and_then (λ y. twos read (xs ++ y ∷ []) more)) is)
-
 pub twos_short : {X : Type 0} (read : List X → Word → Word → Option X) (whole : Option (List X)) (xs : List X) (words : List Word) (word other : Word)
     → whole ≡ twos read xs words → words ≡ word ∷ other ∷ [] → None ≡ whole
 twos_short read whole xs words word other told e = sym (told ∙ ap (twos read xs) e ∙ by_item (read xs word other))

@@ -3,9 +3,12 @@ use Rattle.std.proofs.Common.{◌≡◌, ℕ, ◌∙◌, true, false, ◌&&◌, 
 use Rattle.std.specs.Borrow.{Bor}
 use Rattle.std.specs.Str.{bytes_eq}
 use Rattle.std.proofs.lemmas.Slice.Eq.{bytes_eq-Decides}
+use Rattle.std.specs.Prelude.{codes}
 use Rattle.lk_model.specs.Texts.Lines.{Word}
 use Rattle.line_text.specs.Fields.{fields, after, rest_fields, two_within}
 use Rattle.line_text.proofs.ListSteps.{has_word}
+use Rattle.lk_model.specs.Texts.PlainText.{ended}
+use Rattle.lk_model.specs.Documents.Text.{comment}
 
 -- what stands behind a space has a word
 rest_has : (o : Option (Bor (List ℕ))) → is_some o ≡ true → (word : Word) × (more : List Word) × (rest_fields o ≡ word ∷ more)
@@ -34,14 +37,6 @@ after_first a first second [] e = refl
 after_first a first second (b ∷ []) e = refl
 after_first a first second (b ∷ word ∷ words) e = rw e refl
 
-pub after_second : (a b first second : Word) (words : List Word) → bytes_eq b second ≡ false → after first second (a ∷ b ∷ words) ≡ None
-after_second a b first second [] e = refl
-after_second a b first second (word ∷ words) e = by_first (bytes_eq a first)
-  where
-    by_first : (t : Bool) → cond (t && bytes_eq b second) (Some (word ∷ words)) None ≡ None
-    by_first true = rw e refl
-    by_first false = refl
-
 -- two words that are found
 pub record IsBehind (first second : Word) (words rest : List Word) : Type 0 where
   pub whole : words ≡ first ∷ second ∷ rest
@@ -60,3 +55,8 @@ after_form first second (a ∷ b ∷ word ∷ words) rest e = by_tests (bytes_eq
         let other = (bytes_eq-Decides b second).0 g in
         let same : word ∷ words ≡ rest = cc in
         record { whole = cc }
+
+-- words behind a keyword that are closed by 0
+pub after_ended : (keyword : Word) (words : List Word) → bytes_eq keyword keyword ≡ true → after (codes "c") keyword (comment keyword (ended words)) ≡ Some (ended words)
+after_ended keyword [] e = rw e refl
+after_ended keyword (word ∷ words) e = rw e refl

@@ -11,7 +11,7 @@ use Rattle.lk_model.specs.Linear.Phases.{NextMove, PivotOn, StageStands, EndsLea
 use Rattle.lk_model.specs.Linear.Ends.{dual_at_end, units_at_end, made_in_dual, made_in_units}
 use Rattle.lk_model.specs.Linear.LinearRun.{LinearEnd, RunDone, RunWide, RunBudget, Moment, Moved, Later, Ended, after_pivot, after_stage, at_end, moved, run_from, linear_run}
 use Rattle.lk_model.specs.declared.wide.Wide.{Wide}
-use Rattle.lk_model.proofs.Rising.{range_rises}
+use Rattle.lk_model.proofs.Rising.{all_rise}
 use Rattle.exact_pivot.specs.Reached.{AtStart}
 use Rattle.linear_laws.specs.MovesLaw.{room, first_moment, IsWithin}
 use Rattle.linear_laws.proofs.RunRoom.{moves_law}
@@ -44,10 +44,6 @@ module _ (F : Cnf) (budget : ℕ) where
       by_next StageStands e = if_fits (record m { stages = m.stages ++ stage_of m.rows ∷ []; rows = start_of F (unweighted F (stage_of m.rows) m.rows.positions) })
           (left_rises F (stage_of m.rows) m.rows.positions rise) (first_wide (made_in_stage m.rows)) e
       by_next EndsLean e = ends (first_wide (made_in_dual m.rows ++ made_in_units m.rows)) e
-
--- at first all positions are there
-pub all_rise : (F : Cnf) → are_positions F (positions_of F) ≡ true
-all_rise F = range_rises 0 (length F.clauses) 1 (length F.clauses) (omega arith) (omega arith)
 
 -- the moves from a moment for which there is room lead where the linear run ends
 pub record GoesOn (F : Cnf) (budget : ℕ) (m : Moment) : Type 0 where

@@ -2,10 +2,9 @@
 use Rattle.std.proofs.Common.{◌≡◌, ℕ, zero, suc, ◌+◌, get_or, take, ◌++◌, ◌<◌, ◌≤◌, Bool, true, false, cond, not, ◌||◌, ◌==◌, List, [], ◌∷◌, map, zip, filter, find, length, ℤ, pos, Some, refl, sym, ◌∙◌, subst, arith}
 use Rattle.std.specs.List.{All, list_any}
 use Rattle.std.specs.Option.{option_map_or}
-use Rattle.std.proofs.lemmas.Bool.{lt-ltb, le-leb}
 use Rattle.std.proofs.lemmas.List.{length-map}
 use Rattle.std.proofs.lemmas.List.Elements.{filter_more, All-nil, All-cons, All-head, All-tail, All-from_get_or}
-use Rattle.lk_model.specs.Lists.{among, is_nonzero, rises_within}
+use Rattle.lk_model.specs.Lists.{among, is_nonzero}
 use Rattle.lk_model.specs.Formulas.Literal.{variable}
 use Rattle.lk_model.specs.Formulas.Formula.{Cnf, clause_at, variables_at, variable_occurs}
 use Rattle.lk_model.specs.Formulas.Lean.{are_positions}
@@ -17,7 +16,7 @@ use Rattle.lk_model.specs.declared.document.Stage.{Stage}
 use Rattle.lk_model.specs.declared.document.Weight.{Weight}
 use Rattle.lk_model.proofs.Founds.{filtered_rise}
 use Rattle.lk_model.proofs.VariableLists.{in_more}
-use Rattle.lk_model.proofs.Rising.{Rises, rises, rises_from, rising_bounds}
+use Rattle.lk_model.proofs.Rising.{rising_bounds, filter_rises}
 use Rattle.exact_pivot.specs.Reached.{IsReached}
 use Rattle.exact_pivot.proofs.ReachedRows.{reached_rows}
 use Rattle.linear_kernel.specs.Weights.{IsWeight, has_weight, left_by}
@@ -94,16 +93,7 @@ pub left_more : (F : Cnf) (set : List Bool) (S : List ℕ) (i : ℕ) (before aft
 left_more F set S i before after touched lt e t a =
     a ∙ (λ j. e j ++ cond (not (t j)) (get_or S i 0 ∷ []) []) ∙ sym (filter_more (λ p. not (list_any (λ l. is_in set (variable l)) (clause_at F p))) S i 0 lt)
 
--- some of the numbers that rise
-some_rise : (t : ℕ → Bool) (low high : ℕ) (ps : List ℕ) → rises_within low high ps ≡ true → rises_within low high (filter t ps) ≡ true
-some_rise t low high [] r = refl
-some_rise t low high (p ∷ ps) r = let s = rises low high p ps r in by_test (t p) s (some_rise t p high ps s.more)
-  where
-    by_test : (b : Bool) → Rises low high p ps → rises_within p high (filter t ps) ≡ true → rises_within low high (cond b (p ∷ filter t ps) (filter t ps)) ≡ true
-    by_test true s more = rw (lt-ltb low p s.above, le-leb p high s.within, more) refl
-    by_test false s more = rises_from low p high (filter t ps) (omega (arith, s.above)) more
-
 -- positions stay positions
 pub left_rises : (F : Cnf) (s : Stage) (S : List ℕ) → are_positions F S ≡ true → are_positions F (unweighted F s S) ≡ true
 unfolding unweighted
-left_rises F s S rise = some_rise (λ p. not (list_any (λ l. is_nonzero (weighting_of s (variable l))) (clause_at F p))) 0 (length F.clauses) S rise
+left_rises F s S rise = filter_rises 0 (length F.clauses) (λ p. not (list_any (λ l. is_nonzero (weighting_of s (variable l))) (clause_at F p))) S rise

@@ -18,6 +18,7 @@ use Rattle.lk_model.specs.declared.wide.Wide.{Wide}
 use Rattle.lk_model.proofs.Keys.{first_in, later_in}
 use Rattle.exact_rows.specs.Made.{mixed}
 use Rattle.exact_rows.proofs.Wides.{mixed_in_range}
+use Rattle.exact_rows.proofs.Entries.{turned-in_range as negated_in_range}
 use Rattle.exact_pivot.specs.Reached.{IsRowOf}
 use Rattle.exact_pivot.specs.Small.{AreSmall}
 use Rattle.exact_pivot.proofs.Divided.{primitive_divided}
@@ -97,10 +98,6 @@ divided_in_range c x y h e r = smaller x y (subst (λ z. unsigned_abs x ≤ unsi
         let f : suc a * unsigned_abs x ≡ a * unsigned_abs x + unsigned_abs x = omega arith in
         omega (arith, e, f)
     grows (negsuc a) h = absurd (omega (arith, ints, h))
-
--- the range is symmetric
-pub negated_in_range : (x : ℤ) → is_in_range x ≡ true → is_in_range (neg_ℤ x) ≡ true
-negated_in_range x r = smaller (neg_ℤ x) x (omega (arith, ints)) r
 
 -- a number times a sign
 pub signed_in_range : (e x : ℤ) → (e ≡ pos 1) ⊎ (e ≡ negsuc 0) → is_in_range x ≡ true → is_in_range (e *ℤ x) ≡ true

@@ -17,7 +17,7 @@ use Rattle.lk_model.specs.Linear.Pivot.{in_first_phase}
 use Rattle.lk_model.specs.Linear.Phases.{PivotOn, StageStands, EndsLean, next, entering, leaving, artificial_row, replacing, stage_entry, stage_of}
 use Rattle.lk_model.proofs.Counting.{from_filter, among-range}
 use Rattle.lk_model.proofs.Founds.{none_to, up_to_bounds}
-use Rattle.lk_model.proofs.ListTests.{passes_among, passing}
+use Rattle.lk_model.proofs.ListTests.{passes_among, passing, zero_is}
 use Rattle.lk_model.proofs.Variables.{any_mono}
 use Rattle.lk_model.proofs.Products.{mul_assoc, mul_swap}
 use Rattle.lk_model.proofs.Lists.{among_at, place_of}
@@ -27,7 +27,6 @@ use Rattle.exact_pivot.proofs.Divided.{IsDivided, primitive_divided}
 use Rattle.exact_pivot.proofs.Finds.{find_says}
 use Rattle.exact_pivot.proofs.ReachedRows.{reached_rows}
 use Rattle.exact_pivot.proofs.Starts.{range_same}
-use Rattle.kernel_laws.proofs.Linear.Balances.{zero_is}
 use Rattle.kernel_laws.proofs.Linear.Sums.{cancel_zero, sum_zero, sum_times}
 use Rattle.linear_laws.specs.RunLaw.{StageLaw}
 use Rattle.linear_laws.proofs.StartRows.{var_at, sign, sign_one, sign_entry, variables_differ}

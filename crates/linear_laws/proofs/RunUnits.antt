@@ -15,9 +15,9 @@ use Rattle.lk_model.specs.Linear.Ends.{common, multiple, share_number, shares_of
 use Rattle.lk_model.specs.declared.document.Share.{Share}
 use Rattle.lk_model.specs.declared.document.Unit.{Unit}
 use Rattle.lk_model.proofs.Products.{mul_assoc}
+use Rattle.lk_model.proofs.ListTests.{zero_is}
 use Rattle.exact_pivot.specs.Reached.{ReachedRows}
 use Rattle.exact_pivot.proofs.Starts.{range_same}
-use Rattle.kernel_laws.proofs.Linear.Balances.{zero_is}
 use Rattle.kernel_laws.proofs.Linear.Sums.{sum_times}
 use Rattle.linear_laws.proofs.Places.{sum_filtered, sum_numbered, sum_images, placed}
 use Rattle.linear_laws.proofs.StartRows.{at, sign, sign_one, sign_entry, var_at, unit_entry}

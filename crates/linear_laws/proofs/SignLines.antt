@@ -12,19 +12,14 @@ use Rattle.lk_model.specs.Documents.Documents.{weighting_of}
 use Rattle.lk_model.specs.Documents.Form.{is_stage}
 use Rattle.lk_model.specs.declared.document.Stage.{Stage}
 use Rattle.lk_model.proofs.Founds.{up_to_bounds}
+use Rattle.lk_model.proofs.Literals.{variable_of as literal_on}
 use Rattle.kernel_laws.proofs.Linear.Stages.{unset_outside, no_sign}
 use Rattle.kernel_laws.proofs.Matching.SetLines.{from_chosen, in_chosen, chosen_rise}
 use Rattle.linear_laws.specs.RunLaw.{sign_literal, sign_line}
 
 -- SIGNS
 
--- a literal of a variable is on it
-literal_on : (v : ℕ) (b : Bool) → variable (literal_of v b) ≡ v
-literal_on v true = refl
-literal_on zero false = refl
-literal_on (suc k) false = refl
-
--- so is the chosen one
+-- the chosen literal of a variable is on it
 on_itself : (stages : List Stage) (v : ℕ) (l : ℤ) → sign_literal stages v ≡ Some l → variable l ≡ v
 on_itself stages v l e = by_sign (first_sign (map weighting_of stages) v) e
   where

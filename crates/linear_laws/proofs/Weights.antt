@@ -12,10 +12,11 @@ use Rattle.lk_model.specs.declared.document.Weight.{Weight}
 use Rattle.lk_model.proofs.Booleans.{or_false}
 use Rattle.lk_model.proofs.Counting.{Differ, more}
 use Rattle.lk_model.proofs.Variables.{occurs}
-use Rattle.kernel_laws.proofs.Linear.Balances.{clause_balance, zero_is}
+use Rattle.kernel_laws.proofs.Linear.Balances.{clause_balance}
 use Rattle.kernel_laws.proofs.Linear.LinearLean.{incidence_absent}
 use Rattle.lk_model.proofs.Clauses.{form_at}
 use Rattle.lk_model.proofs.Lists.{among_at}
+use Rattle.lk_model.proofs.ListTests.{zero_is}
 use Rattle.linear_laws.proofs.Places.{sum_filtered}
 use Rattle.exact_pivot.proofs.Starts.{sum_places}
 

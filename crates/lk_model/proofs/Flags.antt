@@ -1,30 +1,20 @@
 -- The flags of a clause that grows.
-use Rattle.std.proofs.Common.{◌≡◌, ◌≢◌, ℕ, ◌+◌, ◌-◌, ◌*◌, ◌<◌, ◌≤◌, Bool, true, false, ◌||◌, List, [], ◌∷◌, ◌++◌, length, take, drop, get_or, refl, sym, ◌∙◌, ap, arith, ℤ, inl, inr, get_or-set_same, get_or-set_other}
-use Rattle.std.proofs.lemmas.List.{get_or-replicate, get_or_read, length-replicate, length-set, length-append, length-drop, take_all, take_more, take-append-le, take-append-drop}
-use Rattle.std.specs.Prelude.{replicate, slice_set}
+use Rattle.std.proofs.Common.{◌≡◌, ◌≢◌, ℕ, ◌+◌, ◌-◌, ◌<◌, Bool, true, false, ◌||◌, List, [], ◌∷◌, ◌++◌, length, take, drop, get_or, refl, sym, ◌∙◌, ap, arith, ℤ, inl, inr, get_or-set_same, get_or-set_other}
+use Rattle.std.proofs.lemmas.List.{get_or_read, length-set, length-append, length-drop, take_all, take_more, take-append-le, take-append-drop}
+use Rattle.std.specs.Prelude.{slice_set}
 use Rattle.std.specs.Ordering.{int_eq}
 use Rattle.std.proofs.lemmas.Bool.Decides.{Decides-int_eq}
 use Rattle.std.proofs.lemmas.List.Folds.{list_any-append}
 use Rattle.std.proofs.lemmas.Bool.{cases_Bool}
-use Rattle.lk_model.specs.Formulas.Literal.{contains, is_literal}
+use Rattle.lk_model.specs.Formulas.Literal.{contains, is_literal, variable}
 use Rattle.lk_model.specs.Formulas.Literal.{rank_of}
-use Rattle.lk_model.specs.Limits.{max_vars}
 use Rattle.lk_model.specs.Held.Growing.{AreFlagged, IsHeld}
 use Rattle.lk_model.proofs.Booleans.{and_true}
 use Rattle.lk_model.proofs.Ranks.{rank_apart, rank_small}
-use Rattle.lk_model.proofs.Literals.{clause-more, clause-less, clause-last, clause-apart, literal_at, new_at}
+use Rattle.lk_model.proofs.Literals.{clause-more, clause-less, clause-last, clause-apart, literal_at, new_at, int_self}
 
 pub contains-push : (xs : List ℤ) (l k : ℤ) → contains (xs ++ l ∷ []) k ≡ (contains xs k || (int_eq k l || false))
 contains-push xs l k = list_any-append (int_eq k) xs (l ∷ [])
-
--- no flag is up at first
-pub Flagged-none : (n : ℕ) → n ≤ max_vars → AreFlagged n [] (replicate (2 * n + 2) false)
-Flagged-none n h = record {
-  small = h;
-  clause = refl;
-  size = length-replicate (2 * n + 2) false;
-  told = λ l lit. get_or-replicate (2 * n + 2) (rank_of l) false false (rank_small n l lit);
-}
 
 pub same_false : (k l : ℤ) → k ≢ l → int_eq k l ≡ false
 same_false k l ne = elim (cases_Bool (int_eq k l)) [ inl e ↦ absurd (ne ((Decides-int_eq k l).0 e)) | inr e ↦ e ]
@@ -36,6 +26,15 @@ or_no false = refl
 pub or_yes : (b : Bool) → (b || (true || false)) ≡ true
 or_yes true = refl
 or_yes false = refl
+
+-- a literal more says nothing of another variable
+pub push_other : (ls : List ℤ) (l k : ℤ) → variable k ≢ variable l → contains (ls ++ l ∷ []) k ≡ contains ls k
+push_other ls l k other =
+    contains-push ls l k ∙ ap (λ (b : Bool). contains ls k || (b || false)) (same_false k l (λ e. other (ap variable e))) ∙ or_no (contains ls k)
+
+-- the last one stands there
+pub contains_here : (xs : List ℤ) (l : ℤ) → contains (xs ++ l ∷ []) l ≡ true
+contains_here xs l = contains-push xs l l ∙ ap (λ b. contains xs l || (b || false)) (int_self l) ∙ or_yes (contains xs l)
 
 -- the flag of a literal that is added goes up
 pub Flagged-push : (n : ℕ) (xs : List ℤ) (flags : List Bool) (l : ℤ) → AreFlagged n xs flags → is_literal n l ≡ true → contains xs l ≡ false → AreFlagged n (xs ++ l ∷ []) (slice_set flags (rank_of l) true)

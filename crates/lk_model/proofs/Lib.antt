@@ -24,3 +24,7 @@ pub mod VariableLists
 pub mod ClausesAt
 pub mod Variables
 pub mod Keys
+pub mod Places
+pub mod Pieces
+pub mod Spellings
+pub mod Rounds

@@ -3,14 +3,15 @@ use Rattle.std.proofs.Common.{◌≡◌, ◌≢◌, ◌∙◌, ℕ, zero, suc, �
 use Rattle.std.specs.Prelude.{◌==◌}
 use Rattle.std.specs.List.{list_any, list_all}
 use Rattle.std.specs.Ordering.{int_eq}
-use Rattle.std.proofs.lemmas.Bool.{eqb-true, not-true}
+use Rattle.std.proofs.lemmas.Bool.{eqb-true, not-true, and_from, not-false}
 use Rattle.std.proofs.lemmas.Bool.Decides.{Decides-int_eq}
-use Rattle.lk_model.specs.Lists.{among}
+use Rattle.lk_model.specs.Lists.{among, is_zero, is_nonzero}
 use Rattle.lk_model.specs.Formulas.Literal.{contains, is_literal}
 use Rattle.lk_model.specs.Formulas.Formula.{Cnf, clause_at, is_formula}
 use Rattle.lk_model.proofs.Booleans.{and_true, or_true, or_left, or_right}
 use Rattle.lk_model.proofs.Lists.{among_here, among_later}
 use Rattle.lk_model.proofs.Clauses.{literals_of}
+use Rattle.lk_model.proofs.Literals.{same_int}
 
 -- one of the literals passes where one that stands there does
 pub passes_one : (t : ℤ → Bool) (c : List ℤ) (l : ℤ) → contains c l ≡ true → t l ≡ true → list_any t c ≡ true
@@ -29,6 +30,21 @@ passes_each t (k ∷ c) l all there =
       | inl here ↦ ap t ((Decides-int_eq l k).0 here) ∙ both.0
       | inr later ↦ passes_each t c l both.1 later
     ]
+
+-- what each number of a list passes, one of them passes
+pub one_number : (t : ℕ → Bool) (ns : List ℕ) (k : ℕ) → list_all t ns ≡ true → among ns k ≡ true → t k ≡ true
+one_number t [] k h m = absurd (let f : ⊥ = cc in f)
+one_number t (n ∷ ns) k h m =
+    let both = and_true (t n) (list_all t ns) h in
+    elim (or_true (n == k) (among ns k) m) [
+      | inl here ↦ subst (λ (j : ℕ). t j ≡ true) (eqb-true n k here) both.0
+      | inr later ↦ one_number t ns k both.1 later
+    ]
+
+-- and what each of them passes, all pass
+pub each_number : (t : ℕ → Bool) (ns : List ℕ) → ((k : ℕ) → among ns k ≡ true → t k ≡ true) → list_all t ns ≡ true
+each_number t [] h = refl
+each_number t (n ∷ ns) h = and_from (t n) (list_all t ns) (h n (among_here n ns)) (each_number t ns (λ k m. h k (among_later n k ns m)))
 
 -- one of the positions passes where one that is among them does
 pub passes_among : (t : ℕ → Bool) (ps : List ℕ) (p : ℕ) → among ps p ≡ true → t p ≡ true → list_any t ps ≡ true
@@ -86,3 +102,23 @@ literal_within F p l form there = passes_each (is_literal F.vars) (clause_at F p
 -- and so it is not 0
 pub not_zero : (n : ℕ) (l : ℤ) → is_literal n l ≡ true → l ≢ pos 0
 not_zero n l lit is = let zero_is : is_literal n (pos 0) ≡ true = subst (λ (k : ℤ). is_literal n k ≡ true) is lit in cc
+
+-- and passes the test
+pub real_literal : (n : ℕ) (l : ℤ) → is_literal n l ≡ true → is_nonzero l ≡ true
+real_literal n l e = at_test (is_nonzero l) refl
+  where
+    at_test : (b : Bool) → is_nonzero l ≡ b → b ≡ true
+    at_test true z = refl
+    at_test false z = absurd (not_zero n l e (sym (same_int (pos zero) l (not-false (is_zero l) z))))
+
+-- a literal that passes it is not 0
+pub real : (l : ℤ) → is_nonzero l ≡ true → l ≢ pos 0
+real l e same = let f : is_nonzero (pos 0) ≡ true = subst (λ (k : ℤ). is_nonzero k ≡ true) same e in let g : ⊥ = cc in g
+
+-- and one that does not is 0
+pub zero_is : (x : ℤ) → is_nonzero x ≡ false → x ≡ pos 0
+zero_is x e = by_test (is_zero x) refl e
+  where
+    by_test : (b : Bool) → is_zero x ≡ b → not b ≡ false → x ≡ pos 0
+    by_test true s f = sym ((Decides-int_eq (pos 0) x).0 s)
+    by_test false s f = absurd (let g : ⊥ = cc in g)

@@ -1,14 +1,20 @@
 -- Lists, and the numbers that stand in them.
-use Rattle.std.proofs.Common.{◌≡◌, ℕ, zero, suc, ◌+◌, ◌<◌, ◌≤◌, Bool, true, false, cond, List, [], ◌∷◌, ◌++◌, length, drop, get_or, filter, refl, sym, ◌∙◌, ap, arith, ◌==◌, nat_lt, ◌⊎◌, inl, inr}
+use Rattle.std.proofs.Common.{◌≡◌, ℕ, zero, suc, ◌+◌, ◌<◌, ◌≤◌, Bool, true, false, cond, List, [], ◌∷◌, ◌++◌, length, drop, get_or, filter, refl, sym, ◌∙◌, ap, arith, ◌==◌, nat_lt, ◌⊎◌, inl, inr, ◌||◌, subst, map}
 use Rattle.std.specs.List.{list_all}
 use Rattle.std.proofs.lemmas.Bool.{leb-true, eqb-true, eq-eqb}
 use Rattle.std.proofs.lemmas.List.{drop_more}
-use Rattle.lk_model.specs.Lists.{among}
+use Rattle.std.proofs.lemmas.List.Folds.{list_any-append}
+use Rattle.lk_model.specs.Lists.{among, is_empty}
 use Rattle.lk_model.proofs.Booleans.{and_true, or_left, or_right, or_true}
 
 -- the rest of a list from a place on, of which the first element was read
 pub drop_read : {X : Type 0} (xs : List X) (i : ℕ) (x : X) → i < length xs → x ≡ get_or xs i x → drop i xs ≡ x ∷ drop (i + 1) xs
 drop_read xs i x lt e = drop_more xs i x lt ∙ ap (λ y. y ∷ drop (i + 1) xs) (sym e)
+
+-- a list with a length is not empty
+pub not_empty : (xs : List ℕ) → 0 < length xs → is_empty xs ≡ false
+not_empty [] h = absurd (omega (arith, h))
+not_empty (x ∷ xs) h = refl
 
 -- WHAT STANDS IN A LIST OF NUMBERS
 
@@ -47,6 +53,14 @@ pub among_right : (ns ms : List ℕ) (k : ℕ) → among ms k ≡ true → among
 among_right [] ms k e = e
 among_right (n ∷ ns) ms k e = or_right (n == k) _ (among_right ns ms k e)
 
+-- with one number more, those before it stand there
+pub among_front : (ns : List ℕ) (n k : ℕ) → among ns k ≡ true → among (ns ++ n ∷ []) k ≡ true
+among_front ns n k there = list_any-append (λ j. j == k) ns (n ∷ []) ∙ or_left (among ns k) ((n == k) || false) there
+
+-- and so does that one
+pub among_last : (ns : List ℕ) (n : ℕ) → among (ns ++ n ∷ []) n ≡ true
+among_last ns n = list_any-append (λ k. k == n) ns (n ∷ []) ∙ or_right (among ns n) ((n == n) || false) (or_left (n == n) false (eq-eqb n n refl))
+
 -- a number of two lists together is one of either
 pub among_either : (ns ms : List ℕ) (k : ℕ) → among (ns ++ ms) k ≡ true → (among ns k ≡ true) ⊎ (among ms k ≡ true)
 among_either [] ms k e = inr e
@@ -54,6 +68,10 @@ among_either (n ∷ ns) ms k e = elim (or_true (n == k) (among (ns ++ ms) k) e) 
   | inl here ↦ inl (or_left (n == k) _ here)
   | inr more ↦ elim (among_either ns ms k more) [ inl there ↦ inl (or_right (n == k) _ there) | inr there ↦ inr there ]
 ]
+
+-- and so the numbers of both are
+pub among_append : (ns ms : List ℕ) (k : ℕ) → among (ns ++ ms) k ≡ (among ns k || among ms k)
+among_append ns ms k = list_any-append (λ n. n == k) ns ms
 
 -- where all numbers of a list lie below n, each of them does
 pub name_lower : (n : ℕ) (ns : List ℕ) (k : ℕ) → list_all (λ j. nat_lt j n) ns ≡ true → among ns k ≡ true → k < n
@@ -64,6 +82,22 @@ name_lower n (j ∷ ns) k a e =
       | inl here ↦ (let same = eqb-true j k here in let below = leb-true (suc j) n both.0 in omega (arith, same, below))
       | inr more ↦ name_lower n ns k both.1 more
     ]
+
+-- what a number of the list is taken to
+pub in_mapped : (f : ℕ → ℕ) (ns : List ℕ) (k : ℕ) → among ns k ≡ true → among (map f ns) (f k) ≡ true
+in_mapped f [] k m = absurd (let g : ⊥ = cc in g)
+in_mapped f (n ∷ ns) k m = elim (or_true (n == k) (among ns k) m) [
+  | inl here ↦ subst (λ (j : ℕ). among (map f (n ∷ ns)) (f j) ≡ true) (eqb-true n k here) (among_here (f n) (map f ns))
+  | inr later ↦ among_later (f n) (f k) (map f ns) (in_mapped f ns k later)
+]
+
+-- and each new number comes from one of the list
+pub from_mapped : (f : ℕ → ℕ) (ns : List ℕ) (k : ℕ) → among (map f ns) k ≡ true → (j : ℕ) × (among ns j ≡ true) × (f j ≡ k)
+from_mapped f [] k e = absurd (let z : ⊥ = cc in z)
+from_mapped f (n ∷ ns) k e = elim (or_true (f n == k) (among (map f ns) k) e) [
+  | inl here ↦ (n, among_here n ns, eqb-true (f n) k here)
+  | inr later ↦ (let w = from_mapped f ns k later in (w.0, among_later n w.0 ns w.1, w.2))
+]
 
 -- what is left by a test is not longer
 pub filter_length : (t : ℕ → Bool) (ns : List ℕ) → length (filter t ns) ≤ length ns

@@ -11,7 +11,7 @@ use Rattle.std.specs.List.{All, range_with_len}
 use Rattle.lk_model.specs.Lists.{among, up_to}
 use Rattle.lk_model.specs.Held.VariableSets.{is_in, with_variable}
 
-none_at : (n k : ℕ) → get_or (replicate n false) k false ≡ false
+pub none_at : (n k : ℕ) → get_or (replicate n false) k false ≡ false
 none_at zero k = refl
 none_at (suc n) zero = refl
 none_at (suc n) (suc k) = none_at n k

@@ -1,9 +1,10 @@
 -- The variables of clauses.
-use Rattle.std.proofs.Common.{◌≡◌, ℕ, ◌<◌, ◌≤◌, Bool, true, ◌==◌, nat_le, List, [], ◌∷◌, refl, arith, inl, inr, ℤ}
+use Rattle.std.proofs.Common.{◌≡◌, ℕ, ◌<◌, ◌≤◌, Bool, true, ◌==◌, nat_le, List, [], ◌∷◌, refl, arith, inl, inr, ℤ, ◌||◌, map, ap, zero, suc, nat_lt, subst, length}
 use Rattle.std.specs.List.{list_any, list_all}
 use Rattle.std.specs.Ordering.{int_eq}
 use Rattle.std.proofs.lemmas.Bool.Decides.{Decides-int_eq}
-use Rattle.std.proofs.lemmas.Bool.{leb-true, eqb-true}
+use Rattle.std.proofs.lemmas.Bool.{leb-true, eqb-true, cases_Bool, ltb-true, ltb-false}
+use Rattle.std.proofs.lemmas.List.{get_or_past}
 use Rattle.lk_model.specs.Lists.{among}
 use Rattle.lk_model.specs.Formulas.Literal.{variable, contains, mentions, is_literal}
 use Rattle.lk_model.specs.Formulas.Formula.{Cnf, clause_at, is_formula, variable_occurs, variables_to}
@@ -27,6 +28,11 @@ literal_passing t (l ∷ c) e = elim (or_true (t l) (list_any t c) e) [
   | inl here ↦ (l, or_left (int_eq l l) (contains c l) ((Decides-int_eq l l).1 refl), here)
   | inr later ↦ (let w = literal_passing t c later in (w.0, or_right (int_eq w.0 l) (contains c w.0) w.1, w.2))
 ]
+
+-- the variables of a clause are those that it mentions
+pub among_variables : (c : List ℤ) (v : ℕ) → among (map variable c) v ≡ mentions c v
+among_variables [] v = refl
+among_variables (l ∷ c) v = ap (λ (b : Bool). (variable l == v) || b) (among_variables c v)
 
 -- a variable of a kept clause occurs
 pub occurs : (F : Cnf) (kept : List ℕ) (p v : ℕ) → among kept p ≡ true → mentions (clause_at F p) v ≡ true → variable_occurs F kept v ≡ true
@@ -52,6 +58,17 @@ clause_bound n (l ∷ c) v a e =
 
 pub variable_bound : (F : Cnf) (p v : ℕ) → is_formula F ≡ true → mentions (clause_at F p) v ≡ true → (0 < v) × (v ≤ F.vars)
 variable_bound F p v f e = clause_bound F.vars (clause_at F p) v (literals_of F p f) e
+
+-- and a clause with a variable stands in the formula
+pub position_bound : (G : Cnf) (p v : ℕ) → mentions (clause_at G p) v ≡ true → (1 ≤ p) × (p ≤ length G.clauses)
+position_bound G zero v e = absurd (let z : ⊥ = cc in z)
+position_bound G (suc k) v e = elim (cases_Bool (nat_lt k (length G.clauses))) [
+  | inl y ↦ (let inside = ltb-true k (length G.clauses) y in (omega arith, omega (arith, inside)))
+  | inr n ↦
+      (let past = ltb-false k (length G.clauses) n in
+      let none : clause_at G (suc k) ≡ [] = get_or_past G.clauses k [] past in
+      absurd (let gone = subst (λ c. mentions c v ≡ true) none e in let z : ⊥ = cc in z))
+]
 
 pub in_variables : (n v : ℕ) → (0 < v) × (v ≤ n) → among (variables_to n) v ≡ true
 in_variables n v b = among-range 1 n v b.0 (omega (arith, b.1))

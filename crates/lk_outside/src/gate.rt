@@ -1,3 +1,7 @@
+//! The gate that each half of the work enters.
+//!
+//! The program lets all halves through. A test may hold one back, so that halves on threads start in an order that it
+//! chooses.
 /// Is told when a half of the work starts. Halves on two threads share one gate.
 pub trait Gate: Sync {
     /// The half of that number is about to start, and does once this returns.

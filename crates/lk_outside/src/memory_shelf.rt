@@ -1,3 +1,4 @@
+//! A shelf over texts in memory, of which calls fail where a test wants it.
 ghost use Rattle.std.specs.Prelude.{◌≡◌, ◌≢◌, ◌↔◌, ◌<◌, ◌≤◌, length, IsTrue, IsErr, IsErrOf, IfOk, OnOk, Some, Err, false, is_some};
 ghost use Rattle.lk_outside.specs.Causes.{HasCause, TellsTheSame};
 ghost use Rattle.lk_outside.specs.Reads.{ReadTakes};

@@ -1,3 +1,4 @@
+//! A sink into memory, of which writes fail where a test wants it.
 ghost use Rattle.std.specs.Prelude.{◌≡◌, ◌↔◌, ℕ, ◌<◌, ◌≤◌, length, IsTrue, IsErr, IfOk, OnErr, Some};
 ghost use Rattle.std.specs.Io.KnownBytes.{WriteAppends};
 ghost use Rattle.lk_outside.specs.Causes.{HasCause};

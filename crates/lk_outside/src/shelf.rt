@@ -1,3 +1,7 @@
+//! Where inputs come from.
+//!
+//! The program is proved over any shelf: over texts in memory a contract says what was read, and over files, whose bytes no
+//! contract sees, the same contract still says which call failed.
 ghost use Rattle.std.specs.Prelude.{◌≡◌, ◌≢◌, ℕ, ◌<◌, ◌≤◌, ◌↔◌, List, Bool, true, false, length, OnOk, IfOk, IsOk, IsErr, IsErrOf, IsTrue};
 ghost use Rattle.std.specs.declared.option.Option.{Option};
 ghost use Rattle.lk_outside.specs.Causes.{HasCause, TellsTheSame};

@@ -1,3 +1,7 @@
+//! The files and streams of the system as shelves and sinks.
+//!
+//! Contracts know nothing of their bytes. What is said of a run over them rests on the contracts of the library that calls
+//! the system.
 ghost use Rattle.std.specs.Prelude.{◌≡◌, ◌≢◌, ◌↔◌, ℕ, ◌<◌, ◌≤◌, length, IsTrue, IsErr, IsErrOf, IfOk, OnOk, None, Some, Err, false, is_some};
 ghost use Rattle.std.specs.Result.{is_err};
 ghost use Rattle.lk_outside.specs.Causes.{HasCause, TellsTheSame};

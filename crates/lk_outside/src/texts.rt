@@ -1,3 +1,4 @@
+//! Names and texts as contracts see them: as bytes.
 ghost use Rattle.std.specs.Prelude.{◌≡◌, ℕ, List, IfOk};
 
 use lk_model::OutOfMemory;

@@ -52,6 +52,19 @@ pub fn formula_of(alloc: Global, n: u32, clauses: &[&[i32]]) -> Result<Formula, 
     Ok(formula)
 }
 
+/// The formula over the variables from 1 to `vars` in which each one from 3 to n equals the sum of the two
+/// before it, up to sign.
+pub fn sums(alloc: Global, vars: u32, n: i32) -> Result<Formula, Fail> {
+    let mut formula = Formula::new(alloc, vars)?;
+    for k in 3..n.saturating_add(1) {
+        let (one, two) = (k.saturating_sub(1), k.saturating_sub(2));
+        let less = [k, one.saturating_neg(), two.saturating_neg()];
+        append(alloc, &mut formula, &less)?;
+        append(alloc, &mut formula, &[k.saturating_neg(), one, two])?;
+    }
+    Ok(formula)
+}
+
 /// The set of these variables, of those from 1 to n.
 pub fn set_of(alloc: Global, n: u32, vars: &[u32]) -> Result<VarSet, Fail>
     ensures { IfOk result (λ s. length s ≡ n) }

@@ -1,16 +1,22 @@
 //! Literals, clauses and formulas for tests, from numbers, from texts or drawn from a seed, and what
-//! the calls ask of them, as tests that answer a Boolean.
+//! the calls ask of them, as tests that answer a Boolean; and gates that hold a half of the work.
 #![tactic(auto)]
 
 mod checked;
 mod compared;
 mod drawn;
+mod gates;
 mod given;
+mod lines;
+mod told;
 mod written;
 
 pub use checked::{has_part, positions};
 pub use compared::{has_clauses, spells};
 pub use drawn::{Numbers, drawn_formula};
-pub use given::{append, formula_of, literals, push, set_of};
+pub use gates::{FirstItem, Meeting};
+pub use given::{append, formula_of, literals, push, set_of, sums};
+pub use lines::answer_lines;
 pub use lk_model::makes_clause;
-pub use written::{formula_of_text, literals_of_text};
+pub use told::{put_literals, put_round, put_rounds, put_steps};
+pub use written::{formula_of_text, literals_of_text, numbers_of_text, part_of_text};

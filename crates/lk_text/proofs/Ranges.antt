@@ -6,10 +6,6 @@ use Rattle.std.proofs.lemmas.List.{get_or-drop}
 use Rattle.std.proofs.lemmas.List.Folds.{list_all_more, list_all_at}
 use Rattle.std.proofs.lemmas.Bool.{cases_Bool, eqb-true}
 
--- an empty range passes
-pub range-none : (p : ℕ → Bool) (xs : List ℕ) (a : ℕ) → list_all p (slice_range xs a a) ≡ true
-range-none p xs a = let none : a - a ≡ 0 = omega arith in ap (λ (n : ℕ). list_all p (take n (drop a xs))) none
-
 -- one byte more, which passes
 pub range-more : (p : ℕ → Bool) (xs : List ℕ) (a i : ℕ) → a ≤ i → i < length xs → list_all p (slice_range xs a i) ≡ true → p (get_or xs i 0) ≡ true → list_all p (slice_range xs a (i + 1)) ≡ true
 range-more p xs a i low high before here =

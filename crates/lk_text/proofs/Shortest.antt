@@ -12,6 +12,7 @@ use Rattle.std.proofs.lemmas.List.Sums.{fold_push, fold-append}
 use Rattle.std.proofs.lemmas.Slice.Eq.{bytes_eq-Decides}
 use Rattle.std.proofs.lemmas.Str.Parse.{IsNumeralModel, numerals_by_fold}
 use Rattle.lk_model.proofs.Booleans.{and_true}
+use Rattle.lk_model.proofs.Spellings.{digit_range}
 use Rattle.lk_model.specs.Limits.{is_in_range}
 use Rattle.lk_model.specs.Texts.Lines.{Word}
 use Rattle.lk_model.specs.Texts.NumberWords.{digits_value, natural, number, negated, not_negated}
@@ -24,9 +25,6 @@ step n d = 10 * n + (d - 48)
 -- our digits are std's
 pub own : IsNumeralModel (λ ds. list_all is_ascii_digit ds ≡ true) digits_value
 own = numerals_by_fold (λ ds. list_all is_ascii_digit ds ≡ true) (search rules) (λ n ds. fold step n ds) (search rules)
-
-digit_range : (d : ℕ) → is_ascii_digit d ≡ true → (48 ≤ d) × (d ≤ 57)
-digit_range d h = let both = and_true _ _ h in (leb-true 48 d both.0, leb-true d 57 both.1)
 
 pub digit_most : (d : ℕ) → is_ascii_digit d ≡ true → d ≤ 57
 digit_most d h = (digit_range d h).1
@@ -148,7 +146,7 @@ natural_shortest (d ∷ ds) n e fits = by_test (list_all is_ascii_digit (d ∷ d
 abbrev pub IsTold : Word → Bool → Type 0
 IsTold word b = IfSome (if_in_range (number word)) (λ x. b ≡ not (bytes_eq word (signed_decimal x)))
 
-fits_wide : (x : ℤ) → is_in_range x ≡ true → unsigned_abs x < 10 ^ 64
+pub fits_wide : (x : ℤ) → is_in_range x ≡ true → unsigned_abs x < 10 ^ 64
 fits_wide x h = omega (arith, leb-true (unsigned_abs x) (2 ^ 127 - 1) h)
 
 pub told_digits : (word : Word) → number word ≡ not_negated (natural word) → IsTold word (begins_with_zero word)

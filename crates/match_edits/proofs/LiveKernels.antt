@@ -12,7 +12,7 @@ use Rattle.lk_model.specs.Formulas.Autarky.{Positions, Within, IsMatchingAutarky
 use Rattle.lk_model.specs.Formulas.Formula.{Cnf, clause_at, clauses_at}
 use Rattle.lk_model.specs.Formulas.Lean.{IsLean, KernelWithin, are_positions, all_of}
 use Rattle.lk_model.proofs.Booleans.{and_true, or_true}
-use Rattle.lk_model.proofs.Lists.{among_at, among_here, among_later}
+use Rattle.lk_model.proofs.Lists.{among_at, among_here, among_later, in_mapped, from_mapped}
 use Rattle.lk_model.proofs.Rising.{rises, rising_bounds}
 use Rattle.edit_text.specs.LiveClauses.{LiveClauses, number_at}
 use Rattle.match_edits.specs.LiveKernel.{IsLiveKernel}
@@ -91,20 +91,6 @@ place_less low high xs k l r a b h = at_test (nat_lt (place_in xs k) (place_in x
         absurd (let x = v.is in let y = w.is in omega (arith, le, x, y, h))
 
 -- PLACES OF A LIST OF NUMBERS
-
-in_mapped : (f : ℕ → ℕ) (ks : List ℕ) (k : ℕ) → among ks k ≡ true → among (map f ks) (f k) ≡ true
-in_mapped f [] k e = absurd (let z : ⊥ = cc in z)
-in_mapped f (x ∷ ks) k e = elim (or_true (x == k) (among ks k) e) [
-  | inl s ↦ subst (λ y. among (f x ∷ map f ks) (f y) ≡ true) (eqb-true x k s) (among_here (f x) (map f ks))
-  | inr t ↦ among_later (f x) (f k) (map f ks) (in_mapped f ks k t)
-]
-
-from_mapped : (f : ℕ → ℕ) (ks : List ℕ) (p : ℕ) → among (map f ks) p ≡ true → (k : ℕ) × (among ks k ≡ true) × (f k ≡ p)
-from_mapped f [] p e = absurd (let z : ⊥ = cc in z)
-from_mapped f (x ∷ ks) p e = elim (or_true (f x == p) (among (map f ks) p) e) [
-  | inl s ↦ (x, among_here x ks, eqb-true (f x) p s)
-  | inr t ↦ (let w = from_mapped f ks p t in (w.0, among_later x w.0 ks w.1, w.2))
-]
 
 places_rise : (floor high : ℕ) (live : List ℕ) (low top a : ℕ) (ks : List ℕ) → rises_within floor high live ≡ true → rises_within low top ks ≡ true → ((k : ℕ) → among ks k ≡ true → among live k ≡ true)
     → ((k : ℕ) → among live k ≡ true → low < k → a < place_in live k) → rises_within a (length live) (map (place_in live) ks) ≡ true

@@ -1,5 +1,5 @@
 -- The literals that own lines make true.
-use Rattle.std.proofs.Common.{◌≡◌, ℕ, zero, suc, ◌+◌, ◌-◌, ◌<◌, ◌≤◌, ◌∙◌, true, List, [], ◌∷◌, length, get_or, refl, sym, ap, arith, ℤ, Option, None, inl, inr, Contains}
+use Rattle.std.proofs.Common.{◌≡◌, ℕ, suc, ◌+◌, ◌-◌, ◌<◌, ◌≤◌, ◌∙◌, true, List, [], ◌∷◌, length, get_or, refl, sym, ap, arith, ℤ, Option, None, inl, inr, Contains}
 use Rattle.std.specs.Prelude.{find, ◌==◌}
 use Rattle.std.specs.List.{filter_map, range_with_len}
 use Rattle.std.specs.Option.{option_map_or}
@@ -8,21 +8,11 @@ use Rattle.std.proofs.lemmas.List.Elements.{Contains-get_or}
 use Rattle.lk_model.specs.Formulas.Literal.{mentions}
 use Rattle.lk_model.specs.Formulas.Formula.{Cnf, is_formula, clause_at}
 use Rattle.lk_model.specs.declared.document.Own.{Own}
-use Rattle.lk_model.proofs.Variables.{variable_bound}
+use Rattle.lk_model.proofs.Variables.{variable_bound, position_bound}
 use Rattle.kernel_laws.specs.Matching.MatchingResults.{IsOwn, literal_on, own_literal, set_line}
 use Rattle.kernel_laws.specs.FirstTables.{IsFirstTable}
 
 -- WHERE AN OWN LINE STANDS
-
--- a clause with a literal is one of the list
-clause_within : (cs : List (List ℤ)) (k v : ℕ) → mentions (get_or cs k []) v ≡ true → k < length cs
-clause_within [] k v e = absurd (let f : ⊥ = cc in f)
-clause_within (c ∷ cs) zero v e = omega arith
-clause_within (c ∷ cs) (suc k) v e = let within = clause_within cs k v e in omega (arith, within)
-
-position_bound : (F : Cnf) (p v : ℕ) → mentions (clause_at F p) v ≡ true → (1 ≤ p) × (p ≤ length F.clauses)
-position_bound F zero v e = absurd (let f : ⊥ = cc in f)
-position_bound F (suc k) v e = let within = clause_within F.clauses k v e in (omega arith, omega (arith, within))
 
 -- its position and its variable are the formula's
 pub record IsPlaced (F : Cnf) (o : Own) : Type 0 where

@@ -16,19 +16,10 @@ use Rattle.lk_model.specs.declared.document.Round.{Round}
 use Rattle.lk_model.specs.declared.document.Without.{Without}
 use Rattle.lk_model.proofs.Booleans.{and_true, or_true}
 use Rattle.lk_model.proofs.Rising.{bounded}
+use Rattle.lk_model.proofs.ListTests.{one_number}
 use Rattle.kernel_laws.proofs.General.Refuting.{refutation_law}
 use Rattle.kernel_laws.proofs.MinimalLaws.{minimal_law}
 use Rattle.minimal_laws.specs.CoreLaw.{IsCore, CoreLaw}
-
--- what each number of a list passes, one of them passes
-one_number : (t : ℕ → Bool) (ns : List ℕ) (k : ℕ) → list_all t ns ≡ true → among ns k ≡ true → t k ≡ true
-one_number t [] k h m = absurd (let f : ⊥ = cc in f)
-one_number t (n ∷ ns) k h m =
-    let both = and_true (t n) (list_all t ns) h in
-    elim (or_true (n == k) (among ns k) m) [
-      | inl here ↦ subst (λ (j : ℕ). t j ≡ true) (eqb-true n k here) both.0
-      | inr later ↦ one_number t ns k both.1 later
-    ]
 
 -- literals that satisfy the others make a model of them
 others : (F : Cnf) (core : List ℕ) (w : Without) → satisfies_others F core w ≡ true → IsModel F (all_but (among core) w.pos) (assignment_of w.lits)

@@ -4,3 +4,4 @@ pub mod Steps
 pub mod Lines
 pub mod LineSteps
 pub mod Texts
+pub mod Standing

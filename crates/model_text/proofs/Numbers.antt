@@ -3,16 +3,16 @@ use Rattle.std.proofs.Common.{◌≡◌, ◌∙◌, zero, suc, Bool, true, false
 use Rattle.std.specs.List.{list_any}
 use Rattle.std.specs.Ordering.{int_eq}
 use Rattle.std.proofs.lemmas.Bool.{cases_Bool, not-true, and_from}
-use Rattle.std.proofs.lemmas.List.Folds.{list_all-append, list_any-append}
+use Rattle.std.proofs.lemmas.List.Folds.{list_all-append}
 use Rattle.std.proofs.lemmas.List.Elements.{filter-append}
 use Rattle.lk_model.specs.Lists.{is_empty, is_zero, is_nonzero}
 use Rattle.lk_model.specs.Formulas.Literal.{complement, contains}
 use Rattle.lk_model.specs.Texts.ModelText.{ends_at_zero, literals_among, is_consistent}
-use Rattle.lk_model.proofs.Booleans.{and_true, or_true, or_false, or_left}
+use Rattle.lk_model.proofs.Booleans.{and_true, or_true, or_false}
 use Rattle.lk_model.proofs.ListTests.{all_weaker, passes_each}
 use Rattle.lk_model.proofs.Founds.{all_literals}
-use Rattle.lk_model.proofs.Flags.{contains-push}
-use Rattle.lk_model.proofs.Literals.{same_int, int_self, complement_twice}
+use Rattle.lk_model.proofs.Flags.{contains-push, contains_here as contains_last}
+use Rattle.lk_model.proofs.Literals.{same_int, complement_twice, in_left as contains_front}
 use Rattle.model_text.specs.ModelTexts.{may_stand}
 
 -- a test that cannot pass fails
@@ -61,9 +61,6 @@ ends_closed (x ∷ xs) y h = elim (cases_Bool (is_zero x)) [
 
 -- CONSISTENT LITERALS
 
-pub contains_front : (xs ys : List ℤ) (k : ℤ) → contains xs k ≡ true → contains (xs ++ ys) k ≡ true
-contains_front xs ys k h = list_any-append (int_eq k) xs ys ∙ or_left (contains xs k) (contains ys k) h
-
 absent_front : (xs ys : List ℤ) (k : ℤ) → not (contains (xs ++ ys) k) ≡ true → not (contains xs k) ≡ true
 absent_front xs ys k h = elim (cases_Bool (contains xs k)) [
   | inl y ↦ absurd (let there = contains_front xs ys k y in let f : ⊥ = cc (sym (ap not there) ∙ h) in f)
@@ -78,14 +75,6 @@ consistent_before xs ys h =
 -- the complement of a literal that stands there does not
 pub apart : (ls : List ℤ) (l : ℤ) → is_consistent ls ≡ true → contains ls l ≡ true → contains ls (complement l) ≡ false
 apart ls l h there = not-true (contains ls (complement l)) (passes_each (λ (k : ℤ). not (contains ls (complement k))) ls l h there)
-
--- the last one stands there
-pub contains_last : (ls : List ℤ) (l : ℤ) → contains (ls ++ l ∷ []) l ≡ true
-contains_last ls l = contains-push ls l l ∙ rw (int_self l) (or_last (contains ls l))
-  where
-    or_last : (b : Bool) → (b || true) ≡ true
-    or_last true = refl
-    or_last false = refl
 
 -- a literal is not its own complement
 own_complement : (l : ℤ) → complement l ≡ l → is_zero l ≡ true

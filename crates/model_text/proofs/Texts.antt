@@ -1,6 +1,6 @@
 -- Model texts as far as they go, and their first faulty line.
-use Rattle.std.proofs.Common.{◌≡◌, ◌⊎◌, ℕ, zero, suc, ◌+◌, ◌<◌, ◌≤◌, ◌∙◌, Bool, true, false, not, cond, List, [], ◌∷◌, ◌++◌, length, take, drop, refl, sym, ap, subst, append_assoc, arith, ℤ, Some, None, inl, inr, length-append}
-use Rattle.std.specs.Prelude.{find, flat_map, slice_range, Ok, Err}
+use Rattle.std.proofs.Common.{◌≡◌, ℕ, zero, suc, ◌+◌, ◌<◌, ◌≤◌, ◌∙◌, Bool, true, false, not, cond, List, [], ◌∷◌, ◌++◌, length, take, drop, refl, sym, ap, subst, append_assoc, arith, ℤ, Some, None, length-append}
+use Rattle.std.specs.Prelude.{find, flat_map, Ok, Err}
 use Rattle.std.specs.List.{list_all, range_with_len}
 use Rattle.std.proofs.lemmas.Bool.{and_from}
 use Rattle.std.proofs.lemmas.Grind.{flat_map-append}
@@ -9,17 +9,14 @@ use Rattle.std.proofs.lemmas.List.Folds.{list_all-append}
 use Rattle.std.proofs.Math.Seq.{take-append_seam}
 use Rattle.lk_model.specs.Lists.{up_to}
 use Rattle.lk_model.specs.Formulas.Assignment.{assignment_of}
-use Rattle.lk_model.specs.Held.PartialValues.{assignment_by}
 use Rattle.lk_model.specs.Texts.Lines.{Word}
 use Rattle.lk_model.specs.Texts.ModelText.{is_model_line, line_numbers, is_model_text, first_faulty_line, literals_among, word_lines, model_of}
 use Rattle.lk_model.proofs.Booleans.{and_true}
 use Rattle.lk_model.proofs.Founds.{none_found}
-use Rattle.lk_text.specs.Cutting.{IsNextLine}
-use Rattle.lk_text.specs.declared.cuts.Cut.{Cut}
-use Rattle.model_text.specs.ModelTexts.{Gives, TakesLine, IsModelRead, may_stand, words_in}
+use Rattle.model_text.specs.ModelTexts.{Gives, TakesLine, IsModelRead, may_stand}
+use Rattle.model_text.specs.Fed.{AreRead}
 use Rattle.model_text.specs.declared.reading.ModelDraft.{ModelDraft}
 use Rattle.model_text.proofs.Numbers.{fails, may_before}
-use Rattle.model_text.proofs.Lines.{LieBefore, none_before, next_before, all_before}
 
 -- the numbers of lines in a row
 numbers_more : (a b : List (List Word)) → flat_map line_numbers (a ++ b) ≡ flat_map line_numbers a ++ flat_map line_numbers b
@@ -82,11 +79,6 @@ no_fault n lines h = none_found (λ k. not (is_model_text n (take k lines))) (up
 
 -- WHAT IS READ
 
--- the lines so far are a model text, and gave these values
-pub record AreRead (n : ℕ) (lines : List (List Word)) (draft : ModelDraft) : Type 0 where
-  pub lawful : list_all (is_model_line n) lines ≡ true
-  pub gives : Gives (flat_map line_numbers lines) draft
-
 -- one line more, or the first faulty one
 pub line_read : (n : ℕ) (lines : List (List Word)) (words : List Word) (d next : ModelDraft) → AreRead n lines d
     → TakesLine n (flat_map line_numbers lines) words true next → AreRead n (lines ++ words ∷ []) next
@@ -117,71 +109,14 @@ line_faulty bytes n lines rest words d next r h parts =
     let f : ⊥ = cc (sym both ∙ h) in f) in
     by_line bytes n (length lines + 1) (ap (first_faulty_line n) parts ∙ first_fault n lines rest words (text_read n lines d r) bad)
 
--- all lines were read, but for one without words
-pub all_read : (bytes : List ℕ) (n : ℕ) (lines : List (List Word)) (d : ModelDraft) → AreRead n lines d → length d.values ≡ n
-    → (word_lines bytes ≡ lines) ⊎ (word_lines bytes ≡ lines ++ [] ∷ []) → IsModelRead bytes n d.values
-all_read bytes n lines d r size either = elim either [
-  | inl same ↦ by_lines lines same r.lawful r.gives
-  | inr more ↦ by_lines (lines ++ [] ∷ []) more (list_all-append (is_model_line n) lines ([] ∷ []) ∙ and_from (list_all (is_model_line n) lines) true r.lawful refl)
-      (subst (λ (xs : List ℤ). Gives xs d) (sym (last_numbers lines [] ∙ append-nil (flat_map line_numbers lines))) r.gives)
-]
-  where
-    by_lines : (ls : List (List Word)) → word_lines bytes ≡ ls → list_all (is_model_line n) ls ≡ true → Gives (flat_map line_numbers ls) d → IsModelRead bytes n d.values
-    by_lines ls same lawful gives =
-        let fine = and_from (list_all (is_model_line n) ls) (may_stand (flat_map line_numbers ls)) lawful gives.fine in
-        let none : first_faulty_line n (word_lines bytes) ≡ None = ap (first_faulty_line n) same ∙ no_fault n ls fine in
-        record {
-          literals = literals_among (flat_map line_numbers (word_lines bytes));
-          text = by_none bytes n none;
-          vars = size;
-          values = gives.values ∙ ap (λ (ks : List (List Word)). assignment_of (literals_among (flat_map line_numbers ks))) (sym same);
-        }
-
--- THE READER
-
--- so many lines lie before the place, and were read
-pub record IsReadTo (bytes : List ℕ) (n at count : ℕ) (draft : ModelDraft) : Type 0 where
-  pub lines : List (List Word)
-  pub before : LieBefore bytes at lines
-  pub size : count ≡ length lines
-  pub read : AreRead n lines draft
-
-pub read_nothing : (bytes : List ℕ) (n : ℕ) (d : ModelDraft) → assignment_by d.values ≡ assignment_of [] → d.closed ≡ false → IsReadTo bytes n 0 0 d
-read_nothing bytes n d values open_still = record {
-  lines = [];
-  before = none_before bytes;
-  size = refl;
-  read = record { lawful = refl; gives = record { fine = refl; values = values; closed = open_still } };
-}
-
--- a line by its answer
-by_answer : (m n : ℕ) (numbers : List ℤ) (words : List Word) (taken answer : Bool) (next : ModelDraft) → m ≡ n → taken ≡ answer
-    → TakesLine m numbers words taken next → TakesLine n numbers words answer next
-by_answer m n numbers words taken answer next same e h =
-    subst (λ (b : Bool). TakesLine n numbers words b next) e (subst (λ (k : ℕ). TakesLine k numbers words taken next) same h)
-
-pub read_next : (bytes : List ℕ) (n at count : ℕ) (cut : Cut) (d next : ModelDraft) (taken : Bool) → (r : IsReadTo bytes n at count d) → at < length bytes → IsNextLine bytes at cut
-    → length d.values ≡ n → ((numbers : List ℤ) → Gives numbers d → TakesLine (length d.values) numbers (words_in (slice_range bytes cut.begin cut.end)) taken next) → taken ≡ true
-    → IsReadTo bytes n cut.next (count + 1) next
-read_next bytes n at count cut d next taken r lt h size takes e =
-    let words = words_in (slice_range bytes cut.begin cut.end) in
-    let numbers = flat_map line_numbers r.lines in
+-- all lines were read
+pub all_read : (bytes : List ℕ) (n : ℕ) (lines : List (List Word)) (d : ModelDraft) → AreRead n lines d → length d.values ≡ n → word_lines bytes ≡ lines
+    → IsModelRead bytes n d.values
+all_read bytes n lines d r size same =
+    let none : first_faulty_line n (word_lines bytes) ≡ None = ap (first_faulty_line n) same ∙ no_fault n lines (text_read n lines d r) in
     record {
-      lines = r.lines ++ words ∷ [];
-      before = next_before bytes at cut r.lines r.before lt h;
-      size = omega (arith, r.size, length-append r.lines (words ∷ []));
-      read = line_read n r.lines words d next r.read (by_answer (length d.values) n numbers words taken true next size e (takes numbers r.read.gives));
+      literals = literals_among (flat_map line_numbers (word_lines bytes));
+      text = by_none bytes n none;
+      vars = size;
+      values = r.gives.values ∙ ap (λ (ls : List (List Word)). assignment_of (literals_among (flat_map line_numbers ls))) (sym same);
     }
-
-pub read_faulty : (bytes : List ℕ) (n at count : ℕ) (cut : Cut) (d next : ModelDraft) (taken : Bool) → (r : IsReadTo bytes n at count d) → at < length bytes → IsNextLine bytes at cut
-    → length d.values ≡ n → ((numbers : List ℤ) → Gives numbers d → TakesLine (length d.values) numbers (words_in (slice_range bytes cut.begin cut.end)) taken next) → taken ≡ false
-    → model_of bytes n ≡ Err (count + 1)
-read_faulty bytes n at count cut d next taken r lt h size takes e =
-    let words = words_in (slice_range bytes cut.begin cut.end) in
-    let numbers = flat_map line_numbers r.lines in
-    let behind = next_before bytes at cut r.lines r.before lt h in
-    line_faulty bytes n r.lines behind.rest words d next r.read (by_answer (length d.values) n numbers words taken false next size e (takes numbers r.read.gives)) behind.parts
-    ∙ ap (λ (k : ℕ). Err (k + 1)) (sym r.size)
-
-pub read_whole : (bytes : List ℕ) (n at count : ℕ) (d : ModelDraft) → IsReadTo bytes n at count d → at ≡ length bytes → length d.values ≡ n → IsModelRead bytes n d.values
-read_whole bytes n at count d r e size = all_read bytes n r.lines d r.read size (all_before bytes at r.lines r.before e)

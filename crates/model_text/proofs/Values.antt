@@ -6,10 +6,10 @@ use Rattle.lk_model.specs.Formulas.Literal.{variable, complement, contains, is_p
 use Rattle.lk_model.specs.Formulas.Assignment.{Assignment, assignment_of}
 use Rattle.lk_model.specs.Held.PartialValues.{assignment_by}
 use Rattle.lk_model.specs.Texts.ModelText.{is_consistent}
-use Rattle.lk_model.proofs.Flags.{contains-push, or_no, same_false}
+use Rattle.lk_model.proofs.Flags.{contains-push, or_no, contains_here as contains_last, push_other}
 use Rattle.lk_model.proofs.Literals.{variable_negative}
 use Rattle.model_text.specs.ModelTexts.{MakesTrue}
-use Rattle.model_text.proofs.Numbers.{apart, contains_last}
+use Rattle.model_text.proofs.Numbers.{apart}
 
 -- two assignments that agree everywhere are one
 same_values : (φ ψ : Assignment) → ((v : ℕ) → φ v ≡ ψ v) → φ ≡ ψ
@@ -59,11 +59,6 @@ not_false ls (negsuc k) c h = at (contains ls (pos (suc k))) (contains ls (negsu
     at : (a b : Bool) → cond a (Some true) (cond b (Some false) None) ≢ Some true → a ≡ false
     at true b g = absurd (g refl)
     at false b g = refl
-
--- a literal more says nothing of another variable
-push_other : (ls : List ℤ) (l k : ℤ) → variable k ≢ variable l → contains (ls ++ l ∷ []) k ≡ contains ls k
-push_other ls l k other =
-    contains-push ls l k ∙ ap (λ (b : Bool). contains ls k || (b || false)) (same_false k l (λ e. other (ap variable e))) ∙ or_no (contains ls k)
 
 given_other : (ls : List ℤ) (l : ℤ) (v : ℕ) → v ≢ variable l → assignment_of (ls ++ l ∷ []) v ≡ assignment_of ls v
 given_other ls l v other =

@@ -1,1 +1,2 @@
 pub mod ModelTexts
+pub mod Fed

@@ -2,7 +2,9 @@
 #![tactic(auto)]
 
 mod printing;
+mod progress;
+mod reader;
 mod reading;
 
 pub use printing::print_model;
-pub use reading::read_model;
+pub use reader::{ModelReader, read_model};

@@ -1,16 +1,15 @@
-//! Reading models as solvers print them.
-ghost use Rattle.std.specs.Prelude.{◌≡◌, ◌≤◌, ◌∷◌, [], ℤ, List, drop, length, IfOk, IfErr, IsTrue};
+//! One line more of a model as solvers print it.
+ghost use Rattle.std.specs.Prelude.{◌≡◌, ◌≤◌, ◌∷◌, [], ℤ, List, drop, length, IsTrue};
 ghost use Rattle.lk_model.specs.Formulas.Literal.{is_literal};
 ghost use Rattle.lk_model.specs.Held.PartialValues.{assignment_by};
 ghost use Rattle.lk_model.specs.Texts.ModelText.{is_satisfiable};
 ghost use Rattle.lk_model.specs.Texts.NumberWords.{number};
 ghost use Rattle.lk_text.specs.Cutting.{is_one_line};
-ghost use Rattle.model_text.specs.ModelTexts.{IsModelRead, IsModelStop, Gives, TakesLiteral, TakesLine, TakesWords, number_up_to, words_in};
+ghost use Rattle.model_text.specs.ModelTexts.{Gives, TakesLiteral, TakesLine, TakesWords, number_up_to, words_in};
 
-use lk_model::{Lit, ReadStop};
-use lk_text::{NumberWord, classify, next_line, next_word};
+use lk_model::Lit;
+use lk_text::{NumberWord, classify, next_word};
 use partial_assign::Partial;
-use std::alloc::Global;
 
 /// What was read of a model text so far: the values that its literals gave, and whether a 0 closed them.
 #[derive(Drop)]
@@ -19,33 +18,8 @@ pub(crate) struct ModelDraft {
     pub closed: bool,
 }
 
-/// The values of the variables from 1 to n that a model text gives: `s SATISFIABLE`, and literals in
-/// lines behind `v` up to a 0, which may be missing. A literal may stand again, but not beside its
-/// complement. Other bytes are refused with the first line with which they are no model text, counted
-/// from 1. The other error is want of memory.
-pub fn read_model(alloc: Global, bytes: &[u8], n: u32) -> Result<Partial, ReadStop>
-    requires { n ≤ 1000000 }
-    ensures model { IfOk result (IsModelRead bytes.now n) }
-    ensures stop { IfErr result (IsModelStop bytes.now n) }
-{
-    let mut draft = ModelDraft {
-        values: Partial::new(alloc, n)?,
-        closed: false,
-    };
-    let mut from = 0;
-    let mut number = 0u64;
-    while let Some(cut) = next_line(bytes, from) {
-        number += 1;
-        if !take_line(&mut draft, &bytes[cut.begin..cut.end]) {
-            return Err(ReadStop::Line(number));
-        }
-        from = cut.next;
-    }
-    Ok(draft.values)
-}
-
 /// Takes the next line, or answers that it is faulty.
-fn take_line(draft: &mut ModelDraft, line: &[u8]) -> bool
+pub(crate) fn take_line(draft: &mut ModelDraft, line: &[u8]) -> bool
     requires { IsTrue (is_one_line line.now) }
     ensures vars { length draft.new.values ≡ length draft.old.values }
     ensures taken { (numbers : List ℤ) → Gives numbers draft.old

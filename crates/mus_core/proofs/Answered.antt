@@ -13,7 +13,7 @@ use Rattle.lk_model.specs.declared.document.Without.{Without}
 use Rattle.lk_model.proofs.Booleans.{and_true, or_left}
 use Rattle.lk_model.proofs.Counting.{among-range}
 use Rattle.lk_model.proofs.ListTests.{literal_within}
-use Rattle.lk_model.proofs.Literals.{variable_negative}
+use Rattle.lk_model.proofs.Literals.{variable_of, empty_is as is_nothing}
 use Rattle.lk_model.proofs.Founds.{up_to_bounds}
 use Rattle.lk_model.proofs.Ranks.{literal_bounds}
 use Rattle.kernel_laws.proofs.Assignments.{satisfying, satisfied_at}
@@ -30,10 +30,6 @@ use Rattle.mus_core.proofs.ShrunkCores.{none_all, found_at}
 pub filled : (F : Cnf) → find (λ p. is_empty (clause_at F p)) (positions_of F) ≡ None → are_filled F (positions_of F) ≡ true
 filled F none = none_all (λ p. is_empty (clause_at F p)) (positions_of F) none
 
-is_nothing : (c : List ℤ) → is_empty c ≡ true → c ≡ []
-is_nothing [] e = refl
-is_nothing (l ∷ c) e = absurd (let f : ⊥ = cc in f)
-
 pub empty_at : (F : Cnf) (p : ℕ) → find (λ p. is_empty (clause_at F p)) (positions_of F) ≡ Some p → IsEmptyAt F p
 empty_at F p e =
     let w = found_at (λ p. is_empty (clause_at F p)) (positions_of F) p e in
@@ -42,10 +38,6 @@ empty_at F p e =
     record { first = omega (arith, low); last = b.1; empty = is_nothing (clause_at F p) w.1 }
 
 -- A WHOLE MODEL
-
-variable_of : (v : ℕ) (b : Bool) → variable (literal_of v b) ≡ v
-variable_of v true = refl
-variable_of v false = variable_negative v
 
 variables_of : (φ ψ : Assignment) (vs : List ℕ) → map variable (map (λ v. literal_of v (extended_value φ ψ v)) vs) ≡ vs
 variables_of φ ψ [] = refl

@@ -5,9 +5,9 @@ use Rattle.lk_model.specs.Formulas.Formula.{Cnf, clause_at, positions_of}
 use Rattle.lk_model.specs.Formulas.Lean.{are_positions}
 use Rattle.lk_model.specs.declared.document.Round.{Round}
 use Rattle.lk_model.proofs.Counting.{among-range}
-use Rattle.lk_model.proofs.Rising.{bounded}
+use Rattle.lk_model.proofs.Rising.{bounded, all_rise}
+use Rattle.lk_model.proofs.ListTests.{one_number, each_number}
 use Rattle.kernel_laws.specs.General.RefutationLaw.{IsRefutation}
-use Rattle.general_kernel.proofs.Names.{each_number, one_number}
 use Rattle.part_formula.specs.Decisions.{are_filled}
 use Rattle.renaming_laws.specs.Renaming.{IsDense, nth}
 use Rattle.renaming_laws.proofs.Mapped.{row_mapped}
@@ -15,7 +15,6 @@ use Rattle.mus_core.specs.declared.deciding.Copied.{Copied}
 use Rattle.mus_core.specs.Copies.{IsCopy, IsRefutedWithin}
 use Rattle.mus_core.specs.Named.{names_only}
 use Rattle.mus_core.proofs.Narrowing.{narrowed_here}
-use Rattle.mus_core.proofs.Telling.{all_rise}
 
 -- no clause of a part is empty where none is
 filled_at : (F : Cnf) (part : List ℕ) → are_positions F part ≡ true → are_filled F (positions_of F) ≡ true → are_filled F part ≡ true

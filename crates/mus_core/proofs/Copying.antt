@@ -9,12 +9,12 @@ use Rattle.lk_model.specs.Formulas.Formula.{Cnf, clause_at, clauses_at, position
 use Rattle.lk_model.specs.Formulas.Lean.{are_positions}
 use Rattle.lk_model.proofs.Booleans.{and_true}
 use Rattle.lk_model.proofs.Clauses.{literals_of}
-use Rattle.lk_model.proofs.Lists.{among_at}
+use Rattle.lk_model.proofs.Lists.{among_at, from_mapped}
 use Rattle.lk_model.proofs.Rising.{bounded}
-use Rattle.general_kernel.proofs.Names.{each_number, one_number}
+use Rattle.lk_model.proofs.ListTests.{one_number, each_number}
 use Rattle.part_formula.specs.Decisions.{are_filled}
 use Rattle.renaming_laws.specs.Renaming.{IsDense, named, nth}
-use Rattle.renaming_laws.proofs.Mapped.{map_twice, map_agrees, rises_mapped, rising_all, from_mapped}
+use Rattle.renaming_laws.proofs.Mapped.{map_twice, map_agrees, rises_mapped, rising_all}
 use Rattle.renaming_laws.proofs.Telling.{kept_told}
 use Rattle.renaming_laws.proofs.Told.{told, told_rise, told_low, nth_told}
 use Rattle.renaming_laws.proofs.Copies.{clause_told, part_length, copied}

@@ -1,7 +1,7 @@
 -- A refutation refutes the clauses that its chains name.
 use Rattle.std.proofs.Common.{◌≡◌, ◌⊎◌, ◌*◌, ℕ, ◌+◌, ◌-◌, ◌≤◌, ◌^◌, Bool, true, ◌&&◌, ◌||◌, ◌==◌, nat_lt, nat_le, List, [], ◌∷◌, refl, sym, ◌∙◌, ap, subst, arith, inl, inr, map, length}
 use Rattle.std.specs.List.{list_all}
-use Rattle.std.proofs.lemmas.Bool.{cases_Bool, cond-true, cond-false, eq-eqb, eqb-true, leb-true, leb-false, lt-ltb, ltb-true}
+use Rattle.std.proofs.lemmas.Bool.{cases_Bool, cond-true, cond-false, eqb-true, leb-true, leb-false, lt-ltb, ltb-true}
 use Rattle.std.proofs.lemmas.List.{append-nil}
 use Rattle.lk_model.specs.Lists.{among, is_between, rises_within}
 use Rattle.lk_model.specs.Formulas.Literal.{rank_of, is_literal}
@@ -15,6 +15,7 @@ use Rattle.lk_model.specs.declared.document.Step.{Step}
 use Rattle.lk_model.specs.declared.document.Round.{Round}
 use Rattle.lk_model.proofs.Booleans.{and_true, or_true, or_left, or_right}
 use Rattle.lk_model.proofs.ListTests.{all_weaker}
+use Rattle.lk_model.proofs.Lists.{in_mapped}
 use Rattle.kernel_laws.specs.General.RefutationLaw.{IsRefutation}
 use Rattle.kernel_laws.proofs.General.JoinLaws.{join_law}
 use Rattle.renaming_laws.specs.Renaming.{nth, number_in, renamed_turn, renamed_step, renamed_round}
@@ -95,13 +96,6 @@ narrowed_here F part core r h names =
     ]
 
 -- TOLD
-
-pub in_mapped : (f : ℕ → ℕ) (ns : List ℕ) (k : ℕ) → among ns k ≡ true → among (map f ns) (f k) ≡ true
-in_mapped f [] k m = absurd (let z : ⊥ = cc in z)
-in_mapped f (n ∷ ns) k m = elim (or_true (n == k) (among ns k) m) [
-  | inl here ↦ or_left (f n == f k) (among (map f ns) (f k)) (eq-eqb (f n) (f k) (ap f (eqb-true n k here)))
-  | inr later ↦ or_right (f n == f k) (among (map f ns) (f k)) (in_mapped f ns k later)
-]
 
 -- a number told of the formula is past its positions, or one of the told places
 number_one : (m : ℕ) (part places : List ℕ) (k : ℕ) → 1 ≤ k → is_one (length part) places k ≡ true

@@ -1,10 +1,10 @@
 -- Witnesses that are put and turned.
 use Rattle.std.specs.Prelude.{⊤}
-use Rattle.std.proofs.Common.{pos, zero, OnOk, Result, Ok, Err, IsTrue, ◌≡◌, ◌≢◌, ◌⊎◌, ℕ, ◌+◌, ◌<◌, ◌≤◌, Bool, true, false, not, ◌&&◌, ◌||◌, ◌==◌, List, refl, sym, ◌∙◌, ap, subst, arith, ℤ, Option, Some, None, IfSome, is_some, cond, inl, inr, filter, length, take, get_or}
+use Rattle.std.proofs.Common.{OnOk, Result, Ok, Err, IsTrue, ◌≡◌, ◌≢◌, ◌⊎◌, ℕ, ◌+◌, ◌<◌, ◌≤◌, Bool, true, false, not, ◌&&◌, ◌||◌, ◌==◌, List, refl, sym, ◌∙◌, ap, subst, arith, ℤ, Option, Some, None, IfSome, is_some, cond, inl, inr, filter, length, take, get_or}
 use Rattle.std.specs.List.{list_all}
-use Rattle.std.proofs.lemmas.Bool.{both_ways, cases_Bool, eqb-true, eq-eqb, not-false}
-use Rattle.lk_model.specs.Lists.{among, is_nonzero, is_zero}
-use Rattle.lk_model.specs.Formulas.Literal.{is_literal, complement, contains}
+use Rattle.std.proofs.lemmas.Bool.{both_ways, cases_Bool, eqb-true, eq-eqb}
+use Rattle.lk_model.specs.Lists.{among, is_nonzero}
+use Rattle.lk_model.specs.Formulas.Literal.{complement, contains}
 use Rattle.lk_model.specs.Formulas.Formula.{Cnf, clause_at, positions_of}
 use Rattle.lk_model.specs.Formulas.Assignment.{Assignment, composed, satisfies}
 use Rattle.lk_model.specs.Formulas.Autarky.{Positions}
@@ -15,11 +15,9 @@ use Rattle.lk_model.specs.Reduction.{IsModel}
 use Rattle.lk_model.proofs.Booleans.{and_true, or_true, or_left, or_right}
 use Rattle.lk_model.proofs.Counting.{in_filter, from_filter, among-range}
 use Rattle.lk_model.proofs.Founds.{up_to_bounds}
-use Rattle.lk_model.proofs.ListTests.{all_weaker, not_zero}
-use Rattle.lk_model.proofs.Literals.{same_int}
+use Rattle.lk_model.proofs.ListTests.{all_weaker, one_number}
 use Rattle.lk_model.proofs.Rising.{bounded}
 use Rattle.kernel_laws.proofs.WitnessLaws.{witness_law}
-use Rattle.general_kernel.proofs.Names.{one_number}
 use Rattle.occurrence_lists.specs.Occurrences.{AreOccurrences}
 use Rattle.mus_core.specs.declared.rotation.Rotating.{Rotating}
 use Rattle.mus_core.specs.Named.{flag_at}
@@ -80,9 +78,6 @@ put_held F S ws us p values h above model vars put = record {
 -- one after the other
 pub rotated_then : (F : Cnf) (S : Positions) (ws us vs : List (Option (List (Option Bool)))) → IsRotated F S ws us → IsRotated F S us vs → IsRotated F S ws vs
 rotated_then F S ws us vs first second = record { held = second.held; kept = λ q e. second.kept q (first.kept q e) }
-
-pub unrotated : (F : Cnf) (S : Positions) (ws : List (Option (List (Option Bool)))) → AreHeld F S ws → IsRotated F S ws ws
-unrotated F S ws h = record { held = h; kept = λ q e. e }
 
 -- the copy of a witness is one
 pub copy_held : (c : Rotating) (ws : List (Option (List (Option Bool)))) (p : ℕ) (values : List (Option Bool)) → AreHeld c.clauses.now (flag_at c.inside.now) ws
@@ -154,13 +149,6 @@ only_found c φ l ks (Some q) core is h = only c φ l ks q core is h
 pub is_none : (o : Option ℕ) → is_some o ≡ false → o ≡ None
 is_none None e = refl
 is_none (Some q) e = absurd (let f : ⊥ = cc in f)
-
-pub nonzero : (n : ℕ) (l : ℤ) → is_literal n l ≡ true → is_nonzero l ≡ true
-nonzero n l e = at_test (is_nonzero l) refl
-  where
-    at_test : (b : Bool) → is_nonzero l ≡ b → b ≡ true
-    at_test true z = refl
-    at_test false z = absurd (not_zero n l e (sym (same_int (pos zero) l (not-false (is_zero l) z))))
 
 -- the positions with a literal are positions
 pub against_bounds : (G : Cnf) (l : ℤ) (ks : List ℕ) (k : ℕ) → ks ≡ filter (λ p. contains (clause_at G p) (complement l)) (positions_of G) → among ks k ≡ true

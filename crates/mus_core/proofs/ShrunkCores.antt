@@ -1,8 +1,8 @@
 -- A refuted core with witnesses for some of its places, and what each decision makes of it.
-use Rattle.std.proofs.Common.{◌≡◌, ℕ, zero, suc, ◌-◌, ◌<◌, Bool, true, false, if◌then◌else◌, not, ◌&&◌, ◌==◌, List, [], ◌∷◌, refl, sym, ◌∙◌, ap, subst, ℤ, Option, Some, None, IfSome, is_some, inl, inr, map, filter, find, length, replicate, get_or, arith}
+use Rattle.std.proofs.Common.{◌≡◌, ℕ, zero, suc, ◌-◌, ◌<◌, Bool, true, false, if◌then◌else◌, not, ◌&&◌, ◌==◌, List, [], ◌∷◌, refl, sym, ◌∙◌, ap, subst, ℤ, Option, Some, None, IfSome, is_some, map, filter, find, length, replicate, get_or, arith}
 use Rattle.std.specs.Prelude.{slice_index_or}
 use Rattle.std.specs.List.{list_all}
-use Rattle.std.proofs.lemmas.Bool.{both_ways, cases_Bool, eq-eqb, false_from_ne_true, not_from_false, not-true, and_from, le-leb}
+use Rattle.std.proofs.lemmas.Bool.{both_ways, eq-eqb, false_from_ne_true, not_from_false, not-true, and_from}
 use Rattle.std.proofs.lemmas.List.{length-map, get_or-map}
 use Rattle.lk_model.specs.Lists.{among, rises_within}
 use Rattle.lk_model.specs.Formulas.Formula.{Cnf, clause_at, clauses_at, positions_of}
@@ -12,7 +12,7 @@ use Rattle.lk_model.specs.Held.PartialValues.{assignment_by}
 use Rattle.lk_model.proofs.Booleans.{and_true}
 use Rattle.lk_model.proofs.Counting.{Differ, Differ-filter, Differ-range, fewer, in_filter, from_filter, among-range}
 use Rattle.lk_model.proofs.Lists.{among_here, among_later, place_of}
-use Rattle.lk_model.proofs.Rising.{bounded, rises, rises_from}
+use Rattle.lk_model.proofs.Rising.{bounded, filter_rises}
 use Rattle.kernel_laws.specs.General.RefutationLaw.{IsRefutation}
 use Rattle.kernel_laws.proofs.WitnessLaws.{witness_law}
 use Rattle.part_formula.specs.Decisions.{IsPartModel}
@@ -84,16 +84,6 @@ next c r ws p h e =
     record { there = w.0; none = not-true (is_some (witness_at ws p)) w.1; first = b.0; last = b.1 }
 
 -- THE OTHER PLACES
-
-filter_rises : (low high : ℕ) (t : ℕ → Bool) (ps : List ℕ) → rises_within low high ps ≡ true → rises_within low high (filter t ps) ≡ true
-filter_rises low high t [] r = refl
-filter_rises low high t (p ∷ ps) r =
-    let s = rises low high p ps r in
-    let later = filter_rises p high t ps s.more in
-    elim (cases_Bool (t p)) [
-      | inl y ↦ rw (y, le-leb (suc low) p s.above, le-leb p high s.within) later
-      | inr n ↦ rw n (rises_from low p high (filter t ps) (omega (arith, s.above)) later)
-    ]
 
 pub others_rise : (c : Copied) (r : Refutation) (others : List ℕ) (p : ℕ) → IsRefutedWithin c r → others ≡ filter (λ q. not (q == p)) r.places
     → are_positions c.clauses.now others ≡ true

@@ -1,5 +1,5 @@
 -- What is decided of a copy, told of the formula.
-use Rattle.std.proofs.Common.{◌≡◌, ℕ, ◌+◌, ◌<◌, ◌^◌, true, not, List, [], ◌∷◌, sym, ◌∙◌, ap, subst, arith, None, map, filter, length}
+use Rattle.std.proofs.Common.{◌≡◌, ℕ, ◌+◌, ◌<◌, ◌^◌, true, not, List, [], ◌∷◌, sym, ◌∙◌, ap, subst, map, filter, length}
 use Rattle.std.specs.List.{list_all}
 use Rattle.std.proofs.lemmas.List.{append-nil}
 use Rattle.lk_model.specs.Lists.{is_empty, rises_within}
@@ -7,17 +7,14 @@ use Rattle.lk_model.specs.Formulas.Formula.{Cnf, clauses_at, positions_of, is_fo
 use Rattle.lk_model.specs.Formulas.Crossed.{no_variable}
 use Rattle.lk_model.specs.Formulas.Lean.{are_positions}
 use Rattle.lk_model.specs.Documents.Form.{counts_from, is_step}
-use Rattle.lk_model.specs.Checks.RoundChecks.{not_learned}
 use Rattle.lk_model.specs.declared.document.Step.{Step}
 use Rattle.lk_model.specs.declared.document.Round.{Round}
 use Rattle.lk_model.proofs.Booleans.{and_true}
-use Rattle.lk_model.proofs.Founds.{option_map-none}
-use Rattle.lk_model.proofs.Rising.{range_rises}
+use Rattle.lk_model.proofs.Rising.{all_rise}
 use Rattle.kernel_laws.specs.General.Found.{IsUnfinished}
 use Rattle.kernel_laws.specs.General.RefutationLaw.{IsRefutation}
-use Rattle.kernel_laws.proofs.General.JoinLaws.{misstated_none}
-use Rattle.kernel_laws.proofs.General.Learning.{is_unlearned, round_learns}
-use Rattle.kernel_laws.proofs.General.Stated.{NoneOf, none_in}
+use Rattle.kernel_laws.proofs.General.JoinLaws.{misstated_none, unlearned_none}
+use Rattle.kernel_laws.proofs.General.Learning.{round_learns}
 use Rattle.renaming_laws.specs.Renaming.{IsDense, nth, renamed_round}
 use Rattle.renaming_laws.proofs.RenamingLaws.{renaming_law}
 use Rattle.renaming_laws.proofs.Copies.{part_length}
@@ -60,20 +57,11 @@ dense_texts F G T part names dense is = record {
   clauses = dense.clauses ∙ ap (λ (H : Cnf). H.clauses) (sym is) ∙ sym (all_clauses T);
 }
 
-pub all_rise : (F : Cnf) → are_positions F (positions_of F) ≡ true
-all_rise F = range_rises 0 (length F.clauses) 1 (length F.clauses) (omega arith) (omega arith)
-
--- no step of the round has a clause that is not learned
-none_unlearned : (F : Cnf) (part : List ℕ) (r : Round) → (not_learned no_variable F part (r ∷ [])).place ≡ None
-    → NoneOf is_unlearned F part no_variable [] r.steps
-unfolding not_learned
-none_unlearned F part r e = (none_in is_unlearned F part no_variable (r ∷ []) (option_map-none _ _ e)).0
-
 -- one open round learns fewer than 3^n clauses
 pub few_learned : (F : Cnf) (part : List ℕ) (r : Round) (conflicts : ℕ) → is_formula F ≡ true → IsUnfinished F part conflicts (r ∷ []) → conflicts < 3 ^ F.vars
 few_learned F part r conflicts form h =
     let open_round = h.result in
-    let learned = round_learns F part no_variable r.steps form (misstated_none F no_variable part (r ∷ []) open_round.stated).0 (none_unlearned F part r open_round.learned) in
+    let learned = round_learns F part no_variable r.steps form (misstated_none F no_variable part (r ∷ []) open_round.stated).0 (unlearned_none F part r open_round.learned) in
     let few = subst (λ (us : List Step). length (filter (λ (s : Step). not (is_empty s.clause)) us) < 3 ^ F.vars) (sym (append-nil r.steps)) learned in
     subst (λ (k : ℕ). k < 3 ^ F.vars) h.all few
 

@@ -17,12 +17,12 @@ use Rattle.lk_model.proofs.Clauses.{literals_of as formula_literals}
 use Rattle.lk_model.proofs.Founds.{all_pass}
 use Rattle.lk_model.proofs.Rising.{bounded}
 use Rattle.lk_model.proofs.Variables.{occurs, variable_bound}
+use Rattle.lk_model.proofs.Ranks.{rising_literals as set_within}
+use Rattle.lk_model.proofs.ListTests.{one_number}
 use Rattle.kernel_laws.proofs.Clauses.{mentions_of}
 use Rattle.kernel_laws.proofs.Assignments.{satisfying, satisfied_at}
-use Rattle.general_kernel.proofs.Names.{one_number}
 use Rattle.general_kernel.proofs.SetLines.{set_rises, set_true}
 use Rattle.minimal_laws.specs.CoreLaw.{IsCore}
-use Rattle.part_formula.proofs.Within.{set_within}
 use Rattle.renaming_laws.specs.Renaming.{named, nth}
 use Rattle.renaming_laws.specs.Renaming.{IsDense}
 use Rattle.renaming_laws.proofs.Mapped.{rises_by, map_twice, rising_same}

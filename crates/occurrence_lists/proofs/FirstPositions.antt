@@ -5,6 +5,7 @@ use Rattle.std.proofs.lemmas.List.{map-id, length-append}
 use Rattle.std.proofs.lemmas.List.Elements.{filter-append}
 use Rattle.std.proofs.lemmas.List.FromFn.{map-range_with_len_more}
 use Rattle.lk_model.specs.Lists.{up_to}
+use Rattle.lk_model.proofs.FaultLaws.{at_most_one as one_at_most}
 
 -- one number more
 pub up_to-more : (n : ℕ) → up_to (n + 1) ≡ up_to n ++ (n + 1) ∷ []
@@ -32,10 +33,6 @@ kept-le test n zero = let e : n + 0 ≡ n = omega arith in rw e (omega arith)
 kept-le test n (suc d) =
     let e : n + suc d ≡ (n + d) + 1 = omega arith in
     rw e (omega (arith, kept-more test (n + d), kept-le test n d))
-
-one_at_most : (b : Bool) → cond b 1 0 ≤ 1
-one_at_most true = omega arith
-one_at_most false = omega arith
 
 -- no more than all
 pub kept-few : (test : ℕ → Bool) (n : ℕ) → length (filter test (up_to n)) ≤ n

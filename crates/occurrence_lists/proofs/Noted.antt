@@ -7,6 +7,7 @@ use Rattle.std.proofs.lemmas.List.Sums.{sum_by-set, sum_by-cons, sum_by_more}
 use Rattle.lk_model.specs.Formulas.Literal.{rank_of, is_clause, is_distinct}
 use Rattle.lk_model.specs.Formulas.Formula.{Cnf, clause_at, is_formula}
 use Rattle.lk_model.proofs.Booleans.{and_true}
+use Rattle.lk_model.proofs.Clauses.{next_clause}
 use Rattle.occurrence_lists.specs.Occurrences.{AreOccurrences, has_rank, ranked}
 use Rattle.occurrence_lists.specs.Parts.{Filled}
 use Rattle.occurrence_lists.specs.Noting.{CountsClause, AreCounts, NotesClause, AreNoted, HaveRoom}
@@ -30,9 +31,6 @@ count_same c i l before after h lt at counts =
     let one : Bool → ℕ = λ b. cond b 1 0 in
     let none : one (has_rank (take i c) (rank_of l)) ≡ one false = ap one (new_rank c i l h lt at) in
     omega (arith, counts.told (rank_of l), none)
-
-pub Counts-none : (counts : List ℕ) → CountsClause [] counts counts
-Counts-none counts = record { size = refl; told = λ k. omega arith; total = omega arith }
 
 pub Counts-next : (c : List ℤ) (i : ℕ) (l : ℤ) (before after : List ℕ) → is_distinct c ≡ true → i < length c → l ≡ get_or c i l → rank_of l < length before → CountsClause (take i c) before after
     → CountsClause (take (i + 1) c) before (set after (rank_of l) (get_or after (rank_of l) 0 + 1))
@@ -81,10 +79,6 @@ AreCounts-none F n counts is size = record {
   total = ap sum is ∙ no_sum n;
 }
 
--- one clause more
-next_clause : (F : Cnf) (i : ℕ) → clause_at F (i + 1) ≡ get_or F.clauses i []
-next_clause F i = let e : i + 1 ≡ suc i = omega arith in ap (clause_at F) e
-
 pub AreCounts-more : (F : Cnf) (i : ℕ) (before after : List ℕ) → i < length F.clauses → AreCounts F i before → CountsClause (clause_at F (i + 1)) before after → AreCounts F (i + 1) after
 AreCounts-more F i before after lt counts clause = record {
   size = clause.size ∙ counts.size;
@@ -109,9 +103,6 @@ counts_few F i counts h k = omega (arith, h.told k, kept-few (λ p. has_rank (cl
 list_same : (c : List ℤ) (p i : ℕ) (l : ℤ) (before after : List (List ℕ)) → is_distinct c ≡ true → i < length c → l ≡ get_or c i l → NotesClause (take i c) p before after → get_or after (rank_of l) [] ≡ get_or before (rank_of l) []
 list_same c p i l before after h lt at notes =
     notes.told (rank_of l) ∙ ap (λ (b : Bool). get_or before (rank_of l) [] ++ cond b (p ∷ []) []) (new_rank c i l h lt at) ∙ append-nil (get_or before (rank_of l) [])
-
-pub Notes-none : (p : ℕ) (lists : List (List ℕ)) → NotesClause [] p lists lists
-Notes-none p lists = record { size = refl; told = λ k. sym (append-nil (get_or lists k [])) }
 
 pub Notes-next : (c : List ℤ) (p i : ℕ) (l : ℤ) (before after : List (List ℕ)) → is_distinct c ≡ true → i < length c → l ≡ get_or c i l → rank_of l < length before → NotesClause (take i c) p before after
     → NotesClause (take (i + 1) c) p before (set after (rank_of l) (get_or after (rank_of l) [] ++ p ∷ []))

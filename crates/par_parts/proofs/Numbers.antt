@@ -1,14 +1,14 @@
 -- Parts that begin, and the numbers that all positions have at the end.
-use Rattle.std.proofs.Common.{◌≡◌, ◌≢◌, ◌∙◌, ℕ, zero, suc, ◌+◌, ◌-◌, ◌<◌, ◌≤◌, true, false, ◌&&◌, ◌==◌, nat_lt, nat_le, List, [], ◌∷◌, ◌++◌, get_or, set, length, refl, sym, ap, subst, arith, inl, inr, replicate, length-set, length-append}
+use Rattle.std.proofs.Common.{◌≡◌, ◌≢◌, ◌∙◌, ℕ, suc, ◌+◌, ◌-◌, ◌<◌, ◌≤◌, true, false, ◌&&◌, ◌==◌, nat_lt, nat_le, List, [], ◌∷◌, ◌++◌, get_or, set, length, refl, sym, ap, subst, arith, inl, inr, length-set, length-append}
 use Rattle.std.proofs.lemmas.Bool.{eqb-true, le-leb, leb-true, and_from, cases_lt, lt-ltb}
-use Rattle.std.proofs.lemmas.List.{get_or_append_left, get_or_push, length-replicate}
+use Rattle.std.proofs.lemmas.List.{get_or_append_left, get_or_push}
 use Rattle.lk_model.specs.Lists.{among, rises_within}
 use Rattle.lk_model.specs.Formulas.Formula.{Cnf, clause_at}
 use Rattle.lk_model.specs.Formulas.Parts.{InOnePart}
 use Rattle.lk_model.proofs.Booleans.{and_true, or_true}
 use Rattle.lk_model.proofs.Lists.{among_here}
 use Rattle.kernel_laws.proofs.General.PartLaws.{shared}
-use Rattle.par_parts.specs.Numbering.{Found, none_found, part_begun, AreLabels, IsSearching, IsSpread, IsUpTo}
+use Rattle.par_parts.specs.Numbering.{Found, part_begun, AreLabels, IsSearching, IsSpread, IsUpTo}
 use Rattle.par_parts.proofs.OneMore.{written}
 
 -- A NEW PART
@@ -91,50 +91,7 @@ begins F s p u low high z =
       rising = rises_push 0 (length F.clauses) p s.roots h.rising low high u.below;
     }
 
--- a list of zeros
-zero_at : (n k z : ℕ) → get_or (replicate n z) k z ≡ z
-zero_at zero k z = refl
-zero_at (suc n) zero z = refl
-zero_at (suc n) (suc k) z = zero_at n k z
-
--- nothing is known of a search that has found nothing
-pub starts : (F : Cnf) → IsUpTo F (none_found (length F.clauses) F.vars) 1
-starts F =
-    let none : ℕ = 0 in
-    let zeros : (n k : ℕ) → get_or (replicate n none) k none ≡ none = λ n k. zero_at n k none in
-    record {
-      searching = record {
-        long = length-replicate (length F.clauses + 1) 0;
-        vars = length-replicate (F.vars + 1) 0;
-        zeroth = zeros (length F.clauses + 1) 0;
-        numbers = λ p. let e = zeros (length F.clauses + 1) p in omega (arith, e);
-        linked = λ p n. absurd (n (zeros (length F.clauses + 1) p));
-        least = λ p n. absurd (n (zeros (length F.clauses + 1) p));
-        owned = λ v p n. absurd (n (zeros (F.vars + 1) v));
-        passed = λ v p n. absurd (n (zeros (length F.clauses + 1) p));
-        now = λ p i. absurd (let f : ⊥ = cc in f);
-        before = λ p low less. absurd (omega (arith, less));
-        started = λ k l. absurd (omega (arith, l));
-        rising = refl;
-      };
-      none = refl;
-      each = λ q low less. absurd (omega (arith, low, less));
-      below = λ k l. absurd (omega (arith, l));
-    }
-
--- a position that has a number
-pub goes_on : (F : Cnf) (s : Found) (p : ℕ) → IsUpTo F s p → get_or s.labels p 0 ≢ 0 → IsUpTo F s (p + 1)
-goes_on F s p u n = record {
-  searching = u.searching;
-  none = u.none;
-  each = λ q low less. elim (cases_lt q p) [
-    | inl early ↦ u.each q low early
-    | inr late ↦ (let e : q ≡ p = omega (arith, late, less) in subst (λ (k : ℕ). get_or s.labels k 0 ≢ 0) (sym e) n)
-  ];
-  below = λ k l. let b = u.below k l in omega (arith, b);
-}
-
--- and one whose part was found
+-- a position whose part was found
 pub goes_on_new : (F : Cnf) (s t : Found) (p : ℕ) → IsUpTo F s p → 0 < p → p ≤ length F.clauses → get_or s.labels p 0 ≡ 0 → IsSpread F (part_begun p s) t → IsUpTo F t (p + 1)
 goes_on_new F s t p u low high z r =
     let b = begins F s p u low high z in

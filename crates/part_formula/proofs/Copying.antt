@@ -1,50 +1,23 @@
 -- Clauses under numbers of their own, and told by names again.
-use Rattle.std.proofs.Common.{◌≡◌, get_or, take, ℕ, zero, suc, ◌+◌, ◌<◌, ◌≤◌, Bool, true, false, not, List, [], ◌∷◌, ◌++◌, map, refl, sym, ◌∙◌, ap, subst, arith, length, ℤ, pos, negsuc, inl, inr, ◌==◌}
+use Rattle.std.proofs.Common.{◌≡◌, get_or, take, ℕ, ◌+◌, ◌<◌, ◌≤◌, true, false, not, List, [], ◌∷◌, ◌++◌, map, refl, sym, ◌∙◌, ap, subst, arith, length, ℤ, inl, inr, ◌==◌}
 use Rattle.std.specs.List.{list_all}
 use Rattle.std.specs.Prelude.{sum_by}
-use Rattle.std.proofs.lemmas.Bool.{and_from, lt-ltb, le-leb, eq-eqb, both_ways, false_from_ne_true}
+use Rattle.std.proofs.lemmas.Bool.{and_from, eq-eqb, both_ways, false_from_ne_true}
 use Rattle.std.proofs.lemmas.List.{length-map, map-append, take_all}
 use Rattle.std.proofs.lemmas.List.Sums.{sum_by-cons}
 use Rattle.std.specs.Ordering.{int_eq}
-use Rattle.lk_model.specs.Lists.{among, is_between}
-use Rattle.lk_model.specs.Formulas.Literal.{variable, is_positive, literal_of, is_literal, contains, is_distinct, is_clause, mentions}
+use Rattle.lk_model.specs.Lists.{among}
+use Rattle.lk_model.specs.Formulas.Literal.{variable, is_literal, contains, is_distinct, is_clause, mentions}
 use Rattle.lk_model.specs.Formulas.Formula.{Cnf, is_formula, clause_at, clauses_at, with_clause, literal_count}
 use Rattle.lk_model.specs.Formulas.Lean.{are_positions}
 use Rattle.lk_model.proofs.Clauses.{form_at}
 use Rattle.lk_model.proofs.ClausesAt.{clauses_more, few_clauses, few_literals}
 use Rattle.lk_model.proofs.Booleans.{and_true, or_true, or_left, or_right}
-use Rattle.lk_model.proofs.Literals.{same_int, int_self, variable_negative}
+use Rattle.lk_model.proofs.Literals.{same_int, int_self}
 use Rattle.lk_model.proofs.Variables.{occurs}
 use Rattle.kernel_laws.specs.General.Found.{has_only}
-use Rattle.renaming_laws.specs.Renaming.{IsDense, named, nth}
+use Rattle.renaming_laws.specs.Renaming.{IsDense, named}
 use Rattle.part_formula.specs.Names.{AreNames}
-
--- ONE LITERAL
-
-literal_again : (l : ℤ) → literal_of (variable l) (is_positive l) ≡ l
-literal_again (pos v) = refl
-literal_again (negsuc k) = refl
-
-positive_again : (v : ℕ) (b : Bool) → 0 < v → is_positive (literal_of v b) ≡ b
-positive_again v true lt = refl
-positive_again zero false lt = absurd (omega (arith, lt))
-positive_again (suc v) false lt = refl
-
-variable_again : (v : ℕ) (b : Bool) → variable (literal_of v b) ≡ v
-variable_again v true = refl
-variable_again v false = variable_negative v
-
--- the literal at the place of its variable's name
-pub named_again : (names : List ℕ) (place : ℕ) (l : ℤ) → 0 < place → nth names place ≡ variable l → named names (literal_of place (is_positive l)) ≡ l
-named_again names place l lt e =
-    ap (λ (v : ℕ). literal_of (nth names v) (is_positive (literal_of place (is_positive l)))) (variable_again place (is_positive l))
-    ∙ ap (λ (b : Bool). literal_of (nth names place) b) (positive_again place (is_positive l) lt)
-    ∙ ap (λ (v : ℕ). literal_of v (is_positive l)) e
-    ∙ literal_again l
-
-pub place_is_literal : (n place : ℕ) (b : Bool) → 0 < place → place ≤ n → is_literal n (literal_of place b) ≡ true
-place_is_literal n place b first last =
-    subst (λ (v : ℕ). is_between 1 n v ≡ true) (sym (variable_again place b)) (and_from _ _ (lt-ltb 0 place first) (le-leb place n last))
 
 -- ONE CLAUSE
 

@@ -16,6 +16,7 @@ use Rattle.lk_model.specs.declared.document.Round.{Round}
 use Rattle.lk_model.proofs.Booleans.{and_true, or_left}
 use Rattle.lk_model.proofs.Lists.{among_here}
 use Rattle.lk_model.proofs.VariableLists.{none_in}
+use Rattle.lk_model.proofs.ListTests.{one_number}
 use Rattle.refutation_log.specs.Derivation.{Derivation, are_chains}
 use Rattle.refutation_log.specs.Numbers.{is_named}
 use Rattle.refutation_log.proofs.ChainNames.{names_stand, stands_at, state_clauses, from_chains}
@@ -26,7 +27,7 @@ use Rattle.cdcl_core.specs.declared.decided.Decided.{Decided}
 use Rattle.cdcl_core.specs.declared.decided.Decided.TheVariants.{Sat, Refuted, Stopped}
 use Rattle.kernel_laws.specs.General.Found.{has_only, covered, IsUnfinished}
 use Rattle.general_kernel.specs.SetLiterals.{literals_on}
-use Rattle.general_kernel.proofs.Names.{names_below, one_number, named_in}
+use Rattle.general_kernel.proofs.Names.{names_below, named_in}
 use Rattle.general_kernel.proofs.Results.{sets_model, unfinished}
 use Rattle.general_kernel.proofs.Undecided.{undecided}
 use Rattle.general_kernel.proofs.Needed.{round_of}

@@ -1,5 +1,5 @@
 -- The variables of a part, sorted and each once.
-use Rattle.std.proofs.Common.{◌≡◌, nat_eq, ℕ, suc, ◌<◌, ◌≤◌, Bool, true, false, cond, ◌||◌, ◌==◌, List, [], ◌∷◌, map, refl, sym, ◌∙◌, ap, subst, arith, ℤ}
+use Rattle.std.proofs.Common.{◌≡◌, nat_eq, ℕ, suc, ◌<◌, ◌≤◌, Bool, true, false, cond, ◌||◌, ◌==◌, List, [], ◌∷◌, map, refl, sym, ◌∙◌, ap, subst, arith}
 use Rattle.std.specs.List.{dedup, dedup_from, AllPairs}
 use Rattle.std.specs.List.Sorted.{IsSorted, IsPermutation}
 use Rattle.std.specs.Ordering.{nat_cmp}
@@ -12,16 +12,12 @@ use Rattle.lk_model.specs.Lists.{among, rises_within}
 use Rattle.lk_model.specs.Formulas.Literal.{variable, mentions}
 use Rattle.lk_model.specs.Formulas.Formula.{Cnf, is_formula, clause_at, variable_occurs}
 use Rattle.lk_model.proofs.Lists.{among_here, among_later, place_of}
-use Rattle.lk_model.proofs.Variables.{position_with, variable_bound}
+use Rattle.lk_model.proofs.Variables.{position_with, variable_bound, among_variables}
 use Rattle.part_formula.specs.Names.{AreNames, variables_of}
 
 -- THE VARIABLES AS THEY COME
 
-among_variables : (c : List ℤ) (v : ℕ) → among (map variable c) v ≡ mentions c v
-among_variables [] v = refl
-among_variables (l ∷ c) v = ap (λ (b : Bool). (variable l == v) || b) (among_variables c v)
-
--- they are those that occur
+-- the variables of some clauses are those that occur there
 among_all : (F : Cnf) (part : List ℕ) (v : ℕ) → among (variables_of F part) v ≡ variable_occurs F part v
 among_all F [] v = refl
 among_all F (p ∷ part) v =

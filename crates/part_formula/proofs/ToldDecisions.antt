@@ -15,11 +15,12 @@ use Rattle.lk_model.specs.Documents.Form.{are_steps}
 use Rattle.lk_model.specs.declared.document.Step.{Step}
 use Rattle.lk_model.specs.declared.document.Round.{Round}
 use Rattle.lk_model.proofs.Booleans.{and_true}
+use Rattle.lk_model.proofs.Ranks.{rising_literals as set_within}
 use Rattle.kernel_laws.specs.General.Found.{has_only, covered, IsDone, IsUnfinished}
 use Rattle.renaming_laws.specs.Renaming.{IsDense, named, renamed_round}
 use Rattle.renaming_laws.proofs.RenamingLaws.{renaming_law}
 use Rattle.part_formula.specs.Named.{is_round_within}
-use Rattle.part_formula.proofs.Within.{set_within, all_within}
+use Rattle.part_formula.proofs.Within.{all_within}
 use Rattle.part_formula.specs.Decisions.{are_filled, IsPartModel, sets_only, IsPartRefuted}
 
 -- THE COPY

@@ -1,10 +1,10 @@
 -- The literals of what is found in a formula are on its variables.
-use Rattle.std.proofs.Common.{◌≡◌, ℕ, ◌+◌, ◌*◌, ◌-◌, ◌^◌, ◌<◌, ◌≤◌, nat_lt, Bool, true, false, ◌&&◌, List, [], ◌∷◌, map, refl, sym, ◌∙◌, arith, ℤ}
+use Rattle.std.proofs.Common.{◌≡◌, ℕ, ◌+◌, ◌*◌, ◌-◌, ◌^◌, ◌≤◌, nat_lt, true, ◌&&◌, List, [], ◌∷◌, map, refl, sym, ◌∙◌, arith, ℤ}
 use Rattle.std.specs.List.{list_all}
-use Rattle.std.proofs.lemmas.Bool.{and_from, lt-ltb, le-leb}
+use Rattle.std.proofs.lemmas.Bool.{and_from}
 use Rattle.std.proofs.lemmas.List.Folds.{list_all-append}
 use Rattle.lk_model.specs.Lists.{rises_within, is_between}
-use Rattle.lk_model.specs.Formulas.Literal.{variable, is_positive, rank_of, is_literal}
+use Rattle.lk_model.specs.Formulas.Literal.{rank_of, is_literal}
 use Rattle.lk_model.specs.Documents.Documents.{steps_of}
 use Rattle.lk_model.specs.Documents.Form.{is_turn, is_step, are_steps, counts_from}
 use Rattle.lk_model.specs.declared.document.Turn.{Turn}
@@ -12,26 +12,8 @@ use Rattle.lk_model.specs.declared.document.Step.{Step}
 use Rattle.lk_model.specs.declared.document.Round.{Round}
 use Rattle.lk_model.proofs.Booleans.{and_true}
 use Rattle.lk_model.proofs.Rising.{rises}
+use Rattle.lk_model.proofs.Ranks.{ranked_literal as rank_within}
 use Rattle.part_formula.specs.Named.{is_turn_within, is_step_within, is_round_within}
-
-literal_within : (n : ℕ) (l : ℤ) → 0 < variable l → variable l ≤ n → is_literal n l ≡ true
-literal_within n l first last = and_from _ _ (lt-ltb 0 (variable l) first) (le-leb (variable l) n last)
-
--- literals that ascend by variable
-pub set_within : (low n : ℕ) (set : List ℤ) → rises_within low n (map variable set) ≡ true → list_all (is_literal n) set ≡ true
-set_within low n [] h = refl
-set_within low n (l ∷ set) h =
-    let r = rises low n (variable l) (map variable set) h in
-    let above = r.above in
-    and_from _ _ (literal_within n l (omega (arith, above)) r.within) (set_within (variable l) n set r.more)
-
--- a literal whose rank is that of a variable from 1 to n
-rank_within : (n : ℕ) (l : ℤ) → 1 < rank_of l → rank_of l ≤ 2 * n + 1 → is_literal n l ≡ true
-rank_within n l first last = at (is_positive l) refl
-  where
-    at : (b : Bool) → is_positive l ≡ b → is_literal n l ≡ true
-    at true e = (let f = rw e at first in let m = rw e at last in literal_within n l (omega (arith, f)) (omega (arith, m)))
-    at false e = (let f = rw e at first in let m = rw e at last in literal_within n l (omega (arith, f)) (omega (arith, m)))
 
 clause_within : (low n : ℕ) (c : List ℤ) → 1 ≤ low → rises_within low (2 * n + 1) (map rank_of c) ≡ true → list_all (is_literal n) c ≡ true
 clause_within low n [] least h = refl

@@ -1,8 +1,7 @@
 -- What the answers on all parts show.
-use Rattle.std.proofs.Common.{◌≡◌, ℕ, zero, suc, ◌<◌, true, List, [], ◌∷◌, ◌++◌, length, get_or, refl, ap, subst, arith}
+use Rattle.std.proofs.Common.{◌≡◌, ℕ, zero, suc, ◌<◌, List, [], ◌∷◌, ◌++◌, length, get_or, refl, ap, subst, arith}
 use Rattle.std.specs.List.{AllByRecursion}
 use Rattle.lk_model.specs.Formulas.Formula.{Cnf}
-use Rattle.lk_model.specs.Formulas.Lean.{are_positions}
 use Rattle.lk_model.specs.Formulas.Parts.{IsPart, AreParts}
 use Rattle.lk_model.specs.declared.document.Round.{Round}
 use Rattle.lk_model.specs.declared.result.GeneralResult.{GeneralResult}
@@ -16,6 +15,7 @@ use Rattle.kernel_laws.specs.General.Found.{IsDone, IsFound, IsUnfinished}
 use Rattle.lk_model.specs.declared.result.General.{General}
 use Rattle.lk_model.specs.declared.result.General.TheVariants.{Done, Unfinished}
 use Rattle.part_kernels.specs.ByParts.{AreFound, done, IsFirstOf, CanBeDone, IsFoundWhole, IsFirstUnfinished, IsFoundByParts}
+use Rattle.lk_model.proofs.Rising.{part_rises as rising}
 
 -- no rounds
 abbrev pub nothing : General
@@ -39,14 +39,7 @@ pub finished : (F : Cnf) (conflicts : ℕ) (part : List ℕ) (r : GeneralResult)
     → IsFinished F conflicts part r
 finished F conflicts part r h = record { result = h.result; needed = h.needed; most = h.most }
 
--- so parts are where their kernels can be found
-pub finished_before : (F : Cnf) (conflicts : ℕ) (parts : List (List ℕ)) → AllByRecursion (CanBeDone F conflicts) parts
-    → AllByRecursion (λ (part : List ℕ). (r : GeneralResult) × IsFinished F conflicts part r) parts
-finished_before F conflicts [] all = tt
-finished_before F conflicts (part ∷ parts) all =
-    ((all.0.0, finished F conflicts part all.0.0 all.0.1), finished_before F conflicts parts all.1)
-
--- and all are where all answers are kernels
+-- all parts are where all answers are kernels
 all_finished : (F : Cnf) (conflicts : ℕ) (parts : List (List ℕ)) (found : List GeneralResult)
     → AreFound F conflicts parts (done found) → AreFinished F conflicts parts found
 all_finished F conflicts [] [] all = tt
@@ -128,10 +121,6 @@ part_in : (F : Cnf) (before : List (List ℕ)) (part : List ℕ) (after : List (
     → AllByRecursion (IsPart F) (before ++ part ∷ after) → IsPart F part
 part_in F [] part after all = all.0
 part_in F (p ∷ before) part after all = part_in F before part after all.1
-
-rising : (F : Cnf) (part : List ℕ) → IsPart F part → are_positions F part ≡ true
-rising F [] h = absurd h
-rising F (least ∷ more) h = h.0
 
 pub first_unfinished : (F : Cnf) (conflicts : ℕ) (parts : List (List ℕ)) (answers : List General) (rounds : List Round)
     → AreParts F parts

@@ -9,10 +9,11 @@ use Rattle.lk_model.specs.declared.document.MatchRow.{MatchRow}
 use Rattle.lk_model.specs.declared.result.MatchingResult.{MatchingResult}
 use Rattle.lk_model.proofs.Rising.{range_rises}
 use Rattle.lk_model.proofs.Variables.{position_with, variable_bound, in_variables}
+use Rattle.lk_model.proofs.Lists.{from_mapped}
 use Rattle.kernel_laws.specs.Matching.MatchingResults.{IsMatchingResult, IsOwn, IsRow, removed_of}
 use Rattle.kernel_laws.proofs.Lines.{in_map}
 use Rattle.kernel_laws.proofs.General.Renumbering.{among_renumbered}
-use Rattle.renaming_laws.proofs.Mapped.{filter_mapped, map_twice, from_mapped, rises_mapped, only_these}
+use Rattle.renaming_laws.proofs.Mapped.{filter_mapped, map_twice, rises_mapped, only_these}
 use Rattle.renaming_laws.proofs.RenamedClauses.{literal_on, mentions_renamed}
 use Rattle.renaming_laws.proofs.RenamedSets.{occurs_renamed, from_occurring}
 use Rattle.renaming_laws.proofs.CopiedResults.{IsCopy}

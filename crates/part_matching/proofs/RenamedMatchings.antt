@@ -1,7 +1,5 @@
 -- Under the numbers that name a copy's variables and positions it is a matching result of the part.
-use Rattle.std.proofs.Common.{◌≡◌, ℕ, zero, suc, ◌≤◌, true, nat_lt, List, [], ◌∷◌, refl, sym, subst, inl, inr, map, length, arith, Contains}
-use Rattle.std.proofs.lemmas.Bool.{cases_Bool, ltb-true, ltb-false}
-use Rattle.std.proofs.lemmas.List.{get_or_past}
+use Rattle.std.proofs.Common.{◌≡◌, ℕ, true, List, [], ◌∷◌, refl, sym, subst, map, length, arith, Contains}
 use Rattle.lk_model.specs.Lists.{rises_within}
 use Rattle.lk_model.specs.Formulas.Literal.{mentions}
 use Rattle.lk_model.specs.Formulas.Formula.{Cnf, clause_at, positions_of}
@@ -11,7 +9,7 @@ use Rattle.lk_model.specs.declared.document.MatchRow.{MatchRow}
 use Rattle.lk_model.specs.declared.result.MatchingResult.{MatchingResult}
 use Rattle.lk_model.proofs.Booleans.{and_true}
 use Rattle.lk_model.proofs.Keys.{first_in, later_in}
-use Rattle.lk_model.proofs.Variables.{variable_bound}
+use Rattle.lk_model.proofs.Variables.{variable_bound, position_bound}
 use Rattle.kernel_laws.specs.Matching.MatchingResults.{IsMatchingResult}
 use Rattle.renaming_laws.specs.Renaming.{IsDense, nth}
 use Rattle.renaming_laws.proofs.Copies.{variable_in, place_in, part_length, copied, in_order, part_copied}
@@ -26,18 +24,7 @@ same_told : {X Y : Type 0} (f g : X → Y) (xs : List X) → ((x : X) → Contai
 same_told f g [] h = refl
 same_told f g (x ∷ xs) h = rw (h x (first_in x xs), same_told f g xs (λ y c. h y (later_in x xs y c))) refl
 
--- a clause with a variable stands in the formula
-position_bound : (G : Cnf) (p v : ℕ) → mentions (clause_at G p) v ≡ true → (1 ≤ p) × (p ≤ length G.clauses)
-position_bound G zero v e = absurd (let z : ⊥ = cc in z)
-position_bound G (suc k) v e = elim (cases_Bool (nat_lt k (length G.clauses))) [
-  | inl y ↦ (let inside = ltb-true k (length G.clauses) y in (omega arith, omega (arith, inside)))
-  | inr n ↦
-      (let past = ltb-false k (length G.clauses) n in
-      let none : clause_at G (suc k) ≡ [] = get_or_past G.clauses k [] past in
-      absurd (let gone = subst (λ c. mentions c v ≡ true) none e in let z : ⊥ = cc in z))
-]
-
--- its number is told alike
+-- the number of a clause with a variable is told alike
 place_told : (F G : Cnf) (part names : List ℕ) → IsDense F part names G → (p v : ℕ) → mentions (clause_at G p) v ≡ true → nth part p ≡ place_in F part p
 place_told F G part names dense p v e =
     let b = position_bound G p v e in

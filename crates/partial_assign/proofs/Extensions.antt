@@ -13,22 +13,11 @@ use Rattle.lk_model.proofs.Booleans.{and_true, same_tests}
 use Rattle.lk_model.proofs.Counting.{range_more, among-range}
 use Rattle.lk_model.proofs.Flags.{same_false}
 use Rattle.lk_model.proofs.Founds.{up_to_bounds}
-use Rattle.lk_model.proofs.Literals.{int_self, variable_negative}
+use Rattle.lk_model.proofs.Literals.{int_self, variable_negative, variable_of, sign_of}
 
 -- assignments that agree everywhere are one
 pub same_values : {X : Type 0} (f g : ℕ → X) → ((v : ℕ) → f v ≡ g v) → f ≡ g
 same_values f g h = λ i v. h v i
-
--- LITERALS OF A VARIABLE
-
-pub variable_of : (v : ℕ) (b : Bool) → variable (literal_of v b) ≡ v
-variable_of v true = refl
-variable_of v false = variable_negative v
-
-pub sign_of : (v : ℕ) (b : Bool) → 0 < v → is_positive (literal_of v b) ≡ b
-sign_of zero b low = absurd (omega (arith, low))
-sign_of (suc k) true low = refl
-sign_of (suc k) false low = refl
 
 -- ONE VARIABLE MORE
 

@@ -1,6 +1,6 @@
 -- The assignment that a set line gives, as its literals are put one by one.
 use Rattle.std.proofs.Common.{◌≡◌, ◌≢◌, ◌∙◌, ℕ, zero, suc, ◌+◌, ◌<◌, Bool, true, false, ◌||◌, List, [], ◌∷◌, ◌++◌, length, get_or, take, map, refl, sym, ap, arith, ℤ, pos, negsuc, Option, Some, None, inl, inr}
-use Rattle.std.specs.Prelude.{neg_ℤ, replicate}
+use Rattle.std.specs.Prelude.{neg_ℤ}
 use Rattle.std.specs.Ordering.{int_eq}
 use Rattle.std.proofs.lemmas.Bool.{cases_Bool, cases_eq, le-leb}
 use Rattle.std.proofs.lemmas.Bool.Decides.{Decides-int_eq}
@@ -11,22 +11,9 @@ use Rattle.lk_model.specs.Held.PartialValues.{assignment_by}
 use Rattle.lk_model.specs.Formulas.Assignment.{assignment_of}
 use Rattle.lk_model.proofs.Booleans.{or_true}
 use Rattle.lk_model.proofs.Rising.{rises, rising_bounds}
-use Rattle.lk_model.proofs.Flags.{contains-push, or_no, or_yes, same_false}
+use Rattle.lk_model.proofs.Flags.{contains-push, or_no, or_yes, push_other}
 use Rattle.lk_model.proofs.Literals.{variable_negative}
 use Rattle.partial_assign.proofs.Extensions.{same_values}
-
--- no variable is set at first
-none_set : (n k : ℕ) → get_or (let unset : List (Option Bool) = replicate n None in unset) k None ≡ None
-none_set zero k = refl
-none_set (suc n) zero = refl
-none_set (suc n) (suc k) = none_set n k
-
-pub values_none : (n : ℕ) (values : List (Option Bool)) → values ≡ replicate n None → assignment_by values ≡ assignment_of []
-values_none n values e = same_values (assignment_by values) (assignment_of []) at
-  where
-    at : (v : ℕ) → assignment_by values v ≡ assignment_of [] v
-    at zero = refl
-    at (suc k) = ap (λ (vs : List (Option Bool)). get_or vs k None) e ∙ none_set n k
 
 -- earlier literals of a rising line have lesser variables
 below : (low n : ℕ) (ls : List ℤ) (i : ℕ) (k d : ℤ) → rises_within low n (map variable ls) ≡ true → i < length ls → contains (take i ls) k ≡ true → variable k < variable (get_or ls i d)
@@ -61,11 +48,6 @@ new_variable n ls i l k up lt is same = elim (cases_Bool (contains (take i ls) k
 pub still_unset : (n : ℕ) (ls : List ℤ) (i : ℕ) (l : ℤ) → rises_within 0 n (map variable ls) ≡ true → i < length ls → l ≡ get_or ls i l → assignment_of (take i ls) (variable l) ≡ None
 still_unset n ls i l up lt is =
     rw (new_variable n ls i l (pos (variable l)) up lt is refl, new_variable n ls i l (neg_ℤ (pos (variable l))) up lt is (variable_negative (variable l))) refl
-
--- a literal more says nothing of another variable
-push_other : (ls : List ℤ) (l k : ℤ) → variable k ≢ variable l → contains (ls ++ l ∷ []) k ≡ contains ls k
-push_other ls l k other =
-    contains-push ls l k ∙ ap (λ (b : Bool). contains ls k || (b || false)) (same_false k l (λ e. other (ap variable e))) ∙ or_no (contains ls k)
 
 assigned_other : (ls : List ℤ) (l : ℤ) (v : ℕ) → v ≢ variable l → assignment_of (ls ++ l ∷ []) v ≡ assignment_of ls v
 assigned_other ls l v other =

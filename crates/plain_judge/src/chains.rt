@@ -15,8 +15,12 @@ pub fn is_within(clause: &[Lit], other: &[Lit]) -> bool {
     clause.iter().all(|l| other.contains(l))
 }
 
-/// The clause of an earlier step.
-fn step_clause(alloc: Global, earlier: &[Step], k: u64) -> Result<Option<Vec<Lit>>, AllocError> {
+/// The clause of an earlier step, where one has this number.
+pub fn step_clause(
+    alloc: Global,
+    earlier: &[Step],
+    k: u64,
+) -> Result<Option<Vec<Lit>>, AllocError> {
     for step in earlier {
         if step.number == k {
             return Ok(Some(Vec::from_slice(alloc, step.clause.as_slice())?));
@@ -48,8 +52,8 @@ fn join(lits: &mut Vec<Lit>, others: &[Lit], but: Lit) -> Result<(), AllocError>
     Ok(())
 }
 
-/// The resolvent, where there is one.
-fn resolvent(
+/// The resolvent of two clauses on a literal of the first one, where there is one.
+pub fn resolvent(
     alloc: Global,
     clause: &[Lit],
     other: &[Lit],

@@ -7,7 +7,7 @@ use Rattle.std.proofs.lemmas.List.Elements.{Contains-append_cases, Contains-appe
 use Rattle.std.proofs.lemmas.List.Sorted.{Contains-permutation, IsPermutation-sym}
 use Rattle.std.proofs.lemmas.Bool.Decides.{nat_tests}
 use Rattle.std.proofs.lemmas.Grind.{get_or_default_zero}
-use Rattle.std.proofs.lemmas.Bool.{cases_Bool, eqb-true, eqb-false}
+use Rattle.std.proofs.lemmas.Bool.{cases_Bool, eqb-true, eqb-false, false_from_ne_true as fails}
 use Rattle.std.proofs.Math.Bool.{or_comm}
 use Rattle.lk_model.specs.Formulas.Literal.{variable, complement, rank_of, is_literal}
 use Rattle.lk_model.specs.Formulas.PureRun.{literals_to}
@@ -164,11 +164,6 @@ find-first counts (suc m) a v l low high h e = elim (le_cases a v low) [
 none_in : (xs : List ℕ) (v : ℕ) → xs ≡ [] → Contains xs v → ⊥
 none_in xs v e m = omega (arith, m.1, ap length e)
 
--- a test that would show something false fails
-fails : (b : Bool) → (b ≡ true → ⊥) → b ≡ false
-fails true h = absurd (h refl)
-fails false h = refl
-
 -- some variables that are still known
 pub Lone-still : (n : ℕ) (counts : List ℕ) (next : ℕ) (back after : List ℕ) → AreLone n counts next back → AreStill counts back after → AreLone n counts next after
 Lone-still n counts next back after a s = record {
@@ -206,8 +201,6 @@ Lone-next n counts next later back (Some l) a none on h some _ = sym (find-first
 Lone-next n counts next later back None a none on h _ last = sym (find-none counts n 1 (λ v low high. passed n counts next later back a none h v low (omega (arith, high, last))))
 
 -- ---- what is dropped
-pub Still-all : (counts vs : List ℕ) → AreStill counts vs vs
-Still-all counts vs = record { kept = λ v m e. m; among = λ v m. m }
 
 -- one more that is not lone
 pub Still-less : (counts before now after : List ℕ) (x : ℕ) → AreStill counts before now → lone_of counts x ≡ None → IsPermutation now (x ∷ after) → AreStill counts before after

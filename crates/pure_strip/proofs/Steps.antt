@@ -5,7 +5,7 @@ use Rattle.std.specs.Ordering.{int_eq}
 use Rattle.std.specs.List.{list_all, list_any}
 use Rattle.std.proofs.lemmas.Bool.{cases_Bool, eq-eqb, eqb-true}
 use Rattle.std.proofs.lemmas.Bool.Decides.{Decides-int_eq}
-use Rattle.std.proofs.lemmas.List.{length-set, take_more, set-get_or}
+use Rattle.std.proofs.lemmas.List.{length-set, take_more}
 use Rattle.std.proofs.lemmas.List.Folds.{list_any-append}
 use Rattle.lk_model.specs.Lists.{among}
 use Rattle.lk_model.specs.Formulas.Literal.{contains, is_literal, is_clause, rank_of}
@@ -19,9 +19,6 @@ use Rattle.lk_model.proofs.Flags.{contains-push, or_no}
 use Rattle.lk_model.proofs.Literals.{literal_at, new_at}
 
 -- ONE CLAUSE LESS AT SOME LITERALS
-
-pub Lowers-none : (c : Counted) → LowersAll [] c c
-Lowers-none c = record { vars = refl; width = refl; less = λ l lit. omega arith }
 
 -- at one literal more, which is a new one and is counted
 Lowers-more : (earlier : List ℤ) (l : ℤ) (before now : Counted) → length before.counts ≡ 2 * before.vars + 2 → is_literal before.vars l ≡ true → contains earlier l ≡ false → 0 < count_of before.counts l
@@ -144,18 +141,7 @@ Counted-touch F live before after p clause counted low high up is lower = record
       omega (arith, lower_is, same, counted.counted l lit, holders-less F live p l counted.size low high up);
 }
 
--- a flag that is down stays so
-pub down_already : (live : List Bool) (p : ℕ) → get_or live (p - 1) false ≡ false → live ≡ slice_set live (p - 1) false
-down_already live p e = sym (ap (slice_set live (p - 1)) (sym e) ∙ set-get_or live (p - 1) false)
-
 -- SOME FLAGS LESS
-
-pub Down-none : (m : ℕ) (live : List Bool) → GoDown [] m live live
-Down-none m live = record { size = refl; down = λ p low high. and_all (is_live live p) }
-  where
-    and_all : (b : Bool) → b ≡ (b && true)
-    and_all true = refl
-    and_all false = refl
 
 -- one position more
 pub Down-more : (ps : List ℕ) (i p m : ℕ) (before now after : List Bool) → i < length ps → p ≡ get_or ps i 0 → 0 < p → p ≤ m → length before ≡ m → GoDown (take i ps) m before now → after ≡ slice_set now (p - 1) false → GoDown (take (i + 1) ps) m before after

@@ -1,9 +1,9 @@
 -- What reducers find is told by documents that reduce the formula.
-use Rattle.std.proofs.Common.{◌≡◌, ℕ, ◌∙◌, List, refl, sym, ap, subst, arith, Option, ℤ}
+use Rattle.std.proofs.Common.{◌≡◌, ℕ, ◌∙◌, List, refl, sym, ap, subst, Option, ℤ}
 use Rattle.std.specs.Prelude.{IsTrue}
 use Rattle.std.specs.List.{list_all}
 use Rattle.lk_model.specs.Formulas.Formula.{Cnf, is_formula, IsWithinLimits, positions_of, clauses_at}
-use Rattle.lk_model.specs.Formulas.Crossed.{Variables, formula_without, protected_by}
+use Rattle.lk_model.specs.Formulas.Crossed.{protected_by}
 use Rattle.lk_model.specs.Formulas.Lean.{are_positions}
 use Rattle.lk_model.specs.Documents.Form.{is_protect_line, is_stage}
 use Rattle.lk_model.specs.Documents.Text.{text_of}
@@ -18,28 +18,20 @@ use Rattle.lk_model.specs.declared.result.MatchingResult.{MatchingResult}
 use Rattle.lk_model.specs.declared.result.LinearResult.{LinearResult}
 use Rattle.lk_model.specs.declared.result.GeneralResult.{GeneralResult}
 use Rattle.lk_model.specs.Linear.LinearRun.{RunDone, linear_run}
-use Rattle.lk_model.proofs.Crossings.{formula_form, fewer_literals}
+use Rattle.lk_model.proofs.Crossings.{formula_form}
 use Rattle.kernel_laws.specs.Pure.PureResults.{IsPureResult, IsSetLine, pure_document}
 use Rattle.kernel_laws.specs.General.GeneralResults.{IsGeneralResult}
 use Rattle.kernel_laws.specs.Matching.MatchingResults.{IsMatchingResult, set_line}
 use Rattle.kernel_laws.specs.Protected.FoundLaw.{rest_of, written_for}
 use Rattle.kernel_laws.proofs.Pure.PureResults.{pure_result_law}
 use Rattle.kernel_laws.proofs.Protected.Crossing.{same_count}
-use Rattle.kernel_laws.proofs.Protected.FoundLaws.{found_law}
+use Rattle.kernel_laws.proofs.Protected.FoundLaws.{found_law, limits_without as limits_left}
 use Rattle.linear_laws.specs.RunLaw.{sign_line, linear_document}
 use Rattle.linear_laws.proofs.RunAccepted.{linear_run_law}
 use Rattle.linear_laws.proofs.RunMoments.{run_ends, left_rises}
 use Rattle.part_kernels.specs.ByParts.{IsFoundWhole}
 use Rattle.reductions.specs.Founds.{document_of, IsFoundFor, IsKernelFound, TellsReduction}
 use Rattle.reductions.specs.declared.document.Found.{Found}
-
--- what is left of a formula is within the limits
-pub limits_left : (P : Variables) (F : Cnf) → IsWithinLimits F → IsWithinLimits (formula_without F P)
-limits_left P F limits = record {
-  vars = limits.vars;
-  clauses = (let same = same_count F P in let fit = limits.clauses in omega (arith, same, fit));
-  literals = (let few = fewer_literals P F in let fit = limits.literals in omega (arith, few, fit));
-}
 
 -- a document of what is left, written for the formula, tells the same
 same_document : (F : Cnf) (protect : Option (List ℕ)) (class : Class) (pivots : ℕ) (found : Found)

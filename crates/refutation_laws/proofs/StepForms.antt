@@ -1,35 +1,19 @@
 -- Steps in form.
-use Rattle.std.proofs.Common.{◌≡◌, ℕ, zero, ◌+◌, ◌-◌, ◌*◌, ◌<◌, ◌^◌, Bool, true, false, cond, ◌&&◌, ◌==◌, nat_le, nat_lt, List, [], ◌∷◌, refl, sym, ℤ, pos, map, arith}
+use Rattle.std.proofs.Common.{◌≡◌, ℕ, ◌+◌, ◌-◌, ◌*◌, ◌<◌, ◌^◌, true, ◌&&◌, ◌==◌, nat_le, nat_lt, List, [], ◌∷◌, refl, map, arith}
 use Rattle.std.specs.List.{list_all}
-use Rattle.std.proofs.lemmas.Bool.{and_from, lt-ltb, leb-true, eqb-true, not-false}
-use Rattle.lk_model.specs.Lists.{is_between, is_empty, is_zero, is_nonzero, rises_within}
+use Rattle.std.proofs.lemmas.Bool.{and_from, lt-ltb, leb-true, eqb-true}
+use Rattle.lk_model.specs.Lists.{is_between, rises_within}
 use Rattle.lk_model.specs.Laws.{are_in_order}
 use Rattle.lk_model.specs.Formulas.Literal.{rank_of, is_literal}
 use Rattle.lk_model.specs.Chains.Chain.{names_of}
-use Rattle.lk_model.specs.Chains.Rounds.{is_refutation}
-use Rattle.lk_model.specs.Documents.Form.{counts_from, is_turn, is_step, are_steps, ends_at_empty}
+use Rattle.lk_model.specs.Documents.Form.{counts_from, is_turn, is_step, are_steps}
 use Rattle.lk_model.specs.declared.document.Step.{Step}
 use Rattle.lk_model.specs.declared.document.Turn.{Turn}
 use Rattle.lk_model.proofs.Booleans.{and_true}
-use Rattle.lk_model.proofs.ListTests.{not_zero, all_weaker}
-use Rattle.lk_model.proofs.Literals.{same_int}
-use Rattle.kernel_laws.proofs.General.Chains.{are_real}
+use Rattle.lk_model.proofs.ListTests.{all_weaker}
+use Rattle.kernel_laws.proofs.General.Chains.{are_real, real_step}
 use Rattle.kernel_laws.proofs.General.Numbering.{AreRising, counts_rise}
 use Rattle.kernel_laws.proofs.General.Reaching.{are_real_steps}
-
--- steps that end with their one empty clause refute
-pub refutes : (steps : List Step) → ends_at_empty steps ≡ true → is_refutation steps ≡ true
-refutes [] e = absurd (let f : ⊥ = cc in f)
-refutes (s ∷ []) e = at_test (is_empty s.clause) e
-  where
-    at_test : (b : Bool) → cond b true false ≡ true → b ≡ true
-    at_test true e = refl
-    at_test false e = e
-refutes (s ∷ t ∷ later) e = at_test (is_empty s.clause) e (refutes (t ∷ later))
-  where
-    at_test : (b : Bool) → cond b false (ends_at_empty (t ∷ later)) ≡ true → (ends_at_empty (t ∷ later) ≡ true → is_refutation (t ∷ later) ≡ true) → is_refutation (t ∷ later) ≡ true
-    at_test true e rest = absurd (let f : ⊥ = cc in f)
-    at_test false e rest = rest e
 
 -- WHAT CHAINS NAME
 
@@ -67,18 +51,6 @@ in_order n low next (s ∷ steps) lt c f =
     (in_order n s.number (next + 1) steps (omega (arith, same)) counts.1 forms.1)
 
 -- WHAT TURNS ARE ON
-
-real_literal : (n : ℕ) (l : ℤ) → is_literal n l ≡ true → is_nonzero l ≡ true
-real_literal n l e = at_test (is_nonzero l) refl
-  where
-    at_test : (b : Bool) → is_nonzero l ≡ b → b ≡ true
-    at_test true z = refl
-    at_test false z = absurd (not_zero n l e (sym (same_int (pos zero) l (not-false (is_zero l) z))))
-
-real_step : (n : ℕ) (s : Step) → is_step n s ≡ true → are_real s.turns ≡ true
-real_step n s e =
-    let turns = (and_true _ (list_all (is_turn n s.number) s.turns) e).1 in
-    all_weaker (is_turn n s.number) (λ (t : Turn). is_nonzero t.lit) (λ t h. real_literal n t.lit (and_true (is_literal n t.lit) _ h).0) s.turns turns
 
 -- what is known of steps in form
 pub record AreFormed (m : ℕ) (steps : List Step) : Type 0 where

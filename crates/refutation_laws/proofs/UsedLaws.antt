@@ -9,15 +9,14 @@ use Rattle.lk_model.specs.Laws.{named, are_in_order}
 use Rattle.lk_model.specs.Formulas.Literal.{variable}
 use Rattle.lk_model.specs.Formulas.Formula.{Cnf, clause_at, positions_of}
 use Rattle.lk_model.specs.Formulas.Crossed.{no_variable}
-use Rattle.lk_model.specs.Formulas.Assignment.{Assignment}
 use Rattle.lk_model.specs.Formulas.Autarky.{Within}
 use Rattle.lk_model.specs.Formulas.Lean.{IsLean, Kernel}
-use Rattle.lk_model.specs.Formulas.Protected.{SetsNone}
 use Rattle.lk_model.specs.Chains.Rounds.{reached, used_positions}
 use Rattle.lk_model.specs.Checks.RoundChecks.{bad_step}
 use Rattle.lk_model.proofs.Counting.{in_filter, from_filter}
 use Rattle.lk_model.proofs.Founds.{is_position}
 use Rattle.lk_model.proofs.ReachedLaws.{reached_law}
+use Rattle.lk_model.proofs.Rounds.{whole_refutes as refutes}
 use Rattle.kernel_laws.specs.General.RefutationLaw.{IsRefutation}
 use Rattle.kernel_laws.proofs.Assignments.{touching}
 use Rattle.kernel_laws.proofs.Clauses.{mentions_of}
@@ -27,9 +26,10 @@ use Rattle.kernel_laws.proofs.General.JoinLaws.{misstated_none, none_misstated}
 use Rattle.kernel_laws.proofs.General.Reaching.{is_misstated}
 use Rattle.kernel_laws.proofs.General.Renumbering.{stay, same_steps}
 use Rattle.kernel_laws.proofs.General.Stated.{NoneOf}
+use Rattle.kernel_laws.proofs.Reductions.{nothing_set as none_set}
 use Rattle.refutation_laws.specs.UsedLaw.{UsedLaw}
 use Rattle.refutation_laws.proofs.ReachedSteps.{kept_steps, kept_rise, kept_real, IsClosed, kept_state, keeps_reached}
-use Rattle.refutation_laws.proofs.StepForms.{refutes, formed}
+use Rattle.refutation_laws.proofs.StepForms.{formed}
 
 -- OVER MORE POSITIONS
 
@@ -54,10 +54,6 @@ wider F part other r inside h = record { steps = h.steps; whole = h.whole; state
 closed : (low : ℕ) (steps : List Step) → are_in_order low steps ≡ true → IsClosed (among (reached steps)) steps
 closed low [] o s (j, lt, e) r k m = absurd (omega (arith, lt))
 closed low (t ∷ steps) o s c r k m = (reached_law low t steps o k).1 (named s k c ((reached_law low t steps o s.number).0 r) m)
-
--- nothing is set by what sets no blocked variable, before any is
-none_set : (φ : Assignment) → SetsNone no_variable φ
-none_set φ v e = absurd (let f : ⊥ = cc in f)
 
 -- An autarky on the used positions is one over the steps that are reached, which use the same positions. So it touches none.
 used_lean : (F : Cnf) (r : Round) → IsRefutation F (positions_of F) r → IsLean General F (among (used_positions F r))

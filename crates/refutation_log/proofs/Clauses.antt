@@ -38,9 +38,6 @@ have_same c d e =
 pub HaveSame-refl : (c : List ℤ) → HaveSame c c
 HaveSame-refl c = record { members = λ k. refl }
 
-pub HaveSame-sym : (c d : List ℤ) → HaveSame c d → HaveSame d c
-HaveSame-sym c d h = record { members = λ k. sym (h.members k) }
-
 pub HaveSame-trans : (c d e : List ℤ) → HaveSame c d → HaveSame d e → HaveSame c e
 HaveSame-trans c d e h j = record { members = λ k. h.members k ∙ j.members k }
 

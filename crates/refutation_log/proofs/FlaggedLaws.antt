@@ -1,35 +1,18 @@
 -- Clauses by flags of literals.
-use Rattle.std.proofs.Common.{◌≡◌, ◌≢◌, ◌<◌, Bool, true, false, cond, not, ◌&&◌, ◌||◌, List, [], ◌∷◌, ◌++◌, refl, sym, ◌∙◌, ap, subst, ℤ, length, filter, set}
+use Rattle.std.proofs.Common.{◌≡◌, ◌≢◌, ◌<◌, Bool, true, false, cond, not, ◌&&◌, ◌||◌, List, [], ◌∷◌, ◌++◌, refl, sym, ◌∙◌, ap, subst, ℤ, length, set}
 use Rattle.std.specs.Ordering.{int_eq}
 use Rattle.std.proofs.lemmas.Bool.Decides.{Decides-int_eq}
 use Rattle.std.proofs.lemmas.List.{get_or-set_same, get_or-set_other}
 use Rattle.lk_model.specs.Formulas.Literal.{contains, rank_of}
 use Rattle.lk_model.specs.Chains.Chain.{without}
 use Rattle.lk_model.proofs.Booleans.{and_true, or_left, or_right}
-use Rattle.lk_model.proofs.Literals.{same_int}
+use Rattle.lk_model.proofs.Literals.{same_int, contains_filter as contains_filtered}
 use Rattle.lk_model.proofs.Ranks.{rank_apart}
 use Rattle.refutation_log.specs.Flagged.{is_flagged, flagged, HaveCome}
 use Rattle.refutation_log.specs.SameClause.{HaveSame}
 use Rattle.refutation_log.proofs.Clauses.{contains_append, contains_without}
 
 -- WHAT FLAGS SAY
-
-contains_filtered : (p : ℤ → Bool) (c : List ℤ) (k : ℤ) → contains (filter p c) k ≡ (p k && contains c k)
-contains_filtered p [] k = none (p k)
-  where
-    none : (b : Bool) → false ≡ (b && false)
-    none true = refl
-    none false = refl
-contains_filtered p (m ∷ c) k = at (p m) refl (int_eq k m) refl (contains_filtered p c k)
-  where
-    at : (b : Bool) → p m ≡ b → (d : Bool) → int_eq k m ≡ d → contains (filter p c) k ≡ (p k && contains c k)
-        → contains (cond b (m ∷ filter p c) (filter p c)) k ≡ (p k && (d || contains c k))
-    at true e true f h = let pk : p k ≡ true = ap p (same_int k m f) ∙ e in rw (f, pk) refl
-    at true e false f h = rw (f) h
-    at false e true f h =
-        let pk : p k ≡ false = ap p (same_int k m f) ∙ e in
-        h ∙ ap (λ (b : Bool). b && contains c k) pk ∙ sym (ap (λ (b : Bool). b && true) pk)
-    at false e false f h = h
 
 -- the clause has the literals whose flags are set
 pub flagged_holds : (flags : List Bool) (came : List ℤ) → HaveCome flags came → (k : ℤ) → contains (flagged flags came) k ≡ is_flagged flags k
@@ -68,17 +51,6 @@ taken_out flags flags' came l h same = (
     still : HaveCome flags' came
     still k set = h k (and_true (is_flagged flags k) (not (int_eq k l)) (sym (same k) ∙ set)).0
 
--- none is left where each that came is taken back
-pub all_taken : (flags flags' : List Bool) (came : List ℤ) → HaveCome flags came
-    → ((k : ℤ) → is_flagged flags' k ≡ (is_flagged flags k && not (contains came k))) → HaveCome flags' []
-all_taken flags flags' came h same k set =
-    let both = and_true (is_flagged flags k) (not (contains came k)) (sym (same k) ∙ set) in
-    absurd (never (contains came k) (h k both.0) both.1)
-  where
-    never : (b : Bool) → b ≡ true → not b ≡ true → ⊥
-    never true t n = (let z : ⊥ = cc in z)
-    never false t n = (let z : ⊥ = cc in z)
-
 -- a literal that is put in, which came before or comes now
 pub put_in : (flags flags' : List Bool) (came came' : List ℤ) (l : ℤ) → HaveCome flags came
     → ((k : ℤ) → is_flagged flags' k ≡ (int_eq k l || is_flagged flags k))
@@ -95,20 +67,6 @@ put_in flags flags' came came' l h same more here = (
         at : (b : Bool) → int_eq k l ≡ b → (b || is_flagged flags k) ≡ true → contains came' k ≡ true
         at true e f = subst (λ (m : ℤ). contains came' m ≡ true) (sym (same_int k l e)) here
         at false e f = more k (h k f)
-
--- the flags after each of two steps
-pub unflagged_more : (flags flags' flags'' : List Bool) (lits : List ℤ) (l : ℤ) (k : ℤ)
-    → is_flagged flags' k ≡ (is_flagged flags k && not (contains lits k)) → is_flagged flags'' k ≡ (is_flagged flags' k && not (int_eq k l))
-    → is_flagged flags'' k ≡ (is_flagged flags k && not (contains (lits ++ l ∷ []) k))
-unflagged_more flags flags' flags'' lits l k first second =
-    second ∙ ap (λ (b : Bool). b && not (int_eq k l)) first ∙ both (is_flagged flags k) (contains lits k) (int_eq k l)
-    ∙ ap (λ (b : Bool). is_flagged flags k && not b) (sym (contains_append lits (l ∷ []) k))
-  where
-    both : (a b c : Bool) → ((a && not b) && not c) ≡ (a && not (b || (c || false)))
-    both true true c = refl
-    both true false true = refl
-    both true false false = refl
-    both false b c = refl
 
 -- PUT IN
 

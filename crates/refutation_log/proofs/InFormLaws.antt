@@ -1,5 +1,5 @@
 -- Chains over a formula have a document's form.
-use Rattle.std.proofs.Common.{◌≡◌, ℕ, suc, ◌+◌, ◌-◌, ◌*◌, ◌^◌, ◌<◌, ◌≤◌, Bool, true, false, cond, not, ◌==◌, nat_le, nat_lt, List, [], ◌∷◌, ◌++◌, refl, sym, ◌∙◌, subst, arith, ℤ, pos, negsuc, Option, Some, None, length, map, find, option_map, IsSome}
+use Rattle.std.proofs.Common.{◌≡◌, ℕ, suc, ◌+◌, ◌-◌, ◌*◌, ◌^◌, ◌<◌, ◌≤◌, Bool, true, false, cond, not, ◌==◌, nat_le, nat_lt, List, [], ◌∷◌, ◌++◌, refl, sym, ◌∙◌, subst, arith, ℤ, Option, Some, None, length, map, find, option_map, IsSome}
 use Rattle.std.specs.List.{list_all}
 use Rattle.std.specs.Prelude.{option_and_then}
 use Rattle.std.specs.Option.{option_map_or}
@@ -20,6 +20,7 @@ use Rattle.lk_model.proofs.Clauses.{literals_of}
 use Rattle.lk_model.proofs.ListTests.{passes_each, all_left, all_more}
 use Rattle.lk_model.proofs.Founds.{all_literals}
 use Rattle.lk_model.proofs.Lists.{among_later, among_here, name_lower}
+use Rattle.lk_model.proofs.Ranks.{rank_bounds}
 use Rattle.refutation_log.specs.Derivation.{are_numbered, names_lower, is_ascending}
 use Rattle.refutation_log.specs.InForm.{FormLaw}
 use Rattle.refutation_log.proofs.Steps.{head_number, found_within, numbered_more}
@@ -108,14 +109,6 @@ chain_literals n from s e named = at_first (clause_named from s.first) refl e
         at_clause c (after_turns from c s.turns) (turns_literals n from c s.turns (named s.first c f) named (some_of (after_turns from c s.turns) e)) e
 
 -- ORDER
-
-rank_bounds : (n : ℕ) (l : ℤ) → is_literal n l ≡ true → (1 < rank_of l) × (rank_of l ≤ 2 * n + 1)
-rank_bounds n (pos v) e =
-    let both = and_true (nat_le 1 v) (nat_le v n) e in
-    let least = leb-true 1 v both.0 in let most = leb-true v n both.1 in (omega (arith, least), omega (arith, most))
-rank_bounds n (negsuc v) e =
-    let both = and_true (nat_le 1 (suc v)) (nat_le (suc v) n) e in
-    let most = leb-true (suc v) n both.1 in (omega arith, omega (arith, most))
 
 ranks_rise : (n low : ℕ) (c : List ℤ) → list_all (λ k. nat_lt low (rank_of k)) c ≡ true → list_all (is_literal n) c ≡ true → is_ascending c ≡ true
     → rises_within low (2 * n + 1) (map rank_of c) ≡ true

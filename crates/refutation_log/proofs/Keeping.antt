@@ -1,11 +1,11 @@
 -- The new numbers of kept numbers: how many are kept before them.
 use Rattle.std.proofs.Common.{◌≡◌, ℕ, zero, suc, ◌+◌, ◌-◌, ◌<◌, ◌≤◌, Bool, true, false, cond, ◌==◌, nat_lt, List, [], ◌∷◌, refl, sym, ◌∙◌, ap, subst, arith, length, map, filter, ◌⊎◌, inl, inr}
 use Rattle.std.specs.List.{range_with_len, position_or_len}
-use Rattle.std.proofs.lemmas.Bool.{leb-true, leb-false, le-leb, eqb-true, eq-eqb, le-ltb}
+use Rattle.std.proofs.lemmas.Bool.{leb-true, leb-false, le-leb, eqb-true, eq-eqb, le-ltb, ne_eqb as differ_test}
 use Rattle.lk_model.specs.declared.document.Step.{Step}
 use Rattle.refutation_log.specs.Derivation.{are_numbered}
 use Rattle.refutation_log.specs.Trimmed.{new_number}
-use Rattle.refutation_log.proofs.Steps.{head_number, differ_test}
+use Rattle.refutation_log.proofs.Steps.{head_number}
 
 -- how many of n numbers from a on are kept
 abbrev pub count_kept : (ℕ → Bool) → ℕ → ℕ → ℕ

@@ -3,7 +3,6 @@ use Rattle.std.proofs.Common.{◌≡◌, ℕ, zero, suc, ◌+◌, ◌-◌, ◌<�
 use Rattle.std.specs.List.{list_all}
 use Rattle.std.proofs.lemmas.Bool.{leb-true, le-leb}
 use Rattle.std.proofs.lemmas.List.{take_more, map_push, drop_more, drop_all, get_or_default, length-drop}
-use Rattle.std.proofs.lemmas.List.Folds.{list_any-append}
 use Rattle.lk_model.specs.Lists.{among}
 use Rattle.lk_model.specs.Chains.Chain.{names_of}
 use Rattle.lk_model.specs.Chains.Rounds.{reached}
@@ -15,9 +14,7 @@ use Rattle.refutation_log.specs.Derivation.{are_numbered, names_lower}
 use Rattle.refutation_log.proofs.Steps.{number_get}
 use Rattle.lk_model.proofs.Booleans.{and_true}
 use Rattle.lk_model.proofs.ListTests.{all_weaker, all_at}
-
-pub among_append : (ns ms : List ℕ) (k : ℕ) → among (ns ++ ms) k ≡ (among ns k || among ms k)
-among_append ns ms k = list_any-append (λ n. n == k) ns ms
+use Rattle.lk_model.proofs.Lists.{among_append}
 
 pub AreMarks-same : (xs ys : List ℕ) (m : Marks) → ((k : ℕ) → among xs k ≡ among ys k) → AreMarks xs m → AreMarks ys m
 AreMarks-same xs ys m same h = record {

@@ -1,19 +1,12 @@
 -- Steps that are numbered one after another.
 use Rattle.std.proofs.Common.{◌≡◌, ℕ, zero, suc, ◌+◌, ◌-◌, ◌<◌, ◌≤◌, Bool, true, false, cond, ◌==◌, List, [], ◌∷◌, ◌++◌, refl, sym, ◌∙◌, ap, subst, arith, Some, length, get_or, find, option_map, IsSome}
-use Rattle.std.proofs.lemmas.Bool.{eqb-true, eq-eqb}
+use Rattle.std.proofs.lemmas.Bool.{eqb-true, eq-eqb, ne_eqb as differ_test}
 use Rattle.lk_model.specs.declared.document.Step.{Step}
 use Rattle.refutation_log.specs.Derivation.{are_numbered, clause_of_step, last_clause_of}
 use Rattle.lk_model.proofs.Booleans.{and_true}
 
 pub head_number : (first : ℕ) (s : Step) (steps : List Step) → are_numbered first (s ∷ steps) ≡ true → (s.number ≡ first) × (are_numbered (first + 1) steps ≡ true)
 head_number first s steps e = let b = and_true (s.number == first) (are_numbered (first + 1) steps) e in (eqb-true s.number first b.0, b.1)
-
-pub differ_test : (a b : ℕ) → (a ≡ b → ⊥) → (a == b) ≡ false
-differ_test a b n = at (a == b) refl
-  where
-    at : (t : Bool) → (a == b) ≡ t → t ≡ false
-    at true e = absurd (n (eqb-true a b e))
-    at false e = refl
 
 -- a step is found at its place
 pub found_at : (first : ℕ) (steps : List Step) (i : ℕ) (d : Step) → are_numbered first steps ≡ true → i < length steps

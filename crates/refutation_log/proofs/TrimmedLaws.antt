@@ -21,10 +21,10 @@ use Rattle.refutation_log.specs.Trimmed.{with_numbers, are_filled_before_last, T
 use Rattle.refutation_log.proofs.Steps.{head_number}
 use Rattle.lk_model.proofs.Booleans.{and_true}
 use Rattle.lk_model.proofs.Counting.{among-filter, among-range}
-use Rattle.lk_model.proofs.Lists.{among_later, name_lower}
+use Rattle.lk_model.proofs.Lists.{among_later, name_lower, among_append}
 use Rattle.refutation_log.proofs.Chains.{step_named}
 use Rattle.refutation_log.proofs.ChainNames.{state_clauses, from_chains, to_chains, chain_sides}
-use Rattle.refutation_log.proofs.Marking.{among_append, at_rest}
+use Rattle.refutation_log.proofs.Marking.{at_rest}
 use Rattle.refutation_log.proofs.Renumbering.{same_in_range}
 use Rattle.refutation_log.proofs.Keeping.{Valid, a_position, a_step, new_of, count_kept, count_more, new_position, new_step, new_less, new_apart}
 use Rattle.refutation_log.proofs.Trimming.{EachFits, each_fits, reached_last, reached_names, with_number, trimmed_is}

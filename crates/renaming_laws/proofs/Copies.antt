@@ -2,12 +2,12 @@
 use Rattle.std.proofs.Common.{◌≡◌, ℕ, zero, suc, ◌+◌, ◌<◌, true, nat_lt, List, [], sym, ◌∙◌, ap, subst, ℤ, inl, inr, map, length, get_or, arith}
 use Rattle.std.specs.List.{list_all}
 use Rattle.std.proofs.lemmas.Bool.{cases_Bool, ltb-true, ltb-false}
-use Rattle.std.proofs.lemmas.List.{length-map, get_or-map, get_or_past}
+use Rattle.std.proofs.lemmas.List.{length-map, get_or-map}
 use Rattle.lk_model.specs.Lists.{up_to, rises_within}
 use Rattle.lk_model.specs.Formulas.Literal.{variable, is_positive, literal_of, is_literal}
 use Rattle.lk_model.specs.Formulas.Formula.{Cnf, clause_at, positions_of}
 use Rattle.lk_model.specs.Formulas.Lean.{are_positions}
-use Rattle.lk_model.proofs.Clauses.{literals_of}
+use Rattle.lk_model.proofs.Clauses.{literals_of, clause_past}
 use Rattle.lk_model.proofs.Ranks.{literal_bounds}
 use Rattle.renaming_laws.specs.Renaming.{named, IsDense}
 use Rattle.renaming_laws.proofs.Mapped.{rising_same, map_agrees, row_mapped}
@@ -61,11 +61,6 @@ clause_within F G part names dense k lt =
     let here : get_or (map (map (named names)) G.clauses) k [] ≡ map (named names) (get_or G.clauses k []) = get_or-map (map (named names)) G.clauses k [] [] inside in
     let over = subst (λ (n : ℕ). list_all (is_literal n) (clause_at G (suc k)) ≡ true) dense.vars (literals_of G (suc k) dense.formula) in
     sym there ∙ ap (λ (cs : List (List ℤ)). get_or cs k []) (sym dense.clauses) ∙ here ∙ clause_told names F.vars (clause_at G (suc k)) over
-
--- past all positions there is none
-clause_past : (F : Cnf) (j : ℕ) → length F.clauses < j → clause_at F j ≡ []
-clause_past F zero lt = absurd (omega (arith, lt))
-clause_past F (suc k) lt = get_or_past F.clauses k [] (omega (arith, lt))
 
 clauses_in : (F G : Cnf) (part names : List ℕ) → are_positions F part ≡ true → IsDense F part names G → (k : ℕ)
     → clause_at F (place_in F part k) ≡ map (literal_in F names) (clause_at G k)

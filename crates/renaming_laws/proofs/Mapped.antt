@@ -5,7 +5,6 @@ use Rattle.std.proofs.lemmas.Bool.{cases_Bool, both_ways, false_from_ne_true, eq
 use Rattle.std.proofs.lemmas.List.{map-append}
 use Rattle.lk_model.specs.Lists.{among, is_empty, is_between, rises_within}
 use Rattle.lk_model.proofs.Booleans.{and_true, or_true}
-use Rattle.lk_model.proofs.Lists.{among_here, among_later}
 use Rattle.lk_model.proofs.Rising.{rises, bounded}
 
 -- TESTS
@@ -128,14 +127,6 @@ rises_all u low high (x ∷ xs) e =
 
 pub rising_all : (low high : ℕ) (ns : List ℕ) → rises_within low high ns ≡ true → list_all (λ n. is_between 1 high n) ns ≡ true
 rising_all low high ns r = rises_all (λ (k : ℕ). k) low high ns (subst (λ (ks : List ℕ). rises_within low high ks ≡ true) (sym (map_same ns)) r)
-
--- a new number stands for one of the old ones
-pub from_mapped : (f : ℕ → ℕ) (ns : List ℕ) (k : ℕ) → among (map f ns) k ≡ true → (j : ℕ) × (among ns j ≡ true) × (f j ≡ k)
-from_mapped f [] k e = absurd (let z : ⊥ = cc in z)
-from_mapped f (n ∷ ns) k e = elim (or_true (f n == k) (among (map f ns) k) e) [
-  | inl here ↦ (n, among_here n ns, eqb-true (f n) k here)
-  | inr later ↦ (let w = from_mapped f ns k later in (w.0, among_later n w.0 ns w.1, w.2))
-]
 
 -- of numbers in a row those that pass are among some that rise, if no other one passes
 pub only_these : (t : ℕ → Bool) (low n high : ℕ) (ps : List ℕ) → low + n ≡ high → rises_within low high ps ≡ true

@@ -8,7 +8,7 @@ use Rattle.lk_model.specs.Formulas.Literal.{variable, is_positive, complement, l
 use Rattle.lk_model.specs.Formulas.Crossed.{Variables, crossed_out}
 use Rattle.lk_model.specs.Chains.Chain.{without, resolvent}
 use Rattle.lk_model.proofs.Booleans.{same_tests}
-use Rattle.lk_model.proofs.Literals.{same_int, complement_twice, variable_negative}
+use Rattle.lk_model.proofs.Literals.{same_int, complement_twice, variable_negative, literal_again as literal_back}
 use Rattle.renaming_laws.proofs.Mapped.{any_mapped, all_mapped, filter_mapped, map_twice}
 
 -- other literals, on other variables, which stay apart as the old ones do
@@ -65,11 +65,6 @@ resolvent_renamed ν g new t c d =
 -- the literal of the same sign
 abbrev pub literal_on : (ℕ → ℕ) → ℤ → ℤ
 literal_on ν l = literal_of (ν (variable l)) (is_positive l)
-
--- a literal is told by its variable and its sign
-literal_back : (l : ℤ) → literal_of (variable l) (is_positive l) ≡ l
-literal_back (pos v) = refl
-literal_back (negsuc k) = refl
 
 variable_on : (ν : ℕ → ℕ) (l : ℤ) → variable (literal_on ν l) ≡ ν (variable l)
 variable_on ν (pos v) = refl

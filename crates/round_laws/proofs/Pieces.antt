@@ -1,10 +1,10 @@
 -- Rounds of all parts as pieces, one for each part.
 use Rattle.std.proofs.Common.{◌≡◌, ℕ, suc, ◌≤◌, Bool, true, false, not, cond, List, [], ◌∷◌, ◌++◌, refl, sym, ◌∙◌, ap, map, filter, length, subst, append_assoc}
-use Rattle.std.specs.List.{flat_map, AllByRecursion}
+use Rattle.std.specs.List.{flat_map}
 use Rattle.std.proofs.lemmas.List.{append-nil}
 use Rattle.lk_model.specs.Lists.{among, is_empty}
 use Rattle.lk_model.specs.Formulas.Formula.{Cnf}
-use Rattle.lk_model.specs.Formulas.Crossed.{Variables, no_variable, formula_without}
+use Rattle.lk_model.specs.Formulas.Crossed.{no_variable}
 use Rattle.lk_model.specs.Formulas.Parts.{AreParts}
 use Rattle.lk_model.specs.Chains.Chain.{names_of}
 use Rattle.lk_model.specs.Documents.Documents.{steps_of}
@@ -18,7 +18,7 @@ use Rattle.kernel_laws.proofs.General.Carrying.{NamesIn, names_more, names_of_ro
 use Rattle.kernel_laws.proofs.General.JoinLaws.{steps_joined, misstated_none, move}
 use Rattle.kernel_laws.proofs.General.OpenResults.{steps_pass}
 use Rattle.kernel_laws.proofs.Protected.EmptyLaws.{empty_law}
-use Rattle.round_laws.specs.Budgets.{AreLearnedWithin, AreWithinBudget, AreFinished, CanBeFinished}
+use Rattle.round_laws.specs.Budgets.{AreLearnedWithin, AreWithinBudget, AreFinished}
 
 -- THE PIECES
 
@@ -109,11 +109,3 @@ have_results F conflicts [] [] done = tt
 have_results F conflicts [] (r ∷ found) done = absurd done
 have_results F conflicts (ps ∷ parts) [] done = absurd done
 have_results F conflicts (ps ∷ parts) (r ∷ found) done = (done.0.result, have_results F conflicts parts found done.1)
-
--- so each part can be finished, on the formula without the protected variables
-pub each_finished : (P : Variables) (F : Cnf) (conflicts : ℕ) (parts : List (List ℕ)) (found : List GeneralResult)
-    → AreFinished (formula_without F P) conflicts parts found → AllByRecursion (CanBeFinished P F conflicts) parts
-each_finished P F conflicts [] [] done = tt
-each_finished P F conflicts [] (r ∷ found) done = absurd done
-each_finished P F conflicts (ps ∷ parts) [] done = absurd done
-each_finished P F conflicts (ps ∷ parts) (r ∷ found) done = ((r, done.0), each_finished P F conflicts parts found done.1)

@@ -11,7 +11,7 @@ use Rattle.lk_model.specs.Documents.Documents.{steps_of}
 use Rattle.lk_model.specs.Documents.Form.{is_step, are_steps, is_open, is_whole, end_open}
 use Rattle.lk_model.specs.declared.document.Step.{Step}
 use Rattle.lk_model.specs.declared.document.Round.{Round}
-use Rattle.lk_model.proofs.Booleans.{and_true}
+use Rattle.lk_model.proofs.Rounds.{ends_more as open_last}
 use Rattle.round_text.specs.declared.read_rounds.RoundsPart.{RoundsPart}
 use Rattle.round_text.specs.RoundLines.{rounds_lines, round_of, put_step, all_rounds}
 use Rattle.line_text.proofs.NumberForms.{between}
@@ -101,13 +101,6 @@ rounds_whole n m p h t =
     and_from (are_steps n m (steps_of (all_rounds p))) (list_all is_whole (all_rounds p))
     (ap (are_steps n m) (all_steps_read n m p h) ∙ h.steps)
     (ap (λ (b : Bool). list_all is_whole (p.rounds ++ cond b (round_of p.steps ∷ []) [])) t ∙ ap (list_all is_whole) (append-nil p.rounds) ∙ h.whole)
-
-open_last : (rs : List Round) (r : Round) → list_all is_whole rs ≡ true → is_open r ≡ true → end_open (rs ++ r ∷ []) ≡ true
-open_last [] r h e = e
-open_last (q ∷ []) r h e = let both = and_true (is_whole q) true h in and_from (is_whole q) (is_open r) both.0 e
-open_last (q ∷ s ∷ rs) r h e =
-    let both = and_true (is_whole q) (list_all is_whole (s ∷ rs)) h in
-    and_from (is_whole q) (end_open (s ∷ (rs ++ r ∷ []))) both.0 (open_last (s ∷ rs) r both.1 e)
 
 -- rounds of which the last one is open
 pub rounds_open : (n m : ℕ) (p : RoundsPart) → IsRounds n m p → p.is_open ≡ true → (are_steps n m (steps_of (all_rounds p)) ≡ true) × (end_open (all_rounds p) ≡ true)

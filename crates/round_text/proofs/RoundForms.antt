@@ -1,5 +1,5 @@
 -- What the words of steps are read as, and spelled by.
-use Rattle.std.proofs.Common.{◌≡◌, ℕ, suc, ◌+◌, ◌-◌, ◌*◌, ◌^◌, ◌<◌, ◌≤◌, ◌∙◌, Bool, true, false, cond, ◌&&◌, List, [], ◌∷◌, ◌++◌, map, refl, sym, ap, subst, arith, ℤ, pos, negsuc, Option, Some, None, append_assoc}
+use Rattle.std.proofs.Common.{◌≡◌, ℕ, ◌+◌, ◌-◌, ◌*◌, ◌^◌, ◌<◌, ◌≤◌, ◌∙◌, Bool, true, false, cond, ◌&&◌, List, [], ◌∷◌, ◌++◌, map, refl, sym, ap, subst, arith, ℤ, Option, Some, None, append_assoc}
 use Rattle.std.specs.Prelude.{option_and_then, codes, nat_lt, decimal}
 use Rattle.std.specs.Fmt.{digits, signed_decimal}
 use Rattle.std.specs.List.{list_all, flat_map}
@@ -16,6 +16,8 @@ use Rattle.lk_model.specs.Documents.Form.{is_turn, is_step}
 use Rattle.lk_model.specs.declared.document.Turn.{Turn}
 use Rattle.lk_model.specs.declared.document.Step.{Step}
 use Rattle.lk_model.proofs.Booleans.{and_true}
+use Rattle.lk_model.proofs.Ranks.{rank_bounds as literal_rank, ranked_literal as rank_literal}
+use Rattle.lk_model.proofs.ListTests.{all_more as tested_more}
 use Rattle.line_text.specs.Fields.{literal_within, number_within}
 use Rattle.line_text.specs.FieldLists.{twos}
 use Rattle.line_text.specs.LastVars.{last_or}
@@ -23,7 +25,7 @@ use Rattle.round_text.specs.RoundLines.{if_above, ranked_then, turn_by, turn_wit
 use Rattle.line_text.proofs.NumberTexts.{spelled}
 use Rattle.line_text.proofs.ListForms.{read_literal, literal_read, number_back}
 use Rattle.line_text.proofs.NumberForms.{number_form}
-use Rattle.line_text.proofs.LastOnes.{are_listed, listed_more, rises_last, rises_front, last_above, tested_more, tested_last, tested_front}
+use Rattle.line_text.proofs.LastOnes.{are_listed, listed_more, rises_last, rises_front, last_above, tested_last, tested_front}
 use Rattle.line_text.proofs.NumberForms.{IsBetween, between, is_between_of}
 use Rattle.line_text.proofs.TwosSteps.{AreTwos, twos_form, twos_back}
 
@@ -61,14 +63,6 @@ turns_two n number small low = record {
 }
 
 -- LITERALS BY RANK
-
-literal_rank : (n : ℕ) (l : ℤ) → is_literal n l ≡ true → (1 < rank_of l) × (rank_of l ≤ 2 * n + 1)
-literal_rank n (pos v) h = let b = is_between_of 1 n v h in (omega (arith, b.least), omega (arith, b.most))
-literal_rank n (negsuc k) h = let b = is_between_of 1 n (suc k) h in (omega (arith, b.least), omega (arith, b.most))
-
-rank_literal : (n : ℕ) (l : ℤ) → 1 < rank_of l → rank_of l ≤ 2 * n + 1 → is_literal n l ≡ true
-rank_literal n (pos v) a b = between 1 n v (omega (arith, a)) (omega (arith, b))
-rank_literal n (negsuc k) a b = between 1 n (suc k) (omega arith) (omega (arith, b))
 
 abbrev pub are_ranked : ℕ → List ℤ → Bool
 are_ranked n ls = are_listed rank_of (is_literal n) 1 (2 * n + 1) ls

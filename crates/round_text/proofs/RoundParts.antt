@@ -13,13 +13,13 @@ use Rattle.lk_model.specs.Documents.Form.{counts_from, is_step, are_steps, ends_
 use Rattle.lk_model.specs.declared.document.Step.{Step}
 use Rattle.lk_model.specs.declared.document.Round.{Round}
 use Rattle.lk_model.proofs.Booleans.{and_true}
+use Rattle.lk_model.proofs.ListTests.{all_more as tested_more}
 use Rattle.round_text.specs.declared.read_rounds.RoundsPart.{RoundsPart}
 use Rattle.line_text.specs.Fields.{after}
 use Rattle.round_text.specs.RoundLines.{rounds_lines, round_of, step_within, number_after, closed, with_step, put_step, next_step, is_round, rounds_next}
 use Rattle.line_text.proofs.Words.{after_form}
 use Rattle.round_text.proofs.RoundSteps.{round_form}
 use Rattle.round_text.proofs.RoundForms.{step_form}
-use Rattle.line_text.proofs.LastOnes.{tested_more}
 use Rattle.line_text.proofs.Options.{map_some, then_some}
 
 -- NUMBERED STEPS

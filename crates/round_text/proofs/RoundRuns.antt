@@ -1,5 +1,5 @@
 -- The lines of rounds, read one after another.
-use Rattle.std.proofs.Common.{◌≡◌, ℕ, ◌+◌, ◌^◌, ◌≤◌, ◌∙◌, Bool, true, false, cond, not, ◌&&◌, ◌==◌, List, [], ◌∷◌, ◌++◌, length, map, refl, sym, ap, subst, arith, Option, Some, None, append_assoc, length-append}
+use Rattle.std.proofs.Common.{◌≡◌, ℕ, ◌+◌, ◌^◌, ◌≤◌, ◌∙◌, Bool, true, false, cond, not, ◌&&◌, ◌==◌, List, [], ◌∷◌, ◌++◌, length, map, refl, sym, ap, subst, arith, Option, Some, None, append_assoc, length-append, ◌<◌}
 use Rattle.std.specs.Prelude.{option_map, option_and_then, codes}
 use Rattle.std.specs.List.{list_all, flat_map}
 use Rattle.std.proofs.lemmas.Bool.{lt-ltb, eqb-true}
@@ -8,7 +8,7 @@ use Rattle.lk_model.specs.Lists.{is_empty}
 use Rattle.lk_model.specs.Texts.Lines.{Word}
 use Rattle.lk_model.specs.Documents.Text.{comment, step_line, round_lines}
 use Rattle.lk_model.specs.Documents.Documents.{steps_of}
-use Rattle.lk_model.specs.Documents.Form.{counts_from, is_step, ends_at_empty, is_whole}
+use Rattle.lk_model.specs.Documents.Form.{counts_from, is_step, ends_at_empty, is_whole, are_steps}
 use Rattle.lk_model.specs.declared.document.Step.{Step}
 use Rattle.lk_model.specs.declared.document.Round.{Round}
 use Rattle.lk_model.proofs.Booleans.{and_true}
@@ -154,3 +154,20 @@ rounds_all_run n m before (r ∷ rounds) k lines small whole h =
     ∙ rounds_all_run n m (before ++ round_of r.steps ∷ []) rounds (k + length r.steps) lines small both.1 parts.1
     ∙ ap (λ (rs : List Round). rounds_run true n m (shut_at rs (k + length r.steps + length (steps_of rounds))) lines) (append_assoc before (r ∷ []) rounds)
     ∙ ap (λ (c : ℕ). rounds_run true n m (shut_at (before ++ r ∷ rounds) c) lines) count
+
+-- steps in form are numbered from the first one on
+pub numbered_from_first : (n m : ℕ) (steps : List Step) → are_steps n m steps ≡ true → AreNumbered n m 0 steps
+numbered_from_first n m steps h =
+    let both = and_true (counts_from (m + 1) (map (λ (x : Step). x.number) steps)) (list_all (is_step n) steps) h in
+    let zero_more : m + 1 + 0 ≡ m + 1 = omega arith in
+    record { counts = ap (λ (j : ℕ). counts_from j (map (λ (x : Step). x.number) steps)) zero_more ∙ both.0; forms = both.1 }
+
+-- a chain over no clauses has no first clause
+pub some_clauses : (n m : ℕ) (steps others : List Step) → ends_at_empty steps ≡ true → are_steps n m (steps ++ others) ≡ true → 0 < m
+some_clauses n m [] others e h = absurd (let f : ⊥ = cc in f)
+some_clauses n m (s ∷ steps) others e h =
+    let both = and_true (counts_from (m + 1) (map (λ (x : Step). x.number) (s ∷ (steps ++ others)))) (list_all (is_step n) (s ∷ (steps ++ others))) h in
+    let number = eqb-true s.number (m + 1) (and_true (s.number == m + 1) (counts_from (m + 1 + 1) (map (λ (x : Step). x.number) (steps ++ others))) both.0).0 in
+    let form = (and_true (is_step n s) (list_all (is_step n) (steps ++ others)) both.1).0 in
+    let range = (step_parts n s form).first in
+    omega (arith, range.least, range.most, number)

@@ -1,16 +1,15 @@
 -- Decimal spellings: they are words, and the numbers that they write.
-use Rattle.std.proofs.Common.{◌≡◌, ℕ, zero, suc, ◌+◌, ◌-◌, ◌*◌, ◌/◌, ◌%◌, ◌<◌, ◌≤◌, ◌^◌, ◌∙◌, Bool, true, false, cond, not, ◌==◌, List, [], ◌∷◌, ◌++◌, refl, ap, subst, arith, inl, inr, ℤ, pos, negsuc, Some, nat_lt}
+use Rattle.std.proofs.Common.{◌≡◌, ℕ, zero, suc, ◌+◌, ◌/◌, ◌%◌, ◌<◌, ◌^◌, Bool, true, false, cond, not, ◌==◌, List, [], ◌∷◌, refl, ap, subst, arith, inl, inr, ℤ, pos, negsuc, Some, nat_lt}
 use Rattle.std.specs.Prelude.{slice_index, unsigned_abs}
 use Rattle.std.specs.List.{list_all}
 use Rattle.std.specs.Fmt.{decimal, signed_decimal, digits, digits_onto, digit_glyph}
 use Rattle.std.specs.Char.{is_ascii_digit}
-use Rattle.std.proofs.lemmas.Bool.{cases_Bool, eqb-true, le-leb, lt-ltb, and_from}
+use Rattle.std.proofs.lemmas.Bool.{cases_Bool, eqb-true, lt-ltb, and_from}
 use Rattle.std.proofs.lemmas.Fmt.{decimal_by_steps}
-use Rattle.std.proofs.lemmas.List.Folds.{list_all-append}
-use Rattle.std.proofs.lemmas.List.Sums.{fold-append}
 use Rattle.lk_model.proofs.Booleans.{and_true}
+use Rattle.lk_model.proofs.Spellings.{IsSpelling, one_digit, more_digits, natural_by, number_by}
 use Rattle.lk_model.specs.Lists.{is_empty}
-use Rattle.lk_model.specs.Texts.NumberWords.{digits_value, natural, number, negated, not_negated}
+use Rattle.lk_model.specs.Texts.NumberWords.{natural, number, negated}
 use Rattle.text_laws.proofs.Words.{is_word}
 
 -- EACH IS A WORD
@@ -47,39 +46,8 @@ signed_word (negsuc k) = (and_true (not (is_empty (decimal (suc k)))) _ (decimal
 
 -- WHAT THEY WRITE
 
--- digits of a number
-record IsSpelling (n : ℕ) (ds : List ℕ) : Type 0 where
-  digits : list_all is_ascii_digit ds ≡ true
-  value : digits_value ds ≡ n
-  some : is_empty ds ≡ false
-
-is_digit : (n : ℕ) → n < 10 → is_ascii_digit (48 + n) ≡ true
-is_digit n h = rw (le-leb 48 (48 + n) (omega arith), le-leb (48 + n) 57 (omega (arith, h))) refl
-
-one_digit : (n : ℕ) → n < 10 → IsSpelling n ((48 + n) ∷ [])
-one_digit n h = record { digits = rw (is_digit n h) refl; value = omega arith; some = refl }
-
-joined_some : (ds : List ℕ) (d : ℕ) → is_empty (ds ++ d ∷ []) ≡ false
-joined_some [] d = refl
-joined_some (x ∷ ds) d = refl
-
-more_digits : (n : ℕ) (ds : List ℕ) → 10 ≤ n → IsSpelling (n / 10) ds → IsSpelling n (ds ++ (48 + n % 10) ∷ [])
-more_digits n ds h s =
-    let small : n % 10 < 10 = omega arith in
-    let joined = fold-append (λ (m d : ℕ). 10 * m + (d - 48)) 0 ds ((48 + n % 10) ∷ []) in
-    let front = ap (λ (m : ℕ). 10 * m + (48 + n % 10 - 48)) s.value in
-    record {
-      digits = list_all-append is_ascii_digit ds ((48 + n % 10) ∷ []) ∙ rw (s.digits, is_digit (n % 10) small) refl;
-      value = joined ∙ front ∙ (let e : 10 * (n / 10) + (48 + n % 10 - 48) ≡ n = omega arith in e);
-      some = joined_some ds (48 + n % 10);
-    }
-
 spelling : (n : ℕ) → n < 2 ^ 64 → IsSpelling n (decimal n)
 spelling n h = decimal_by_steps IsSpelling one_digit more_digits n h
-
-natural_by : (n : ℕ) (ds : List ℕ) → IsSpelling n ds → natural ds ≡ Some n
-natural_by n [] s = absurd (let some = s.some in let f : ⊥ = cc in f)
-natural_by n (d ∷ ds) s = rw s.digits (ap Some s.value)
 
 pub natural_decimal : (n : ℕ) → n < 2 ^ 64 → natural (decimal n) ≡ Some n
 natural_decimal n h = natural_by n (decimal n) (spelling n h)
@@ -91,11 +59,6 @@ first_apart c (d ∷ ds) low h some = elim (cases_Bool (d == c)) [
   | inl e ↦ absurd (let p : is_ascii_digit c ≡ true = subst (λ (b : ℕ). is_ascii_digit b ≡ true) (eqb-true d c e) (and_true _ _ h).0 in let f : ⊥ = cc in f)
   | inr e ↦ e
 ]
-
-number_by : (n : ℕ) (ds : List ℕ) → IsSpelling n ds → number ds ≡ Some (pos n)
-number_by n [] s = absurd (let some = s.some in let f : ⊥ = cc in f)
-number_by n (d ∷ ds) s =
-    ap (λ (b : Bool). cond b (negated (natural ds)) (not_negated (natural (d ∷ ds)))) (first_apart 45 (d ∷ ds) refl s.digits refl) ∙ ap not_negated (natural_by n (d ∷ ds) s)
 
 pub number_spelled : (x : ℤ) → unsigned_abs x < 2 ^ 63 → number (signed_decimal x) ≡ Some x
 number_spelled (pos n) h = number_by n (decimal n) (spelling n (omega (arith, h)))

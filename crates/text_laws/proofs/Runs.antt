@@ -1,8 +1,8 @@
 -- The numbers of clause lines: the literals of each clause, and a 0 behind them.
-use Rattle.std.proofs.Common.{◌≡◌, ℕ, zero, suc, ◌≤◌, ◌∙◌, Bool, true, false, cond, not, List, [], ◌∷◌, ◌++◌, length, map, filter, flat_map, All, refl, sym, ap, arith, append_assoc, ℤ, pos, count_by, sum_by, nat_le, inl, inr}
-use Rattle.std.specs.List.{slice_split, list_all, onto_first}
+use Rattle.std.proofs.Common.{◌≡◌, ℕ, zero, suc, ◌≤◌, ◌∙◌, Bool, true, false, cond, not, List, [], ◌∷◌, ◌++◌, length, map, filter, flat_map, All, refl, sym, ap, arith, append_assoc, ℤ, pos, count_by, sum_by, nat_le}
+use Rattle.std.specs.List.{list_all}
 use Rattle.std.specs.Ordering.{int_eq}
-use Rattle.std.proofs.lemmas.Bool.{cases_Bool, not-true, and_from, le-leb}
+use Rattle.std.proofs.lemmas.Bool.{not-true, and_from, le-leb}
 use Rattle.std.proofs.lemmas.List.Folds.{list_all-append}
 use Rattle.std.proofs.lemmas.List.Sums.{sum_by-append, sum_by-cons, count_by-le-length}
 use Rattle.std.proofs.lemmas.List.Splits.{slice_split_at}
@@ -10,8 +10,8 @@ use Rattle.lk_model.specs.Lists.{is_zero, is_nonzero}
 use Rattle.lk_model.specs.Formulas.Literal.{variable, contains, is_literal, is_distinct, is_clause}
 use Rattle.lk_model.specs.Texts.Dimacs.{without_empty_last, runs_of, without_repeats}
 use Rattle.lk_model.proofs.Booleans.{and_true, or_false}
-use Rattle.lk_model.proofs.ListTests.{all_weaker, not_zero}
-use Rattle.lk_model.proofs.Literals.{same_int}
+use Rattle.lk_model.proofs.ListTests.{all_weaker, real_literal as literal_nonzero}
+use Rattle.lk_model.proofs.FaultLaws.{split_shape as has_part}
 
 -- the numbers of the clause lines
 abbrev pub numbers_in : List (List ℤ) → List ℤ
@@ -19,27 +19,10 @@ numbers_in clauses = flat_map (λ c. c ++ pos 0 ∷ []) clauses
 
 -- RUNS
 
--- a literal is no 0
-literal_nonzero : (n : ℕ) (l : ℤ) → is_literal n l ≡ true → is_nonzero l ≡ true
-literal_nonzero n l h = elim (cases_Bool (is_zero l)) [
-  | inl e ↦ absurd (not_zero n l h (sym (same_int (pos 0) l e)))
-  | inr e ↦ ap not e
-]
-
 none_zero : (c : List ℤ) → list_all is_nonzero c ≡ true → All (λ x. is_zero x ≡ false) c
 none_zero [] h k d lt = absurd (omega (arith, lt))
 none_zero (x ∷ c) h zero d lt = not-true (is_zero x) (and_true _ _ h).0
 none_zero (x ∷ c) h (suc k) d lt = none_zero c (and_true _ _ h).1 k d (omega (arith, lt))
-
--- a list is cut into one part at least
-has_part : (xs : List ℤ) → (r : List ℤ) × (rs : List (List ℤ)) × (slice_split is_zero xs ≡ r ∷ rs)
-has_part [] = ([], [], refl)
-has_part (x ∷ xs) = by (is_zero x) (has_part xs)
-  where
-    by : (b : Bool) → ((r : List ℤ) × (rs : List (List ℤ)) × (slice_split is_zero xs ≡ r ∷ rs))
-        → (r : List ℤ) × (rs : List (List ℤ)) × (cond b ([] ∷ slice_split is_zero xs) (onto_first x (slice_split is_zero xs)) ≡ r ∷ rs)
-    by true s = ([], slice_split is_zero xs, refl)
-    by false s = (x ∷ s.0, s.1, rw s.2 refl)
 
 -- a run before others stays
 first_run : (c r : List ℤ) (rs : List (List ℤ)) → without_empty_last (c ∷ r ∷ rs) ≡ c ∷ without_empty_last (r ∷ rs)

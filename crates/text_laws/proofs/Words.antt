@@ -1,13 +1,14 @@
 -- Words without a blank, and the words of a line that is made of them.
-use Rattle.std.proofs.Common.{◌≡◌, ℕ, ◌+◌, ◌-◌, ◌∙◌, Bool, true, false, not, ◌&&◌, List, [], ◌∷◌, length, filter, All, refl, ap, arith, inl, inr, nat_lt}
+use Rattle.std.proofs.Common.{◌≡◌, ℕ, ◌-◌, ◌∙◌, Bool, true, false, not, ◌&&◌, List, [], ◌∷◌, length, filter, All, refl, ap, arith, nat_lt}
 use Rattle.std.specs.List.{slice_split, list_all, join_with_byte}
-use Rattle.std.proofs.lemmas.Bool.{cases_Bool, and_from, ltb-true, ne_eqb}
+use Rattle.std.proofs.lemmas.Bool.{and_from, ltb-true, ne_eqb}
 use Rattle.std.proofs.lemmas.List.Folds.{list_all-append}
 use Rattle.std.proofs.lemmas.List.Splits.{slice_split_at, slice_split_none}
 use Rattle.lk_model.specs.Lists.{is_empty}
 use Rattle.lk_model.specs.Texts.Lines.{Piece, Word, is_newline, is_blank, placed_after, words_of, texts}
 use Rattle.lk_model.proofs.Booleans.{and_true}
 use Rattle.lk_model.proofs.ListTests.{none_pass, all_weaker}
+use Rattle.lk_model.proofs.Pieces.{texts_placed, texts_filter}
 
 -- no byte is a blank or a byte 10
 abbrev pub is_solid : List ℕ → Bool
@@ -38,17 +39,6 @@ no_blank word h =
     none_pass is_blank word (all_weaker (nat_lt 32) (λ b. not (is_blank b)) (λ b e. ap not (not_blank b e)) word solid)
 
 -- PIECES BY THEIR BYTES
-
-pub texts_placed : (n : ℕ) (parts : List (List ℕ)) → texts (placed_after n parts) ≡ parts
-texts_placed n [] = refl
-texts_placed n (part ∷ parts) = ap (λ ps. part ∷ ps) (texts_placed (n + length part + 1) parts)
-
-texts_filter : (p : List ℕ → Bool) (pieces : List Piece) → texts (filter (λ piece. p piece.bytes) pieces) ≡ filter p (texts pieces)
-texts_filter p [] = refl
-texts_filter p (x ∷ xs) = elim (cases_Bool (p x.bytes)) [
-  | inl e ↦ rw e (ap (λ ps. x.bytes ∷ ps) (texts_filter p xs))
-  | inr e ↦ rw e (texts_filter p xs)
-]
 
 -- words without their places
 words_texts : (line : Piece) → texts (words_of line) ≡ filter (λ word. not (is_empty word)) (slice_split is_blank line.bytes)

@@ -25,6 +25,7 @@ of_rank n (negsuc a) first small = and_from _ _ (le-leb 1 (suc a) (omega (arith,
 pub begun : (F : Cnf) (b : List Bool) (lists : List (List ℕ)) (inside : List Bool) (t : Came) (n : ℕ) → AreOccurrences F lists → length inside ≡ length F.clauses → n ≡ F.vars
     → t.lits ≡ [] → t.reasons ≡ [] → t.places ≡ replicate (2 * n + 2) None → AreKept F b lists inside t
 begun F b lists inside t n occur size vars lits reasons places = record {
+  occurs = occur;
   size = occur.size ∙ sym long;
   ranges = λ l first small.
       (let lit = of_rank F.vars l first (let s = occur.size in omega (arith, small, s)) in
@@ -52,6 +53,7 @@ pub block_one : (F : Cnf) (b b' : List Bool) (lists lists' : List (List ℕ)) (i
     → t'.places ≡ slice_set (slice_set t.places (2 * v) None) (2 * v + 1) None → AreKept F b' lists' inside' t'
 block_one F b b' lists lists' inside inside' t t' v h first last vars blocked e f lits reasons places =
     subst (λ (x : List (List ℕ)). AreKept F b' x inside' t') (sym e) (subst (λ (x : List Bool). AreKept F b' lists x t') (sym f) (record {
+      occurs = h.occurs;
       size = h.size ∙ sym (ap (λ (ps : List (Option ℕ)). length ps) places ∙ length-set (slice_set t.places (2 * v) None) (2 * v + 1) None ∙ length-set t.places (2 * v) None);
       ranges = h.ranges;
       inside = h.inside;

@@ -300,6 +300,7 @@ pub kept_put : (F : Cnf) (b : List Bool) (lists lists' : List (List ℕ)) (insid
     → t'.places ≡ slice_set t.places (rank_of l) (Some (length t.lits)) → AreKept F b lists' inside' t'
 kept_put F b lists lists' inside inside' t t' l position h clause within look e f lits reasons places =
     subst (λ (x : List (List ℕ)). AreKept F b x inside' t') (sym e) (subst (λ (x : List Bool). AreKept F b lists x t') (sym f) (record {
+      occurs = h.occurs;
       size = h.size ∙ sym (ap (λ (ps : List (Option ℕ)). length ps) places ∙ length-set t.places (rank_of l) (Some (length t.lits)));
       ranges = h.ranges;
       inside = h.inside;

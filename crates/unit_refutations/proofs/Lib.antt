@@ -1,4 +1,6 @@
 mod Plans
+mod Some
+mod NoneContained
 mod Crossings
 mod Demands
 mod Keeping

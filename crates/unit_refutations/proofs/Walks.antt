@@ -1,16 +1,16 @@
 -- The way back along the trail, and how it ends.
-use Rattle.std.proofs.Common.{◌≡◌, ◌∙◌, ◌≢◌, ◌⊎◌, ℕ, zero, suc, ◌+◌, ◌-◌, ◌<◌, ◌≤◌, ◌==◌, ◌||◌, ◌&&◌, ◌++◌, ◌∷◌, [], Bool, true, false, not, cond, List, ℤ, pos, Option, Some, None, option_and_then, length, get_or, map, filter, refl, sym, ap, subst, arith, inl, inr}
+use Rattle.std.proofs.Common.{◌≡◌, ◌∙◌, ◌≢◌, ◌⊎◌, ℕ, ◌+◌, ◌-◌, ◌<◌, ◌≤◌, ◌==◌, ◌||◌, ◌&&◌, ◌++◌, ◌∷◌, [], true, false, not, List, ℤ, pos, Option, Some, None, option_and_then, length, get_or, map, refl, sym, ap, subst, arith, inl, inr}
 use Rattle.std.specs.Prelude.{slice_index}
-use Rattle.std.specs.List.{list_all, list_any}
+use Rattle.std.specs.List.{list_all}
 use Rattle.std.specs.Option.{option_map_or}
 use Rattle.std.specs.Ordering.{int_eq}
-use Rattle.std.proofs.lemmas.Bool.{cases_Bool, eqb-true, eq-eqb, le-leb, and_from, false_from_ne_true, not-true}
+use Rattle.std.proofs.lemmas.Bool.{eqb-true, eq-eqb, le-leb, and_from, false_from_ne_true, not-true}
 use Rattle.std.proofs.lemmas.Bool.Decides.{Decides-int_eq}
 use Rattle.std.proofs.lemmas.List.{map-append}
 use Rattle.std.proofs.lemmas.List.Folds.{list_any-append}
 use Rattle.std.proofs.lemmas.Map.Views.{any-filter_same}
 use Rattle.lk_model.specs.Lists.{among, is_empty}
-use Rattle.lk_model.specs.Formulas.Literal.{variable, complement, contains, is_literal, is_distinct, is_clause}
+use Rattle.lk_model.specs.Formulas.Literal.{complement, contains, is_literal, is_distinct, is_clause}
 use Rattle.lk_model.specs.Formulas.Formula.{clause_at}
 use Rattle.lk_model.specs.Formulas.Crossed.{crossed_out}
 use Rattle.lk_model.specs.Held.VariableSets.{is_in, IsCrossed, premises_of}
@@ -20,11 +20,11 @@ use Rattle.lk_model.specs.declared.document.Turn.{Turn}
 use Rattle.lk_model.proofs.Booleans.{and_true, or_true, or_left, or_right}
 use Rattle.lk_model.proofs.Crossings.{clause_crossed}
 use Rattle.lk_model.proofs.ListTests.{passes_one, passes_each, all_more}
-use Rattle.lk_model.proofs.Literals.{complement_twice, variable_complement}
+use Rattle.lk_model.proofs.Literals.{complement_twice, variable_complement, filled as filled_with}
 use Rattle.lk_model.proofs.Rising.{bounded}
 use Rattle.lk_model.proofs.Variables.{literal_passing}
 use Rattle.unit_refutations.specs.declared.chain.Chain.{Chain}
-use Rattle.unit_refutations.specs.Trails.{Came, place_of, is_false_in, CameBefore, IsReason, IsForcedAt, IsReasoned}
+use Rattle.unit_refutations.specs.Trails.{Came, place_of, is_false_in, IsReason, IsForcedAt, IsReasoned}
 use Rattle.unit_refutations.specs.Chains.{clause_over, meets, HaveMet, IsTakenOut, IsConflict, is_filled, LeadsToEmpty}
 use Rattle.unit_refutations.proofs.Keeping.{some_of, same_place, never}
 
@@ -164,10 +164,6 @@ starts over t conflict used places crossed clause h is met = record {
 }
 
 -- ONE STEP BACK
-
-filled_with : (c : List ℤ) (l : ℤ) → contains c l ≡ true → not (is_empty c) ≡ true
-filled_with [] l h = absurd (let f : ⊥ = cc in f)
-filled_with (k ∷ c) l h = refl
 
 -- what is left of the clause and of the one that forced its literal
 owed_back : (over : Crossed) (t : Came) (c : List ℤ) (l : ℤ) (place reason : ℕ) (places rest places' : List ℕ) → IsReasoned over.formula.now (among over.part.now) over.blocked.now t

@@ -9,6 +9,7 @@ use Rattle.lk_model.specs.Held.VariableSets.{is_in, premises_of}
 use Rattle.lk_model.specs.Chains.Chain.{chain_clause}
 use Rattle.lk_model.specs.declared.crossed.Crossed.{Crossed}
 use Rattle.lk_model.specs.declared.document.Turn.{Turn}
+use Rattle.occurrence_lists.specs.Occurrences.{AreOccurrences}
 use Rattle.unit_refutations.specs.Trails.{Came, IsReasoned}
 use Rattle.unit_refutations.specs.Chains.{is_filled}
 use Rattle.unit_refutations.specs.Looks.{IsLook}
@@ -25,6 +26,7 @@ AreRanges bound lists = (l : ℤ) → 0 < variable l → rank_of l < length list
 
 -- what is kept where some variables are blocked
 pub record AreKept (F : Cnf) (blocked : List Bool) (lists : List (List ℕ)) (within : List Bool) (t : Came) : Type 0 where
+  pub occurs : AreOccurrences F lists
   pub size : length lists ≡ length t.places
   pub ranges : AreRanges (length within) lists
   pub inside : length within ≡ length F.clauses

@@ -3,6 +3,7 @@
 
 mod agenda;
 mod chain;
+mod containing;
 mod looking;
 mod pending;
 mod trail;

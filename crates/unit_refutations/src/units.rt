@@ -4,15 +4,19 @@
 //! it stays true where further variables are blocked: a clause that forced it holds it still, and its other literals are
 //! false or blocked. So one trail serves all refutations, and each of them costs what it uses and what is forced anew.
 ghost use Rattle.std.specs.Prelude.{◌≡◌, ◌+◌, ◌*◌, ◌<◌, ◌≤◌, ◌||◌, ◌++◌, ◌∷◌, [], ℕ, None, Some, false, length, replicate, slice_set, IfOk, OnOk, IsTrue};
+ghost use Rattle.std.specs.List.{list_all};
 ghost use Rattle.lk_model.specs.Limits.{max_vars};
-ghost use Rattle.lk_model.specs.Formulas.Literal.{complement, mentions, rank_of};
+ghost use Rattle.lk_model.specs.Formulas.Literal.{complement, is_literal, mentions, rank_of};
 ghost use Rattle.lk_model.specs.Formulas.Formula.{clause_at, variable_occurs};
 ghost use Rattle.lk_model.specs.Formulas.Lean.{are_positions};
 ghost use Rattle.lk_model.specs.Held.VariableSets.{is_in, IsCrossed};
+ghost use Rattle.unit_refutations.specs.Agendas.{AreSomeOf};
+ghost use Rattle.unit_refutations.specs.Contained.{contains_none};
 ghost use Rattle.unit_refutations.specs.Standing.{AreRanges, IsKept, IsWithin, IsFalseAt, IsFoundAt, IsAnswer, are_between};
 
 use crate::agenda::{Agenda, Change};
 use crate::chain::{Chain, chain_from};
+use crate::containing::contains_none;
 use crate::looking::{Look, demand_of};
 use crate::trail::Trail;
 use lk_model::{Crossed, Formula, List, Lit, OutOfMemory, Round, Step, VarSet};
@@ -70,6 +74,27 @@ impl Units {
             }
             None => Ok(None),
         }
+    }
+
+    /// Positions of the part, ascending: those at whose clauses propagation leaves two literals unset and makes no other one
+    /// true, and those that force a literal. No clause says which they are.
+    pub fn short(&self, alloc: Global, over: &Crossed) -> Result<List<u32>, OutOfMemory>
+        requires crossed { IsCrossed over.now }
+        requires kept { IsKept over.now.formula.now over.now.blocked.now self.now }
+        ensures { IfOk result (AreSomeOf (length over.now.formula.now.clauses) over.now.part.now) }
+    {
+        self.agenda.short(alloc, over.part)
+    }
+
+    /// Whether a clause contains no crossed clause of the part that is not empty. It is not said that it answers true
+    /// wherever there is none.
+    pub fn contains_none(&self, over: &Crossed, clause: &[Lit]) -> bool
+        requires crossed { IsCrossed over.now }
+        requires kept { IsKept over.now.formula.now over.now.blocked.now self.now }
+        requires literals { IsTrue (list_all (is_literal over.now.formula.now.vars) clause.now) }
+        ensures { IsTrue result → IsTrue (contains_none over.now clause.now) }
+    {
+        contains_none(&self.lists, over, clause)
     }
 
     /// Blocks the variables of the clauses at some positions, which are put into the set of those that are blocked.

@@ -8,6 +8,7 @@ use Rattle.std.proofs.lemmas.Bool.{cases_Bool, cases_eq, cases_lt, not-true}
 use Rattle.std.proofs.lemmas.List.{get_or_read}
 use Rattle.lk_model.proofs.Booleans.{and_true, or_left, or_right}
 use Rattle.lk_model.proofs.ListTests.{passes_each, all_at}
+use Rattle.lk_model.proofs.Literals.{clause_literals as literals_of_clause}
 use Rattle.watch_prop.specs.declared.entry.Entry.{Entry}
 use Rattle.watch_prop.specs.declared.entry.NumberedClause.{NumberedClause}
 use Rattle.watch_prop.specs.declared.watch.Demand.TheVariants.{Move}
@@ -51,9 +52,6 @@ pub clause_of : (clauses : List NumberedClause) (path : Path) (s : State) (place
 clause_of clauses path s place h lt =
     let whole = all_at (λ (c : NumberedClause). not (is_empty c.lits) && is_clause path.vars c.lits) clauses place (record { number = 0; lits = [] }) h.propagation.clauses lt in
     (and_true (not (is_empty (clause_at_place clauses place).lits)) (is_clause path.vars (clause_at_place clauses place).lits) whole).1
-
-pub literals_of_clause : (vars : ℕ) (c : List ℤ) → is_clause vars c ≡ true → list_all (is_literal vars) c ≡ true
-literals_of_clause vars c h = (and_true (list_all (is_literal vars) c) _ h).0
 
 pub literal_of_clause : (vars : ℕ) (c : List ℤ) (l : ℤ) → is_clause vars c ≡ true → contains c l ≡ true → is_literal vars l ≡ true
 literal_of_clause vars c l h there = passes_each (is_literal vars) c l (literals_of_clause vars c h) there

@@ -10,6 +10,7 @@ use Rattle.lk_model.proofs.Booleans.{and_true, or_true, or_left, or_right, or_fa
 use Rattle.lk_model.proofs.Ranks.{rank_small}
 use Rattle.lk_model.proofs.ListTests.{passes_each}
 use Rattle.lk_model.proofs.Literals.{same_int}
+use Rattle.lk_model.proofs.Lists.{among_front as in_push, among_last as pushed_there}
 use Rattle.watch_prop.specs.declared.entry.NumberedClause.{NumberedClause}
 use Rattle.watch_prop.specs.declared.watch.Watch.{Watch}
 use Rattle.watch_prop.specs.declared.watcher_lists.Watcher.{Watcher}
@@ -18,7 +19,7 @@ use Rattle.watch_prop.specs.Propagation.{are_distinct}
 use Rattle.watch_prop.specs.Linked.{IsLinked, IsWatched, IsListed, clause_at_place, watch_at, watches_it}
 use Rattle.watch_prop.proofs.Truths.{same_true, false_apart}
 use Rattle.watch_prop.proofs.Counts.{counted_long, other_rank}
-use Rattle.watch_prop.proofs.Lists.{one, among_at, AreLeft, are_left, distinct_push, in_push, pushed_there, from_push}
+use Rattle.watch_prop.proofs.Lists.{one, among_at, AreLeft, are_left, distinct_push, from_push}
 use Rattle.watch_prop.proofs.Linking.{rank_within, room_for, watcher_here, watcher_other, watch_here, watch_other, watched_still, same_watchers}
 
 -- A CLAUSE THAT NO LONGER WAITS

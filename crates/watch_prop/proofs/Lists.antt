@@ -180,12 +180,6 @@ distinct_push xs n d out = distinct_from_times (xs ++ n ∷ []) (λ p. let t = t
   | inr y ↦ (let o = one_apart n p y in let m = at_most_once xs p d in omega arith)
 ])
 
-pub in_push : (xs : List ℕ) (n p : ℕ) → among xs p ≡ true → among (xs ++ n ∷ []) p ≡ true
-in_push xs n p h = let t = times-push xs n p in let s = some_times xs p h in among_some (xs ++ n ∷ []) p (omega arith)
-
-pub pushed_there : (xs : List ℕ) (n : ℕ) → among (xs ++ n ∷ []) n ≡ true
-pushed_there xs n = let t = times-push xs n n in let s = one_same n in among_some (xs ++ n ∷ []) n (omega arith)
-
 pub from_push : (xs : List ℕ) (n p : ℕ) → among (xs ++ n ∷ []) p ≡ true → (among xs p ≡ true) ⊎ (p ≡ n)
 from_push xs n p h = elim (cases_eq p n) [
   | inl y ↦ inr y

@@ -5,6 +5,7 @@ use Rattle.std.proofs.lemmas.List.{get_or_read}
 use Rattle.std.proofs.lemmas.Bool.{not-true}
 use Rattle.lk_model.specs.Formulas.Literal.{is_literal}
 use Rattle.lk_model.proofs.ListTests.{passes_one}
+use Rattle.lk_model.proofs.Literals.{clause_literals as literals_of_clause}
 use Rattle.watch_prop.specs.declared.entry.NumberedClause.{NumberedClause}
 use Rattle.watch_prop.specs.declared.watch.Watch.{Watch}
 use Rattle.watch_prop.specs.declared.watch.Found.{Found}
@@ -19,7 +20,7 @@ use Rattle.watch_prop.specs.States.{IsState, Leads, next_waiting}
 use Rattle.watch_prop.proofs.States.{ListsNext, kept_leads, listed_upholds, one_satisfied}
 use Rattle.watch_prop.proofs.Blocking.{blocked_with}
 use Rattle.watch_prop.proofs.Lists.{among_at, length-swap_remove}
-use Rattle.watch_prop.proofs.Demands.{clause_of, literals_of_clause, Forces, IsForced}
+use Rattle.watch_prop.proofs.Demands.{clause_of, Forces, IsForced}
 use Rattle.watch_prop.proofs.Listing.{IsListing, listed_linked}
 
 -- the clause that is looked at

@@ -9,7 +9,7 @@ use Rattle.std.proofs.lemmas.List.{take-append-le, get_or_read, length-map}
 use Rattle.lk_model.specs.Lists.{among}
 use Rattle.lk_model.specs.Formulas.Literal.{complement, contains, is_literal}
 use Rattle.lk_model.proofs.Booleans.{or_true, or_false}
-use Rattle.lk_model.proofs.Literals.{complement_twice, same_int, complement_literal}
+use Rattle.lk_model.proofs.Literals.{complement_twice, same_int, complement_literal, clause_literals as literals_of_clause}
 use Rattle.watch_prop.specs.declared.entry.Entry.{Entry}
 use Rattle.watch_prop.specs.declared.entry.NumberedClause.{NumberedClause}
 use Rattle.watch_prop.specs.declared.watch.Watch.{Watch}
@@ -31,7 +31,7 @@ use Rattle.watch_prop.proofs.Upheld.{free, upheld_true, upheld_free, upheld_more
 use Rattle.watch_prop.proofs.States.{leads_then, stays_leads}
 use Rattle.watch_prop.proofs.Linking.{InList, in_list}
 use Rattle.watch_prop.proofs.Settling.{literal_there, still_free, passed_stays, passed_moves}
-use Rattle.watch_prop.proofs.Demands.{clause_of, literals_of_clause}
+use Rattle.watch_prop.proofs.Demands.{clause_of}
 use Rattle.watch_prop.proofs.Lists.{among_at}
 use Rattle.watch_prop.proofs.Roomy.{place_at}
 use Rattle.watch_prop.proofs.Blocking.{blocker_there}
@@ -47,8 +47,6 @@ conflict_named clauses path s place number h lt same all =
     let c = (clause_at_place clauses place).lits in
     let is_clause : list_all (is_literal path.vars) c ≡ true = literals_of_clause path.vars c (clause_of clauses path s place h lt) in
     rw found (false_along path.vars path.entries c (trail_path path.vars clauses path.entries h.propagation.trail) is_clause all)
-
--- LITERALS OF A PATH
 
 -- PASSING ON
 

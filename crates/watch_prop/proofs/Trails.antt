@@ -11,6 +11,7 @@ use Rattle.lk_model.specs.Lists.{with_earlier, among, is_empty}
 use Rattle.lk_model.specs.Formulas.Literal.{variable, contains, is_literal, is_clause, is_positive}
 use Rattle.lk_model.proofs.Booleans.{and_true, or_left, or_right}
 use Rattle.lk_model.proofs.ListTests.{all_weaker, all_more}
+use Rattle.lk_model.proofs.Literals.{one_variable}
 use Rattle.watch_prop.specs.declared.entry.Entry.{Entry}
 use Rattle.watch_prop.specs.declared.entry.NumberedClause.{NumberedClause}
 use Rattle.watch_prop.specs.Trail.{literals_of, reason_of, true_in, false_in, entry_of, level_of, present_level, clause_numbered, forces, has_reason, may_come, may_follow, is_path, is_trail, reason_of}
@@ -18,7 +19,7 @@ use Rattle.watch_prop.specs.Propagation.{Propagation, IsPropagation, GoesOn, num
 use Rattle.watch_prop.specs.Linked.{clause_at_place}
 use Rattle.watch_prop.proofs.Paths.{with_earlier_more, last_level, path_levels}
 use Rattle.watch_prop.proofs.Lists.{distinct_push}
-use Rattle.watch_prop.proofs.Truths.{one_variable, same_true}
+use Rattle.watch_prop.proofs.Truths.{same_true}
 
 pub trail_path : (vars : ℕ) (clauses : List NumberedClause) (trail : List Entry) → is_trail vars clauses trail ≡ true → is_path vars trail ≡ true
 unfolding is_trail is_path

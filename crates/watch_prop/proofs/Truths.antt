@@ -1,5 +1,5 @@
 -- What is true along a path, by its literals and by the entry of a variable.
-use Rattle.std.proofs.Common.{◌≡◌, ◌≢◌, ℕ, zero, suc, ◌<◌, Bool, true, false, cond, ◌==◌, List, [], ◌∷◌, ◌++◌, refl, sym, ◌∙◌, ap, subst, arith, ℤ, pos, negsuc, Option, Some, None, inl, inr, ◌⊎◌}
+use Rattle.std.proofs.Common.{◌≡◌, ◌≢◌, ℕ, zero, suc, ◌<◌, Bool, true, false, cond, ◌==◌, List, [], ◌∷◌, ◌++◌, refl, sym, ◌∙◌, ap, subst, arith, ℤ, pos, negsuc, Option, Some, None, inl, inr}
 use Rattle.std.specs.Option.{option_or, option_map_or}
 use Rattle.std.specs.List.{list_all}
 use Rattle.std.specs.Ordering.{int_eq}
@@ -9,19 +9,12 @@ use Rattle.lk_model.specs.Lists.{with_earlier}
 use Rattle.lk_model.specs.Formulas.Literal.{variable, complement, contains}
 use Rattle.lk_model.proofs.Booleans.{and_true, or_true}
 use Rattle.lk_model.proofs.Flags.{same_false}
-use Rattle.lk_model.proofs.Literals.{variable_complement, same_int}
+use Rattle.lk_model.proofs.Literals.{variable_complement, same_int, one_variable}
 use Rattle.watch_prop.specs.declared.entry.Entry.{Entry}
 use Rattle.watch_prop.specs.Trail.{literals_of, true_in, false_in, entry_of, may_come, is_path}
 use Rattle.watch_prop.proofs.Paths.{comes, entry_more}
 
 -- LITERALS OF ONE VARIABLE
-
-pub one_variable : (k l : ℤ) → variable k ≡ variable l → (k ≡ l) ⊎ (k ≡ complement l)
-one_variable (pos a) (pos b) e = inl (ap pos e)
-one_variable (pos a) (negsuc b) e = inr (ap pos e)
-one_variable (negsuc a) (pos zero) e = absurd (let f : ⊥ = cc in f)
-one_variable (negsuc a) (pos (suc b)) e = inr (ap negsuc (let f : a ≡ b = omega (arith, e) in f))
-one_variable (negsuc a) (negsuc b) e = inl (ap negsuc (let f : a ≡ b = omega (arith, e) in f))
 
 pub apart_complement : (l : ℤ) → 0 < variable l → complement l ≢ l
 apart_complement (pos zero) lt e = absurd (omega arith)

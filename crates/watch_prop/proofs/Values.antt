@@ -1,8 +1,8 @@
 -- Which literals are true, by flags at their places.
-use Rattle.std.proofs.Common.{◌≡◌, ℕ, zero, suc, ◌+◌, ◌*◌, ◌<◌, ◌≤◌, Bool, true, false, cond, ◌||◌, ◌==◌, List, [], ◌∷◌, ◌++◌, refl, sym, ◌∙◌, ap, subst, arith, ℤ, pos, negsuc, Some, None, length, replicate, get_or, set, get_or-set_other, get_or-set_same, inl, inr}
+use Rattle.std.proofs.Common.{◌≡◌, ℕ, ◌+◌, ◌*◌, ◌<◌, Bool, true, false, cond, ◌||◌, ◌==◌, List, [], ◌∷◌, ◌++◌, refl, sym, ◌∙◌, ap, subst, arith, ℤ, pos, negsuc, Some, None, length, get_or, set, get_or-set_other, get_or-set_same, inl, inr}
 use Rattle.std.specs.Ordering.{int_eq}
 use Rattle.std.proofs.lemmas.List.{get_or_read}
-use Rattle.std.proofs.lemmas.Bool.{le-leb, eq-eqb, cases_Bool}
+use Rattle.std.proofs.lemmas.Bool.{eq-eqb, cases_Bool}
 use Rattle.lk_model.specs.Formulas.Literal.{variable, is_literal}
 use Rattle.lk_model.proofs.Booleans.{or_left, or_right}
 use Rattle.lk_model.proofs.Flags.{same_false}
@@ -13,9 +13,6 @@ use Rattle.watch_prop.specs.declared.trail.Trail.TheInside.{Inside}
 use Rattle.watch_prop.specs.Trail.{Path, entry_of, true_in}
 use Rattle.watch_prop.specs.KeptTrail.{AreValues, place_of, seen, IsKept}
 use Rattle.watch_prop.proofs.Truths.{same_true, false_apart}
-
-pub literal_between : (vars : ℕ) (l : ℤ) → 0 < variable l → variable l ≤ vars → is_literal vars l ≡ true
-literal_between vars l low high = rw (le-leb 1 (variable l) (omega (arith, low)), le-leb (variable l) vars high) refl
 
 -- ONE MORE LITERAL
 
@@ -38,11 +35,6 @@ absent_false (d ∷ trail) l n = elim (cases_Bool (variable d.lit == variable l)
 ]
 
 -- THE TABLE
-
-pub fresh_values : (n i : ℕ) → get_or (replicate n false) i false ≡ false
-fresh_values zero i = refl
-fresh_values (suc n) zero = refl
-fresh_values (suc n) (suc i) = fresh_values n i
 
 -- two literals have two places
 place_apart : (vars : ℕ) (l k : ℤ) → is_literal vars l ≡ true → is_literal vars k ≡ true → place_of vars l ≡ place_of vars k → l ≡ k

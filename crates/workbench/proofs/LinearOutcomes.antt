@@ -1,6 +1,6 @@
 -- What the clauses of a run come to for the command `reduce linear`.
 use Rattle.std.proofs.Common.{◌≡◌, ◌∙◌, ℕ, Bool, true, false, List, [], ◌∷◌, Option, Some, None, refl, sym, subst, inl}
-use Rattle.std.specs.Prelude.{IfSome, IsSome, IsSomeAnd, IsTrue, nat_eq}
+use Rattle.std.specs.Prelude.{IsSomeAnd, IsTrue, nat_eq}
 use Rattle.std.specs.List.{list_any}
 use Rattle.lk_model.specs.Formulas.Formula.{Cnf}
 use Rattle.lk_model.specs.Formulas.Crossed.{formula_without}
@@ -23,6 +23,7 @@ use Rattle.command_endings.specs.declared.status.Status.{Status}
 use Rattle.command_endings.specs.declared.status.Status.TheVariants.{Input, Budget, TooWide, TooLarge}
 use Rattle.command_endings.proofs.LinearEndings.{done_silent}
 use Rattle.workbench.proofs.Outcomes.{result_of, only, not_spelled, reduces_to}
+use Rattle.workbench.proofs.GeneralOutcomes.{told_text}
 
 -- WHAT A STATUS TELLS
 
@@ -57,10 +58,6 @@ decided_at request told true end h = h
 decided_at request told false (RunDone kept stages dual units made) h = h
 decided_at request told false (RunWide made wide) h = h
 decided_at request told false RunBudget h = h
-
-told_text : (told : Option (List ℕ)) (F : Cnf) → IsSomeAnd told (λ bytes. Spells bytes F) → IsSome told × IfSome told (λ bytes. Spells bytes F)
-told_text None F h = absurd h
-told_text (Some bytes) F h = (refl, h)
 
 spelled_text : (told : Option (List ℕ)) → IsFormulaText told → (F : Cnf) × IsSomeAnd told (λ bytes. Spells bytes F)
 spelled_text None h = absurd h

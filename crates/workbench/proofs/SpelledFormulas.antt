@@ -1,16 +1,15 @@
 -- What a text spells is a formula over its variables.
-use Rattle.std.proofs.Common.{◌≡◌, ◌∙◌, ℕ, zero, suc, Bool, true, false, cond, not, ◌&&◌, nat_le, List, [], ◌∷◌, map, filter, refl, sym, ap, subst, arith, ℤ, pos, negsuc}
+use Rattle.std.proofs.Common.{◌≡◌, ℕ, zero, suc, Bool, true, false, cond, not, ◌&&◌, nat_le, List, [], ◌∷◌, map, filter, refl, sym, subst, arith, ℤ, pos, negsuc}
 use Rattle.std.specs.List.{slice_split, list_all, onto_first}
 use Rattle.std.specs.Ordering.{int_eq}
-use Rattle.std.proofs.lemmas.Bool.{and_from, not_from_false, le-leb}
-use Rattle.std.proofs.lemmas.Bool.Decides.{Decides-int_eq}
+use Rattle.std.proofs.lemmas.Bool.{and_from, le-leb}
 use Rattle.std.specs.Prelude.{IsTrue}
 use Rattle.lk_model.specs.Lists.{is_zero}
-use Rattle.lk_model.specs.Formulas.Literal.{variable, contains, is_literal, is_distinct, is_clause}
+use Rattle.lk_model.specs.Formulas.Literal.{variable, is_literal, is_clause}
 use Rattle.lk_model.specs.Formulas.Formula.{Cnf, is_formula}
 use Rattle.lk_model.specs.Texts.Dimacs.{Spells, without_empty_last, runs_of, without_repeats}
 use Rattle.lk_model.proofs.Booleans.{and_true}
-use Rattle.lk_model.proofs.Literals.{contains_filter}
+use Rattle.lk_model.proofs.Literals.{once_distinct}
 
 -- RUNS
 
@@ -49,10 +48,6 @@ last_literals n ((x ∷ xs) ∷ parts) h =
 
 -- REPEATS
 
--- a literal is not left among the others
-dropped : (l : ℤ) (c : List ℤ) → contains (filter (λ k. not (int_eq l k)) c) l ≡ false
-dropped l c = contains_filter (λ k. not (int_eq l k)) c l ∙ ap (λ (b : Bool). not b && contains c l) ((Decides-int_eq l l).1 refl)
-
 filter_literals : (n : ℕ) (t : ℤ → Bool) (c : List ℤ) → list_all (is_literal n) c ≡ true → list_all (is_literal n) (filter t c) ≡ true
 filter_literals n t [] h = refl
 filter_literals n t (l ∷ c) h =
@@ -63,32 +58,11 @@ filter_literals n t (l ∷ c) h =
     by true here rest = and_from (is_literal n l) _ here rest
     by false here rest = rest
 
-filter_distinct : (t : ℤ → Bool) (c : List ℤ) → is_distinct c ≡ true → is_distinct (filter t c) ≡ true
-filter_distinct t [] h = refl
-filter_distinct t (l ∷ c) h =
-    let both = and_true (not (contains c l)) (is_distinct c) h in
-    by (t l) both.0 (filter_distinct t c both.1)
-  where
-    out : (b c : Bool) → not c ≡ true → (b && c) ≡ false
-    out true true e = sym e
-    out true false e = refl
-    out false c e = refl
-
-    by : (b : Bool) → not (contains c l) ≡ true → is_distinct (filter t c) ≡ true → is_distinct (cond b (l ∷ filter t c) (filter t c)) ≡ true
-    by true new rest = and_from (not (contains (filter t c) l)) _ (not_from_false (contains (filter t c) l) (contains_filter t c l ∙ out (t l) (contains c l) new)) rest
-    by false new rest = rest
-
 once_literals : (n : ℕ) (c : List ℤ) → list_all (is_literal n) c ≡ true → list_all (is_literal n) (without_repeats c) ≡ true
 once_literals n [] h = refl
 once_literals n (l ∷ c) h =
     let both = and_true (is_literal n l) (list_all (is_literal n) c) h in
     and_from (is_literal n l) _ both.0 (filter_literals n (λ k. not (int_eq l k)) (without_repeats c) (once_literals n c both.1))
-
-once_distinct : (c : List ℤ) → is_distinct (without_repeats c) ≡ true
-once_distinct [] = refl
-once_distinct (l ∷ c) =
-    let rest = λ (k : ℤ). not (int_eq l k) in
-    and_from (not (contains (filter rest (without_repeats c)) l)) _ (not_from_false _ (dropped l (without_repeats c))) (filter_distinct rest (without_repeats c) (once_distinct c))
 
 once_clauses : (n : ℕ) (runs : List (List ℤ)) → list_all (list_all (is_literal n)) runs ≡ true → list_all (is_clause n) (map without_repeats runs) ≡ true
 once_clauses n [] h = refl

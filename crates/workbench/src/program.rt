@@ -1,4 +1,7 @@
 //! The whole run of the program.
+//!
+//! The words of the command line make a request, and a command answers it with two texts and a status. They are written
+//! last, so nothing is written before all is decided.
 ghost use Rattle.std.specs.Prelude.{◌≡◌, ◌≢◌, ◌⊎◌, [], map, IsTrue, IfOk, IfErr, IsErrAnd};
 ghost use Rattle.lk_outside.specs.Causes.{HasCause, Rose};
 ghost use Rattle.command_words.specs.Lawful.{request_of};

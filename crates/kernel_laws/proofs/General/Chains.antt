@@ -1,16 +1,18 @@
 -- What chains make of fair clauses.
-use Rattle.std.proofs.Common.{◌≡◌, ◌≢◌, ℕ, Bool, true, false, cond, ◌&&◌, List, [], ◌∷◌, ◌++◌, refl, sym, subst, ℤ, pos, Option, Some, None, inl, inr, map, ◌==◌}
+use Rattle.std.proofs.Common.{◌≡◌, ℕ, Bool, true, false, cond, ◌&&◌, List, [], ◌∷◌, ◌++◌, refl, sym, subst, ℤ, Option, Some, None, inl, inr, map, ◌==◌}
 use Rattle.std.specs.Prelude.{option_and_then}
 use Rattle.std.specs.Option.{option_map_or}
 use Rattle.std.specs.List.{list_all}
 use Rattle.std.proofs.lemmas.Bool.{both_ways, eqb-true}
 use Rattle.lk_model.specs.Lists.{among, is_nonzero}
-use Rattle.lk_model.specs.Formulas.Literal.{complement, contains, is_same_set}
+use Rattle.lk_model.specs.Formulas.Literal.{complement, contains, is_same_set, is_literal}
 use Rattle.lk_model.specs.Chains.Chain.{Premises, clause_named, names_of, without, resolvent, after_turns, chain_clause, states_its_clause}
 use Rattle.lk_model.specs.Formulas.Assignment.{Assignment, touches, satisfies}
 use Rattle.lk_model.specs.declared.document.Turn.{Turn}
 use Rattle.lk_model.specs.declared.document.Step.{Step}
 use Rattle.lk_model.proofs.Booleans.{and_true, or_true}
+use Rattle.lk_model.proofs.ListTests.{real as no_zero, all_weaker, real_literal}
+use Rattle.lk_model.specs.Documents.Form.{is_step, is_turn}
 use Rattle.kernel_laws.proofs.General.Touching.{IsFair, unsatisfied_untouched, fair_same, unsatisfied_same, Resolves, satisfied, untouched, resolves, untouched_resolvent}
 use Rattle.kernel_laws.proofs.Assignments.{untouched_unsatisfied}
 
@@ -84,15 +86,17 @@ pub record IsUntouched (φ : Assignment) (from : Premises) (k : ℕ) : Type 0 wh
 abbrev pub are_real : List Turn → Bool
 are_real turns = list_all (λ (t : Turn). is_nonzero t.lit) turns
 
+-- the turns of a step in form are on literals
+pub real_step : (n : ℕ) (s : Step) → is_step n s ≡ true → are_real s.turns ≡ true
+real_step n s e =
+    let turns = (and_true _ (list_all (is_turn n s.number) s.turns) e).1 in
+    all_weaker (is_turn n s.number) (λ (t : Turn). is_nonzero t.lit) (λ t h. real_literal n t.lit (and_true (is_literal n t.lit) _ h).0) s.turns turns
+
 -- the clause after turns is fair, and where it is not satisfied nothing that was used is touched
 pub record IsFairAfter (φ : Assignment) (from : Premises) (c : List ℤ) (turns : List Turn) (e : List ℤ) : Type 0 where
   pub fair : IsFair φ e
   pub start : satisfies φ e ≡ false → touches φ c ≡ false
   pub named : satisfies φ e ≡ false → (k : ℕ) → among (map (λ (t : Turn). t.with) turns) k ≡ true → IsUntouched φ from k
-
--- a literal that passes the test is not 0
-real_literal : (l : ℤ) → is_nonzero l ≡ true → l ≢ pos 0
-real_literal l e same = let f : is_nonzero (pos 0) ≡ true = subst (λ (k : ℤ). is_nonzero k ≡ true) same e in let g : ⊥ = cc in g
 
 -- a resolvent of fair clauses is fair
 fair_resolvent : (φ : Assignment) (c d : List ℤ) (t u : ℤ) → Resolves φ c d (without c t ++ without d u) → IsFair φ (without c t ++ without d u)
@@ -115,7 +119,7 @@ fair_after φ from [] c e fair real f h = let same : c ≡ e = cc in record {
 fair_after φ from (t ∷ turns) c e fair real f h =
     let reals = and_true (is_nonzero t.lit) (are_real turns) real in
     let w = turned from c t turns e h in
-    let step = resolves φ t.lit c w.other (real_literal t.lit reals.0) w.held w.against f (fair t.with w.other w.named) in
+    let step = resolves φ t.lit c w.other (no_zero t.lit reals.0) w.held w.against f (fair t.with w.other w.named) in
     let more = fair_after φ from turns (without c t.lit ++ without w.other (complement t.lit)) e fair reals.1 (fair_resolvent φ c w.other t.lit (complement t.lit) step) w.rest in
     record {
       fair = more.fair;

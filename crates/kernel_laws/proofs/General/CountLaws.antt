@@ -1,5 +1,5 @@
 -- Rounds with progress over n variables learn fewer than n * 3^n clauses.
-use Rattle.std.proofs.Common.{◌≡◌, ℕ, zero, suc, ◌<◌, ◌≤◌, ◌+◌, ◌-◌, ◌*◌, ◌^◌, Bool, true, false, cond, not, ◌||◌, ◌==◌, List, [], ◌∷◌, refl, sym, ◌∙◌, ap, subst, None, length, length-append, arith}
+use Rattle.std.proofs.Common.{◌≡◌, ℕ, zero, suc, ◌<◌, ◌≤◌, ◌+◌, ◌-◌, ◌*◌, ◌^◌, Bool, true, false, not, ◌||◌, ◌==◌, List, [], ◌∷◌, refl, sym, ◌∙◌, ap, subst, None, length, length-append, arith}
 use Rattle.std.proofs.Math.Nat.{suc-mul, mul-suc, mul-le-mul_right}
 use Rattle.std.proofs.lemmas.Bool.{eqb-true, not-true}
 use Rattle.std.proofs.lemmas.List.Elements.{filter-append}
@@ -8,7 +8,7 @@ use Rattle.lk_model.specs.Formulas.Formula.{Cnf, is_formula, positions_of}
 use Rattle.lk_model.specs.Formulas.Crossed.{Variables}
 use Rattle.lk_model.specs.Chains.Rounds.{is_refutation, variables_used, blocked_after_round, has_progress}
 use Rattle.lk_model.specs.Documents.Documents.{steps_of}
-use Rattle.lk_model.specs.Documents.Form.{ends_at_empty, is_whole, end_open, are_clause_lines, is_open_in_form}
+use Rattle.lk_model.specs.Documents.Form.{is_whole, end_open, are_clause_lines, is_open_in_form}
 use Rattle.lk_model.specs.Checks.RoundChecks.{learned_steps, bad_step, bad_count, not_learned}
 use Rattle.lk_model.specs.Checks.Checks.{checks_under, first_failure_under, IsSoundUnder, HasProgressUnder}
 use Rattle.lk_model.specs.declared.document.Step.{Step}
@@ -17,6 +17,7 @@ use Rattle.lk_model.specs.declared.document.Document.TheVariants.{Unfinished}
 use Rattle.lk_model.specs.declared.document.OpenDocument.{OpenDocument}
 use Rattle.lk_model.proofs.Booleans.{and_true}
 use Rattle.lk_model.proofs.Founds.{option_map-none}
+use Rattle.lk_model.proofs.Rounds.{whole_refutes}
 use Rattle.kernel_laws.specs.General.CountLaw.{CountLaw}
 use Rattle.kernel_laws.proofs.General.Stated.{NoneOf, NoneIn, none_in}
 use Rattle.kernel_laws.proofs.General.Reaching.{is_misstated}
@@ -24,20 +25,6 @@ use Rattle.kernel_laws.proofs.General.Learning.{is_unlearned, filled_steps, roun
 use Rattle.kernel_laws.proofs.General.Unblocked.{unblocked, few_unblocked, all_blocked, round_blocks_one}
 use Rattle.kernel_laws.proofs.General.Codes.{few_clauses}
 use Rattle.kernel_laws.proofs.Passed.{none_fails, at_one_place}
-
--- a whole round is a refutation
-whole_refutes : (steps : List Step) → ends_at_empty steps ≡ true → is_refutation steps ≡ true
-whole_refutes [] e = absurd (let f : ⊥ = cc in f)
-whole_refutes (s ∷ []) e = at_test (is_empty s.clause) e
-  where
-    at_test : (b : Bool) → cond b true false ≡ true → b ≡ true
-    at_test true e = refl
-    at_test false e = absurd (let f : ⊥ = cc in f)
-whole_refutes (s ∷ t ∷ later) e = at_test (is_empty s.clause) e (whole_refutes (t ∷ later))
-  where
-    at_test : (b : Bool) → cond b false (ends_at_empty (t ∷ later)) ≡ true → (ends_at_empty (t ∷ later) ≡ true → is_refutation (t ∷ later) ≡ true) → is_refutation (t ∷ later) ≡ true
-    at_test true e rest = absurd (let f : ⊥ = cc in f)
-    at_test false e rest = rest e
 
 -- what the rounds learn is what the first learns and what the others do
 learned_parts : (r : Round) (rounds : List Round) → length (learned_steps (r ∷ rounds)) ≡ length (filled_steps r.steps) + length (learned_steps rounds)

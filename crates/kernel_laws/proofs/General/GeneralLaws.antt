@@ -1,9 +1,9 @@
 -- A general document that the checks accept is a reduction of the formula.
-use Rattle.std.proofs.Common.{◌≡◌, ℕ, zero, ◌+◌, Bool, true, false, not, ◌&&◌, ◌==◌, List, refl, sym, ℤ, None, length, arith, map, is_some, pos}
+use Rattle.std.proofs.Common.{◌≡◌, ℕ, ◌+◌, true, not, ◌&&◌, ◌==◌, List, refl, None, length, arith, map, is_some}
 use Rattle.std.specs.List.{list_all}
-use Rattle.std.proofs.lemmas.Bool.{eq-eqb, both_ways, not-false}
-use Rattle.lk_model.specs.Lists.{among, is_zero, is_nonzero}
-use Rattle.lk_model.specs.Formulas.Literal.{variable, mentions, is_literal}
+use Rattle.std.proofs.lemmas.Bool.{eq-eqb, both_ways}
+use Rattle.lk_model.specs.Lists.{among}
+use Rattle.lk_model.specs.Formulas.Literal.{variable, mentions}
 use Rattle.lk_model.specs.Formulas.Formula.{Cnf, is_formula, clause_at, variables_to, variable_occurs}
 use Rattle.lk_model.specs.Formulas.Crossed.{Variables, no_variable}
 use Rattle.lk_model.specs.Formulas.Assignment.{Assignment, assignment_of}
@@ -11,7 +11,7 @@ use Rattle.lk_model.specs.Formulas.Autarky.{IsAutarky}
 use Rattle.lk_model.specs.Formulas.Protected.{SetsNone, IsLeanUnder}
 use Rattle.lk_model.specs.Chains.Rounds.{blocked_after}
 use Rattle.lk_model.specs.Documents.Documents.{class_of, steps_of}
-use Rattle.lk_model.specs.Documents.Form.{is_body, is_step, is_turn, are_steps, is_whole, counts_from}
+use Rattle.lk_model.specs.Documents.Form.{is_body, is_step, are_steps, is_whole, counts_from}
 use Rattle.lk_model.specs.Checks.RoundChecks.{bad_step, not_blocked}
 use Rattle.lk_model.specs.Checks.Checks.{class_checks}
 use Rattle.lk_model.specs.declared.class.Class.TheVariants as class
@@ -19,12 +19,10 @@ use Rattle.lk_model.specs.declared.document.Body.{Body}
 use Rattle.lk_model.specs.declared.document.Body.TheVariants.{Pure, Matching, Linear, General}
 use Rattle.lk_model.specs.declared.document.DoneDocument.{DoneDocument}
 use Rattle.lk_model.specs.declared.document.Step.{Step}
-use Rattle.lk_model.specs.declared.document.Turn.{Turn}
 use Rattle.lk_model.specs.declared.document.Round.{Round}
 use Rattle.lk_model.proofs.Booleans.{and_true}
-use Rattle.lk_model.proofs.ListTests.{not_zero, passes_one, all_weaker}
+use Rattle.lk_model.proofs.ListTests.{passes_one, all_weaker}
 use Rattle.lk_model.proofs.Variables.{occurs}
-use Rattle.lk_model.proofs.Literals.{same_int}
 use Rattle.lk_model.proofs.Founds.{option_map-none}
 use Rattle.kernel_laws.specs.Accepted.{AcceptedReduces}
 use Rattle.kernel_laws.specs.General.GeneralLaw.{GeneralLaw}
@@ -34,27 +32,13 @@ use Rattle.kernel_laws.proofs.Occurrences.{occurring}
 use Rattle.kernel_laws.proofs.Assignments.{touching}
 use Rattle.kernel_laws.proofs.Passed.{HaveNoPlace, has_passed, accepted_form, set_autarky, exactly_removed}
 use Rattle.kernel_laws.proofs.Reductions.{lean_plain, reduces_by, reduction_of}
-use Rattle.kernel_laws.proofs.General.Chains.{are_real}
+use Rattle.kernel_laws.proofs.General.Chains.{are_real, real_step}
 use Rattle.kernel_laws.proofs.General.Numbering.{counts_rise}
 use Rattle.kernel_laws.proofs.General.Stated.{none_in}
 use Rattle.kernel_laws.proofs.General.Reaching.{is_misstated}
 use Rattle.kernel_laws.proofs.General.Blocking.{rounds_block, used_blocked, blocked_stays}
 
 -- LEAN BY ROUNDS
-
--- a literal over some variables is not 0
-real_literal : (n : ℕ) (l : ℤ) → is_literal n l ≡ true → is_nonzero l ≡ true
-real_literal n l e = at_test (is_nonzero l) refl
-  where
-    at_test : (b : Bool) → is_nonzero l ≡ b → b ≡ true
-    at_test true z = refl
-    at_test false z = absurd (not_zero n l e (sym (same_int (pos zero) l (not-false (is_zero l) z))))
-
--- the turns of a step in form are on literals
-real_step : (n : ℕ) (s : Step) → is_step n s ≡ true → are_real s.turns ≡ true
-real_step n s e =
-    let turns = (and_true _ (list_all (is_turn n s.number) s.turns) e).1 in
-    all_weaker (is_turn n s.number) (λ (t : Turn). is_nonzero t.lit) (λ t h. real_literal n t.lit (and_true (is_literal n t.lit) _ h).0) s.turns turns
 
 -- an autarky that sets no variable that is blocked from the start sets none that rounds block
 unset_by_rounds : (F : Cnf) (base : Variables) (part : List ℕ) (rounds : List Round) (φ : Assignment)

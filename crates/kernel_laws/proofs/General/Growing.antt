@@ -10,12 +10,13 @@ use Rattle.lk_model.specs.Formulas.Formula.{Cnf}
 use Rattle.lk_model.specs.Formulas.Crossed.{Variables}
 use Rattle.lk_model.specs.Chains.Rounds.{StepAt, is_refutation, variables_used, blocked_after_round, blocked_after, has_progress}
 use Rattle.lk_model.specs.Documents.Documents.{steps_of}
-use Rattle.lk_model.specs.Documents.Form.{counts_from, is_step, are_steps, is_whole, is_open, end_open}
+use Rattle.lk_model.specs.Documents.Form.{counts_from, is_step, are_steps, is_whole}
 use Rattle.lk_model.specs.Checks.RoundChecks.{bad_step, not_learned}
 use Rattle.lk_model.specs.declared.document.Step.{Step}
 use Rattle.lk_model.specs.declared.document.Round.{Round}
 use Rattle.lk_model.proofs.Booleans.{and_true}
 use Rattle.lk_model.proofs.Founds.{option_map-none}
+use Rattle.lk_model.proofs.Rounds.{ends_more}
 use Rattle.kernel_laws.specs.General.CountLaw.{are_stated, are_learned}
 use Rattle.kernel_laws.specs.General.GrowLaw.{GrowLaw}
 use Rattle.kernel_laws.proofs.General.Stated.{NoneIn, none_in, find_in}
@@ -80,14 +81,6 @@ steps_more n m rounds r e c f =
 -- whole rounds, with one more
 whole_more : (rounds : List Round) (r : Round) → list_all is_whole rounds ≡ true → is_whole r ≡ true → list_all is_whole (rounds ++ r ∷ []) ≡ true
 whole_more rounds r e f = list_all-append is_whole rounds (r ∷ []) ∙ and_from _ _ e (and_from _ true f refl)
-
--- whole rounds, with an open one behind them
-ends_more : (rounds : List Round) (r : Round) → list_all is_whole rounds ≡ true → is_open r ≡ true → end_open (rounds ++ r ∷ []) ≡ true
-ends_more [] r e f = f
-ends_more (q ∷ []) r e f = and_from (is_whole q) (is_open r) (and_true (is_whole q) true e).0 f
-ends_more (q ∷ p ∷ rounds) r e f =
-    let both = and_true (is_whole q) (list_all is_whole (p ∷ rounds)) e in
-    and_from _ _ both.0 (ends_more (p ∷ rounds) r both.1 f)
 
 -- all of it
 pub grow_law : GrowLaw

@@ -8,10 +8,10 @@ use Rattle.std.proofs.lemmas.List.Folds.{list_all-append}
 use Rattle.lk_model.specs.Lists.{among, is_between, rises_within}
 use Rattle.lk_model.specs.Formulas.Literal.{rank_of, is_literal}
 use Rattle.lk_model.specs.Formulas.Formula.{Cnf, variable_occurs}
-use Rattle.lk_model.specs.Formulas.Crossed.{Variables}
+use Rattle.lk_model.specs.Formulas.Crossed.{Variables, no_variable}
 use Rattle.lk_model.specs.Chains.Chain.{names_of}
 use Rattle.lk_model.specs.Chains.Rounds.{StepAt, used_positions, blocked_after_round, blocked_after, names_within}
-use Rattle.lk_model.specs.Checks.RoundChecks.{bad_step}
+use Rattle.lk_model.specs.Checks.RoundChecks.{bad_step, not_learned}
 use Rattle.lk_model.specs.Documents.Documents.{steps_of}
 use Rattle.lk_model.specs.Documents.Form.{counts_from, is_turn, is_step, are_steps, is_whole}
 use Rattle.lk_model.specs.declared.document.Turn.{Turn}
@@ -22,12 +22,13 @@ use Rattle.lk_model.proofs.Variables.{occurs, position_with}
 use Rattle.lk_model.proofs.Founds.{option_map-none}
 use Rattle.kernel_laws.specs.General.JoinLaw.{renumbered_turn, renumbered, renumbered_round, moved, IsCertified, joined, JoinLaw}
 use Rattle.kernel_laws.proofs.General.Numbering.{AreRising, counts_rise}
-use Rattle.kernel_laws.proofs.General.Stated.{NoneIn, none_in, find_in}
+use Rattle.kernel_laws.proofs.General.Stated.{NoneIn, none_in, find_in, NoneOf}
 use Rattle.kernel_laws.proofs.General.Reaching.{is_misstated}
 use Rattle.kernel_laws.proofs.General.Renumbering.{IsRenumbering, stay, same_rounds, whole_renumbered}
 use Rattle.kernel_laws.proofs.General.Blocking.{blocked_stays}
 use Rattle.kernel_laws.proofs.General.Wholes.{over_all}
 use Rattle.kernel_laws.proofs.General.Carrying.{NamesIn, names_more, names_of_rounds, AgreeOn, used_carried, rounds_carried, blocked_own}
+use Rattle.kernel_laws.proofs.General.Learning.{is_unlearned}
 
 -- MANY ROUNDS
 
@@ -61,6 +62,12 @@ misstated_none F base part rounds e = none_in is_misstated F part base rounds (o
 pub none_misstated : (F : Cnf) (base : Variables) (part : List ℕ) (rounds : List Round) → NoneIn is_misstated F part base rounds → (bad_step base F part rounds).place ≡ None
 unfolding bad_step
 none_misstated F base part rounds n = ap (option_map (λ (s : StepAt). s.step.number)) (find_in is_misstated F part base rounds n)
+
+-- and where it finds no clause that is not learned none is
+pub unlearned_none : (F : Cnf) (part : List ℕ) (r : Round) → (not_learned no_variable F part (r ∷ [])).place ≡ None
+    → NoneOf is_unlearned F part no_variable [] r.steps
+unfolding not_learned
+unlearned_none F part r e = (none_in is_unlearned F part no_variable (r ∷ []) (option_map-none _ _ e)).0
 
 -- OTHER POSITIONS
 

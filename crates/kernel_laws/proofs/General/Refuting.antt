@@ -1,9 +1,9 @@
 -- Where all clauses that a refutation begins with are satisfied, all its clauses would be, and the empty one is not.
-use Rattle.std.proofs.Common.{◌≡◌, ◌≢◌, ℕ, zero, ◌+◌, Bool, true, false, if◌then◌else◌, not, List, [], ◌∷◌, ◌++◌, refl, sym, subst, ℤ, pos, Some, inl, inr, map, length}
+use Rattle.std.proofs.Common.{◌≡◌, ℕ, ◌+◌, true, not, List, [], ◌∷◌, ◌++◌, refl, subst, ℤ, Some, inl, inr, map, length}
 use Rattle.std.specs.List.{list_all}
 use Rattle.std.proofs.lemmas.Bool.{both_ways, cases_Bool, not-false}
-use Rattle.lk_model.specs.Lists.{among, is_zero, is_nonzero, is_empty}
-use Rattle.lk_model.specs.Formulas.Literal.{variable, complement, is_literal}
+use Rattle.lk_model.specs.Lists.{among, is_nonzero, is_empty}
+use Rattle.lk_model.specs.Formulas.Literal.{variable, complement}
 use Rattle.lk_model.specs.Formulas.Formula.{Cnf, clause_at}
 use Rattle.lk_model.specs.Formulas.Crossed.{Variables, no_variable, crossed_out}
 use Rattle.lk_model.specs.Formulas.Assignment.{Assignment, satisfies}
@@ -11,18 +11,18 @@ use Rattle.lk_model.specs.Reduction.{IsModel}
 use Rattle.lk_model.specs.Chains.Chain.{Premises, clause_named, without, after_turns, states_its_clause}
 use Rattle.lk_model.specs.Chains.Rounds.{is_refutation}
 use Rattle.lk_model.specs.Checks.RoundChecks.{bad_step}
-use Rattle.lk_model.specs.Documents.Form.{is_step, is_turn, ends_at_empty, counts_from}
+use Rattle.lk_model.specs.Documents.Form.{is_step, counts_from}
 use Rattle.lk_model.specs.declared.document.Turn.{Turn}
 use Rattle.lk_model.specs.declared.document.Step.{Step}
 use Rattle.lk_model.specs.declared.document.Round.{Round}
 use Rattle.lk_model.proofs.Booleans.{and_true}
-use Rattle.lk_model.proofs.ListTests.{not_zero, all_weaker}
-use Rattle.lk_model.proofs.Literals.{same_int}
+use Rattle.lk_model.proofs.ListTests.{all_weaker, real}
 use Rattle.lk_model.proofs.Founds.{option_map-none}
+use Rattle.lk_model.proofs.Rounds.{whole_refutes}
 use Rattle.kernel_laws.proofs.Assignments.{satisfying, satisfied_at, untouched_unsatisfied}
 use Rattle.kernel_laws.proofs.Clauses.{in_filtered}
 use Rattle.kernel_laws.proofs.General.Touching.{unsatisfied_same, Resolves, satisfied, untouched, resolves}
-use Rattle.kernel_laws.proofs.General.Chains.{turned, chained, stated, are_real}
+use Rattle.kernel_laws.proofs.General.Chains.{turned, chained, stated, are_real, real_step}
 use Rattle.kernel_laws.proofs.General.Numbering.{premises_in, named_either, named_first}
 use Rattle.kernel_laws.proofs.General.Stated.{NoneOf, none_in}
 use Rattle.kernel_laws.proofs.General.Reaching.{is_misstated, are_real_steps}
@@ -32,10 +32,6 @@ use Rattle.kernel_laws.specs.General.RefutationLaw.{IsRefutation, RefutationLaw}
 -- each clause that a number stands for is satisfied
 abbrev pub AreSatisfied : Assignment → Premises → Type 0
 AreSatisfied φ from = (k : ℕ) (c : List ℤ) → clause_named from k ≡ Some c → satisfies φ c ≡ true
-
--- a literal that passes the test is not 0
-pub real : (l : ℤ) → is_nonzero l ≡ true → l ≢ pos 0
-real l e same = let f : is_nonzero (pos 0) ≡ true = subst (λ (k : ℤ). is_nonzero k ≡ true) same e in let g : ⊥ = cc in g
 
 -- TURNS AND STEPS
 
@@ -99,34 +95,6 @@ first_satisfied φ F part model k c e =
     (satisfied_at φ (crossed_out no_variable (clause_at F k)) x.0 (in_filtered (λ l. not (no_variable (variable l))) (clause_at F k) x.0 refl x.1) x.2)
 
 -- STEPS IN FORM
-
-real_literal : (n : ℕ) (l : ℤ) → is_literal n l ≡ true → is_nonzero l ≡ true
-real_literal n l e = at_test (is_nonzero l) refl
-  where
-    at_test : (b : Bool) → is_nonzero l ≡ b → b ≡ true
-    at_test true z = refl
-    at_test false z = absurd (not_zero n l e (sym (same_int (pos zero) l (not-false (is_zero l) z))))
-
-real_step : (n : ℕ) (s : Step) → is_step n s ≡ true → are_real s.turns ≡ true
-real_step n s e =
-    let turns = (and_true _ (list_all (is_turn n s.number) s.turns) e).1 in
-    all_weaker (is_turn n s.number) (λ (t : Turn). is_nonzero t.lit) (λ t h. real_literal n t.lit (and_true (is_literal n t.lit) _ h).0) s.turns turns
-
--- a whole round is a refutation
-whole_refutes : (steps : List Step) → ends_at_empty steps ≡ true → is_refutation steps ≡ true
-whole_refutes [] e = absurd (let f : ⊥ = cc in f)
-whole_refutes (s ∷ []) e = at_test (is_empty s.clause) e
-  where
-    at_test : (b : Bool) → (if b then true else false) ≡ true → b ≡ true
-    at_test true e = refl
-    at_test false e = e
-whole_refutes (s ∷ t ∷ later) e = at_test (is_empty s.clause) e (whole_refutes (t ∷ later))
-  where
-    at_test : (b : Bool) → (if b then false else ends_at_empty (t ∷ later)) ≡ true
-        → (ends_at_empty (t ∷ later) ≡ true → is_refutation (t ∷ later) ≡ true)
-        → is_refutation (t ∷ later) ≡ true
-    at_test true e rest = absurd (let f : ⊥ = cc in f)
-    at_test false e rest = rest e
 
 pub refuted : (F : Cnf) (part : List ℕ) (r : Round) → IsRefutation F part r → IsUnsatisfiable F (among part)
 unfolding bad_step

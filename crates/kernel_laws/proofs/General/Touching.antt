@@ -5,8 +5,8 @@ use Rattle.std.proofs.lemmas.Bool.{both_ways, cases_Bool}
 use Rattle.lk_model.specs.Formulas.Literal.{complement, contains, is_same_set}
 use Rattle.lk_model.specs.Chains.Chain.{without}
 use Rattle.lk_model.specs.Formulas.Assignment.{Assignment, makes_true, touches, satisfies}
-use Rattle.lk_model.proofs.Literals.{same_int, variable_complement}
-use Rattle.kernel_laws.proofs.Clauses.{in_without, in_left, in_right, of_resolvent, of_same, same_of}
+use Rattle.lk_model.proofs.Literals.{same_int, variable_complement, in_left}
+use Rattle.kernel_laws.proofs.Clauses.{in_without, in_right, of_resolvent, of_same, same_of}
 use Rattle.kernel_laws.proofs.Assignments.{set_where_true, not_both_true, touched_at, touching, satisfied_at, satisfying}
 
 -- the clause is satisfied where it is touched

@@ -6,7 +6,7 @@ use Rattle.std.proofs.lemmas.Int.{ints}
 use Rattle.std.proofs.lemmas.Bool.{both_ways, and_from, not-true, leb-true}
 use Rattle.std.proofs.lemmas.Bool.Decides.{Decides-int_eq}
 use Rattle.std.proofs.Math.IntN.{*ℤ-zero}
-use Rattle.lk_model.specs.Lists.{sum_of, is_zero, is_nonzero}
+use Rattle.lk_model.specs.Lists.{sum_of, is_nonzero}
 use Rattle.lk_model.specs.Formulas.Literal.{variable, complement, contains, is_literal, is_distinct, is_clause}
 use Rattle.lk_model.specs.Formulas.Formula.{Cnf, clause_at, is_formula, variables_to}
 use Rattle.lk_model.specs.Formulas.Balance.{Weighting, balance, incidence, balance_in}
@@ -17,6 +17,7 @@ use Rattle.lk_model.proofs.Flags.{same_false}
 use Rattle.lk_model.proofs.Clauses.{form_at}
 use Rattle.lk_model.proofs.Literals.{variable_complement}
 use Rattle.lk_model.proofs.Products.{mul_add, mul_swap}
+use Rattle.lk_model.proofs.ListTests.{zero_is}
 use Rattle.kernel_laws.proofs.Linear.Sums.{sum_same, sum_zero, sum_plus, sum_times, sum_exchange, sum_one}
 
 -- INCIDENCES
@@ -124,14 +125,6 @@ balances_exchanged F x ys form =
     ∙ sum_times (x v) (λ (e : ℕ × ℤ). e.1 *ℤ incidence (clause_at F e.0) v) ys)
 
 -- UNTOUCHED CLAUSES
-
--- a number that is not told from 0 is 0
-pub zero_is : (x : ℤ) → is_nonzero x ≡ false → x ≡ pos 0
-zero_is x e = by_test (is_zero x) refl e
-  where
-    by_test : (b : Bool) → is_zero x ≡ b → not b ≡ false → x ≡ pos 0
-    by_test true s f = sym ((Decides-int_eq (pos 0) x).0 s)
-    by_test false s f = absurd (let g : ⊥ = cc in g)
 
 -- 0 is told from no number but itself
 pub is_nonzero_zero : (x : ℤ) → x ≡ pos 0 → is_nonzero x ≡ false

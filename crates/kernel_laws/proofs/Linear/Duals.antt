@@ -19,7 +19,7 @@ use Rattle.lk_model.proofs.Booleans.{and_true, or_false}
 use Rattle.lk_model.proofs.Rising.{bounded}
 use Rattle.lk_model.proofs.Founds.{none_to, up_to_bounds}
 use Rattle.lk_model.proofs.Keys.{key_among}
-use Rattle.kernel_laws.proofs.Linear.Balances.{zero_is}
+use Rattle.lk_model.proofs.ListTests.{zero_is}
 use Rattle.kernel_laws.proofs.Lines.{map_in, in_map, found_in, found_itself, has_line, found_passes}
 use Rattle.kernel_laws.proofs.Linear.LinearLean.{HasDuals, balance_absent}
 use Rattle.kernel_laws.proofs.Tests.{second_fails}

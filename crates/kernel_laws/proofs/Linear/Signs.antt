@@ -13,7 +13,8 @@ use Rattle.lk_model.specs.Formulas.Balance.{Weighting, balance}
 use Rattle.lk_model.specs.Formulas.Autarky.{Positions, IsLinearAutarky, IsAutarky, first_sign, first_balance}
 use Rattle.lk_model.proofs.Booleans.{or_true, or_false, or_left}
 use Rattle.lk_model.proofs.Variables.{any_mono}
-use Rattle.kernel_laws.proofs.Linear.Balances.{weight_of, balance_more, zero_is}
+use Rattle.lk_model.proofs.ListTests.{zero_is}
+use Rattle.kernel_laws.proofs.Linear.Balances.{weight_of, balance_more}
 use Rattle.kernel_laws.proofs.Tests.{any_same, any_or}
 
 -- a test that nothing passes

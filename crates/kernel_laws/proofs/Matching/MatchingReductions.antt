@@ -1,9 +1,9 @@
 -- What the matching reducer finds is the kernel of its part, and its document reduces the formula where the part is all
 -- of it.
-use Rattle.std.proofs.Common.{◌≡◌, ℕ, ◌^◌, ◌∙◌, Bool, true, false, not, ◌&&◌, List, [], ◌∷◌, length, refl, sym, ap, subst, arith, inl, inr}
-use Rattle.std.specs.Prelude.{filter, ◌==◌, nat_lt, nat_le}
+use Rattle.std.proofs.Common.{◌≡◌, ℕ, ◌^◌, ◌∙◌, Bool, true, false, not, ◌&&◌, List, length, refl, sym, ap, subst, arith, inl, inr}
+use Rattle.std.specs.Prelude.{◌==◌, nat_le}
 use Rattle.std.specs.List.{list_any, list_all}
-use Rattle.std.proofs.lemmas.Bool.{cases_Bool, le-leb, lt-ltb, ltb-true, and_from}
+use Rattle.std.proofs.lemmas.Bool.{cases_Bool, le-leb, lt-ltb, and_from}
 use Rattle.lk_model.specs.declared.class.Class.TheVariants as class
 use Rattle.lk_model.specs.declared.document.Own.{Own}
 use Rattle.lk_model.specs.declared.result.MatchingResult.{MatchingResult}
@@ -19,7 +19,7 @@ use Rattle.lk_model.specs.Checks.MatchingChecks.{owner_fails, bad_owner}
 use Rattle.lk_model.specs.Checks.Checks.{Accepts, first_failure_under}
 use Rattle.lk_model.specs.Documents.Form.{is_body, are_own, are_rows, is_match_row, is_done_in_form}
 use Rattle.lk_model.proofs.Booleans.{and_true}
-use Rattle.lk_model.proofs.Rising.{rises_from, range_rises}
+use Rattle.lk_model.proofs.Rising.{filter_rises, all_rise}
 use Rattle.lk_model.proofs.Founds.{none_found, filtered_rise}
 use Rattle.lk_model.proofs.Variables.{variable_bound}
 use Rattle.lk_model.proofs.Keys.{each_passes}
@@ -76,17 +76,6 @@ kernel_within F part r f h = record {
 
 -- THE FORM
 
-filter_rises : (low high : ℕ) (t : ℕ → Bool) (ps : List ℕ) → rises_within low high ps ≡ true → rises_within low high (filter t ps) ≡ true
-filter_rises low high t [] r = refl
-filter_rises low high t (p ∷ ps) r =
-    let outer = and_true (nat_lt low p && nat_le p high) (rises_within p high ps) r in
-    let inner = and_true (nat_lt low p) (nat_le p high) outer.0 in
-    let later = filter_rises p high t ps outer.1 in
-    elim (cases_Bool (t p)) [
-      | inl y ↦ rw (y, outer.0, later) refl
-      | inr y ↦ rw y (rises_from low p high (filter t ps) (omega (arith, ltb-true low p inner.0)) later)
-    ]
-
 own_form : (F : Cnf) (part : List ℕ) (r : MatchingResult) → is_formula F ≡ true → are_positions F part ≡ true → IsMatchingResult F part r
     → are_own F.vars (length F.clauses) r.own ≡ true
 own_form F part r f rise h =
@@ -114,10 +103,6 @@ form_of F part r f limits rise h =
     rw (vars, clauses, h.positions, set_rises F r.own, own_form F part r f rise h, rows_form F part r h, lines_form F r.kept f limits h.positions) refl
 
 -- THE WHOLE FORMULA
-
--- each position is one of all
-all_rise : (F : Cnf) → are_positions F (positions_of F) ≡ true
-all_rise F = range_rises 0 (length F.clauses) 1 (length F.clauses) (omega arith) (omega arith)
 
 accepted : (F : Cnf) (r : MatchingResult) → is_formula F ≡ true → IsWithinLimits F → IsMatchingResult F (positions_of F) r → Accepts F (matching_document F r)
 unfolding first_failure_under not_autarky not_exactly_removed bad_owner

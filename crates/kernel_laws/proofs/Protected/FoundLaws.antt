@@ -211,7 +211,7 @@ linear_reduces F protect pivots d form limits line e r =
 -- MATCHING AND GENERAL
 
 -- the formula without P is within the limits
-limits_without : (P : Variables) (F : Cnf) → IsWithinLimits F → IsWithinLimits (formula_without F P)
+pub limits_without : (P : Variables) (F : Cnf) → IsWithinLimits F → IsWithinLimits (formula_without F P)
 limits_without P F limits = record {
   vars = limits.vars;
   clauses = (let same = same_count F P in let fit = limits.clauses in omega (arith, same, fit));

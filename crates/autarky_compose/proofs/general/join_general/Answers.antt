@@ -5,8 +5,8 @@ use Rattle.lk_model.specs.declared.result.GeneralResult.{GeneralResult}
 use Rattle.autarky_compose.specs.Ordered.{AreInOrder}
 use Rattle.autarky_compose.specs.JoinedGeneral.{all_kept, all_set}
 use Rattle.autarky_compose.specs.Tables.{AreDistinct}
-use Rattle.autarky_compose.proofs.Orders.{rises_to}
 use Rattle.autarky_compose.proofs.general.join_general.Goals as goal
+use Rattle.lk_model.proofs.Rising.{rises_to}
 
 pub in_order-requires-clause-positive : goal.in_order-requires-clause-positive
 in_order-requires-clause-positive c =

@@ -5,9 +5,9 @@ use Rattle.lk_model.specs.declared.result.MatchingResult.{MatchingResult}
 use Rattle.autarky_compose.specs.JoinedMatching.{all_kept, all_own, all_rows}
 use Rattle.autarky_compose.specs.Ordered.{AreInOrder}
 use Rattle.autarky_compose.specs.Tables.{AreDistinct}
-use Rattle.autarky_compose.proofs.Orders.{rises_to}
 use Rattle.autarky_compose.proofs.PartItems.{kept_positive, kept_within, own_positive, own_within, own_distinct, rows_positive, rows_distinct}
 use Rattle.autarky_compose.proofs.matching.join_matching.Goals as goal
+use Rattle.lk_model.proofs.Rising.{rises_to}
 
 pub in_order-requires-clause-positive : goal.in_order-requires-clause-positive
 in_order-requires-clause-positive c =

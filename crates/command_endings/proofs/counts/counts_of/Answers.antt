@@ -3,8 +3,9 @@ use Rattle.lk_model.specs.Lists.{is_empty}
 use Rattle.lk_model.specs.Formulas.Literal.{is_tautology}
 use Rattle.command_endings.specs.Commands.Reporting.{is_unit}
 use Rattle.command_endings.specs.declared.counts.Counts.{Counts}
-use Rattle.command_endings.proofs.Counted.{counted, few, next_clause}
+use Rattle.command_endings.proofs.Counted.{counted, few}
 use Rattle.command_endings.proofs.counts.counts_of.Goals as goal
+use Rattle.lk_model.proofs.Clauses.{next_clause}
 
 pub add-requires-clause-empty : goal.add-requires-clause-empty
 add-requires-clause-empty c = omega (arith, few is_empty c.args.f.now.clauses c.loop-i.i, ap (λ (k : Counts). k.empty) c.loop-i.invariant.counted, c.len-i-end.ensures.limits.clauses)

@@ -1,13 +1,13 @@
 use Rattle.std.proofs.Common.{◌-◌, ◌^◌}
-use Rattle.dimacs_reader.specs.Taken.{fed_count}
-use Rattle.command_inputs.proofs.Feeding.{IsFedFrom}
+use Rattle.dimacs_reader.specs.Taken.{HasBeenFed, fed_count}
+use Rattle.command_inputs.proofs.Streams.{IsFedFrom}
 use Rattle.command_inputs.proofs.input.read_started.Given as goal
 
 -- what was fed stands before what is left
 abbrev pub invariant-pieces : goal.invariant-pieces
 invariant-pieces g l =
     let shelf = g.H.Shelf in
-    IsFedFrom (shelf.told l.fn.shelf) (shelf.told l.shelf) (shelf.left l.fn.shelf) (shelf.left l.shelf) (shelf.faults l.fn.shelf) (shelf.faults l.shelf) (shelf.started l.shelf)
+    IsFedFrom HasBeenFed (shelf.told l.fn.shelf) (shelf.told l.shelf) (shelf.left l.fn.shelf) (shelf.left l.shelf) (shelf.faults l.fn.shelf) (shelf.faults l.shelf) (shelf.started l.shelf)
     (shelf.current l.fn.shelf) (shelf.current l.shelf) l.reader
 
 -- each piece has a byte, and only so many are taken

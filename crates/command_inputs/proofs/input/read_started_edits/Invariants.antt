@@ -1,13 +1,13 @@
 use Rattle.std.proofs.Common.{◌-◌, ◌^◌}
-use Rattle.edit_text.specs.Fed.{fed_count}
-use Rattle.command_inputs.proofs.EditReads.{AreFedFrom}
+use Rattle.edit_text.specs.Fed.{HasBeenFed, fed_count}
+use Rattle.command_inputs.proofs.Streams.{IsFedFrom}
 use Rattle.command_inputs.proofs.input.read_started_edits.Given as goal
 
 -- what was fed stands before what is left
 abbrev pub invariant-pieces : goal.invariant-pieces
 invariant-pieces g l =
     let shelf = g.H.Shelf in
-    AreFedFrom l.formula (shelf.told l.fn.shelf) (shelf.told l.shelf) (shelf.left l.fn.shelf) (shelf.left l.shelf) (shelf.faults l.fn.shelf) (shelf.faults l.shelf) (shelf.started l.shelf)
+    IsFedFrom (HasBeenFed l.formula) (shelf.told l.fn.shelf) (shelf.told l.shelf) (shelf.left l.fn.shelf) (shelf.left l.shelf) (shelf.faults l.fn.shelf) (shelf.faults l.shelf) (shelf.started l.shelf)
     (shelf.current l.fn.shelf) (shelf.current l.shelf) l.reader
 
 -- each piece has a byte, and only so many are taken

@@ -1,13 +1,13 @@
 use Rattle.std.proofs.Common.{◌-◌, ◌^◌}
-use Rattle.line_pieces.specs.Fed.{fed_count}
-use Rattle.command_inputs.proofs.LineStreams.{IsFedLinesFrom}
+use Rattle.line_pieces.specs.Fed.{HasBeenFed, fed_count}
+use Rattle.command_inputs.proofs.Streams.{IsFedFrom}
 use Rattle.command_inputs.proofs.input.read_started_lines.Given as goal
 
 -- what was fed stands before what is left
 abbrev pub invariant-pieces : goal.invariant-pieces
 invariant-pieces g l =
     let shelf = g.H.Shelf in
-    IsFedLinesFrom g.R.LineReader.completes l.fn.reader (shelf.told l.fn.shelf) (shelf.told l.shelf) (shelf.left l.fn.shelf) (shelf.left l.shelf) (shelf.faults l.fn.shelf) (shelf.faults l.shelf) (shelf.started l.shelf)
+    IsFedFrom (HasBeenFed g.R.LineReader.completes l.fn.reader) (shelf.told l.fn.shelf) (shelf.told l.shelf) (shelf.left l.fn.shelf) (shelf.left l.shelf) (shelf.faults l.fn.shelf) (shelf.faults l.shelf) (shelf.started l.shelf)
     (shelf.current l.fn.shelf) (shelf.current l.shelf) l.pieces
 
 -- each piece has a byte, and only so many are taken

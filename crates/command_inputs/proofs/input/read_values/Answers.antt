@@ -1,12 +1,26 @@
-use Rattle.std.proofs.Common.{◌≡◌, ℕ, List, subst}
-use Rattle.cert_text.specs.ModelTexts.{IsModelRead as IsReadAs}
-use Rattle.command_inputs.proofs.ModelReads.{model_read}
+use Rattle.std.proofs.lemmas.Result.{err_from_is_err_and}
+use Rattle.command_inputs.proofs.Streams.{Cause-then, Tells-then}
+use Rattle.command_inputs.proofs.ModelReads.{stops_reading}
 use Rattle.command_inputs.proofs.input.read_values.Goals as goal
 
-pub returns-in-Ok-clause-model : goal.returns-in-Ok-clause-model
-returns-in-Ok-clause-model g c =
-    let same : c.as_slice.result.now ≡ c.in_ok-text.text.items = c.as_slice.ensures.value in
-    let model = c.in-Ok.model in
-    let read = subst (λ (n : ℕ). IsReadAs c.as_slice.result.now n model) c.vars.ensures.value c.in-Ok.ensures.model in
-    model_read (g.H.Shelf.told c.args.shelf.now c.args.name.now) c.in_ok-text.text.items c.args.formula.now model c.in_ok-text.ensures.text
-    (subst (λ (bytes : List ℕ). IsReadAs bytes c.args.formula.now.vars model) same read)
+pub returns-in_err-start_text-clause-stop : goal.returns-in_err-start_text-clause-stop
+returns-in_err-start_text-clause-stop g c =
+    let p = err_from_is_err_and c.from_residual-in_err-start_text.result c.from_residual-in_err-start_text.ensures.1 in
+    rw (p.1, p.2) (stops_reading c.args.formula.now (g.H.Shelf.told c.args.shelf.now c.args.name.now) (g.H.Shelf.ailing c.start_text.new.shelf) c.in_err-start_text.field-0.0 c.in_err-start_text.ensures.stop)
+
+pub returns-in_err-start_text-clause-cause : goal.returns-in_err-start_text-clause-cause
+returns-in_err-start_text-clause-cause g c =
+    let p = err_from_is_err_and c.from_residual-in_err-start_text.result c.from_residual-in_err-start_text.ensures.1 in
+    rw (p.1, p.2) c.in_err-start_text.ensures.cause
+
+pub returns-clause-model : goal.returns-clause-model
+returns-clause-model g c = rw (← c.in_ok-start_text.ensures.left) c.read_started_model.ensures.model
+
+pub returns-clause-stop : goal.returns-clause-stop
+returns-clause-stop g c = rw (← c.in_ok-start_text.ensures.left) c.read_started_model.ensures.stop
+
+pub returns-clause-cause : goal.returns-clause-cause
+returns-clause-cause g c = Cause-then _ _ _ c.in_ok-start_text.ensures.cause c.read_started_model.ensures.cause
+
+pub returns-clause-told : goal.returns-clause-told
+returns-clause-told g c = Tells-then _ _ _ c.in_ok-start_text.ensures.told c.read_started_model.ensures.told

@@ -1,10 +1,11 @@
-use Rattle.std.proofs.Common.{◌≡◌, ◌∙◌, ap, subst, [], true, List, ℤ}
+use Rattle.std.proofs.Common.{◌∙◌, ap, subst, [], List, ℤ}
 use Rattle.std.specs.List.{list_all}
 use Rattle.lk_model.specs.Formulas.Literal.{is_literal}
 use Rattle.check_tables.specs.LiteralSets.{IsSetOf}
 use Rattle.check_tables.proofs.LiteralSetLemmas.{all_within, all_less}
-use Rattle.core_check.proofs.CoreWitnesses.{rising_literals, others_told}
+use Rattle.core_check.proofs.CoreWitnesses.{others_told}
 use Rattle.core_check.proofs.witnesses.satisfies_others.Goals as goal
+use Rattle.lk_model.proofs.Ranks.{rising_literals}
 
 pub add_all-requires : goal.add_all-requires
 add_all-requires c =

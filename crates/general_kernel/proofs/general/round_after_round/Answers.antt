@@ -4,7 +4,9 @@ use Rattle.lk_model.specs.Held.VariableSets.{is_in}
 use Rattle.lk_model.specs.declared.document.Step.{Step}
 use Rattle.unit_refutations.specs.Standing.{are_between}
 use Rattle.unit_refutations.specs.declared.units.UnitRefutation.{UnitRefutation}
+use Rattle.general_kernel.specs.declared.short.ShortRefutation.{ShortRefutation}
 use Rattle.general_kernel.proofs.States.{begins}
+use Rattle.general_kernel.proofs.ShortRounds.{short_answered, short_turns, covered_all, not_covered}
 use Rattle.general_kernel.proofs.Turns.{all_covered, model_ends, used_rise, turns, none_left, stops}
 use Rattle.general_kernel.proofs.UnitRounds.{answered, unit_between, rise_between, unit_turns, within_same}
 use Rattle.general_kernel.proofs.general.round_after_round.Goals as goal
@@ -65,26 +67,72 @@ rounds-preserved-in-Some c =
       within = within_same c.args.part.now c.refute.new.self c.block.new.self b.inside c.in_ok-round.ensures.within;
     }
 
-pub returns-then-len-part : goal.returns-then-len-part
-returns-then-len-part c =
-    let kept = ap (λ (ps : List ℕ). length ps) c.in_ok-kept.ensures in (
-      c.rounds.invariant.at.logs,
-      all_covered c.args.f.now c.args.part.now c.args.rounds.now.left c.rounds.rounds _ c.requires.part c.rounds.invariant.at c.in_ok-kept.ensures c.new-set.ensures refl
-          (omega (arith, kept, c.len.ensures, c.if-len-part.true)),
-    )
+pub returns-then-is_covered : goal.returns-then-is_covered
+returns-then-is_covered c = (
+  c.rounds.invariant.at.logs,
+  all_covered c.args.f.now c.args.part.now c.args.rounds.now.left c.rounds.rounds _ c.requires.part c.rounds.invariant.at c.in_ok-kept.ensures c.new-set.ensures refl
+      (covered_all c.args.f.now (is_in c.rounds.rounds.blocked) c.args.part.now (sym c.is_covered.ensures ∙ c.if-is_covered.true)),
+)
 
 pub returns-then-rounds-eq0 : goal.returns-then-rounds-eq0
 returns-then-rounds-eq0 c =
-    let kept = ap (λ (ps : List ℕ). length ps) c.in_ok-kept.ensures in
     none_left c.args.f.now c.args.part.now c.args.rounds.now.left c.rounds.rounds _ c.new-steps.result c.requires.some c.rounds.invariant.at
-    c.new-steps.ensures refl c.if-rounds-eq0.true (λ e. c.if-len-part.false (omega (arith, kept, c.len.ensures, e)))
+    c.new-steps.ensures refl c.if-rounds-eq0.true
+    (not_covered c.args.f.now (is_in c.rounds.rounds.blocked) c.args.part.now (sym c.is_covered.ensures ∙ c.if-is_covered.false))
+
+pub block-requires-in-Some-short-clause-positions : goal.block-requires-in-Some-short-clause-positions
+block-requires-in-Some-short-clause-positions c =
+    let r : ShortRefutation = c.in-Some-short.field-0 in
+    let short = short_answered _ _ _ _ r c.in_ok-short.ensures c.in-Some-short.is in
+    rise_between c.args.f.now c.as_slice-in-Some-short.result.now
+    (used_rise c.args.f.now (record { steps = r.round.steps }) c.as_slice-in-Some-short.result.now (c.as_slice-in-Some-short.ensures ∙ short.used))
+
+pub rounds-smaller-in-Some-short : goal.rounds-smaller-in-Some-short
+rounds-smaller-in-Some-short c =
+    let e = c.in_ok-push_round-2.ensures in
+    let b = c.in_ok-block-2.ensures in
+    let r : ShortRefutation = c.in-Some-short.field-0 in
+    let turned = short_turns c.args.f.now c.args.part.now c.args.rounds.now.left c.rounds.rounds _ r
+    (record { over = _; refuted = short_answered _ _ _ _ r c.in_ok-short.ensures c.in-Some-short.is; formula = refl; positions = refl; blocked = refl }) c.requires.most c.requires.part c.rounds.invariant.at
+    (record {
+      first = e.first;
+      whole = e.whole;
+      next = e.next;
+      left = e.left;
+      size = b.size ∙ ap (λ (bs : List Bool). length bs) e.blocked;
+      blocked = λ v. b.vars v ∙ ap (λ (bs : List Bool). is_in bs v || variable_occurs c.args.f.now c.as_slice-in-Some-short.result.now v) e.blocked
+          ∙ ap (λ (ps : List ℕ). is_in c.rounds.rounds.blocked v || variable_occurs c.args.f.now ps v) c.as_slice-in-Some-short.ensures;
+    }) in
+    turned.1
+
+pub rounds-preserved-in-Some-short : goal.rounds-preserved-in-Some-short
+rounds-preserved-in-Some-short c =
+    let e = c.in_ok-push_round-2.ensures in
+    let b = c.in_ok-block-2.ensures in
+    let r : ShortRefutation = c.in-Some-short.field-0 in
+    let turned = short_turns c.args.f.now c.args.part.now c.args.rounds.now.left c.rounds.rounds _ r
+    (record { over = _; refuted = short_answered _ _ _ _ r c.in_ok-short.ensures c.in-Some-short.is; formula = refl; positions = refl; blocked = refl }) c.requires.most c.requires.part c.rounds.invariant.at
+    (record {
+      first = e.first;
+      whole = e.whole;
+      next = e.next;
+      left = e.left;
+      size = b.size ∙ ap (λ (bs : List Bool). length bs) e.blocked;
+      blocked = λ v. b.vars v ∙ ap (λ (bs : List Bool). is_in bs v || variable_occurs c.args.f.now c.as_slice-in-Some-short.result.now v) e.blocked
+          ∙ ap (λ (ps : List ℕ). is_in c.rounds.rounds.blocked v || variable_occurs c.args.f.now ps v) c.as_slice-in-Some-short.ensures;
+    }) in
+    record {
+      at = turned.0;
+      kept = b.kept;
+      within = within_same c.args.part.now c.refute.new.self c.block-in-Some-short.new.self b.inside c.in_ok-round.ensures.within;
+    }
 
 pub returns-in-Sat : goal.returns-in-Sat
 returns-in-Sat c = (
   c.rounds.invariant.at.logs,
   model_ends c.args.f.now c.args.part.now c.args.rounds.now.left c.rounds.rounds c.in_ok-values.field-0 c.in-Sat.values _
       (record { over = _; decided = c.in_ok-values.ensures; formula = refl; positions = refl; blocked = refl }) c.in-Sat.is c.requires.part c.rounds.invariant.at
-      c.in_ok-kept.ensures c.in_ok-set-in-Sat.ensures refl,
+      c.in_ok-kept-in-Sat.ensures c.in_ok-set-in-Sat.ensures refl,
 )
 
 pub block-requires-in-Refuted-clause-positions : goal.block-requires-in-Refuted-clause-positions
@@ -94,11 +142,10 @@ block-requires-in-Refuted-clause-positions c =
 
 pub returns-in-Stopped : goal.returns-in-Stopped
 returns-in-Stopped c =
-    let kept = ap (λ (ps : List ℕ). length ps) c.in_ok-kept.ensures in
     stops c.args.f.now c.args.part.now c.args.rounds.now.left c.rounds.rounds _ c.in_ok-values.field-0 c.in-Stopped.log
     (record { over = _; decided = c.in_ok-values.ensures; formula = refl; positions = refl; blocked = refl }) c.in-Stopped.is c.requires.part c.requires.some c.requires.most c.rounds.invariant.at
     (ap (λ (us : List Step). c.rounds.rounds.whole ++ record { steps = us } ∷ []) c.in_ok-into_round-in-Stopped.ensures.steps)
-    (λ e. c.if-len-part.false (omega (arith, kept, c.len.ensures, e)))
+    (not_covered c.args.f.now (is_in c.rounds.rounds.blocked) c.args.part.now (sym c.is_covered.ensures ∙ c.if-is_covered.false))
 
 pub rounds-smaller : goal.rounds-smaller
 rounds-smaller c =

@@ -1,10 +1,10 @@
 use Rattle.std.proofs.Common.{◌≤◌, ◌∙◌, subst}
 use Rattle.lk_model.specs.Limits.{max_vars}
 use Rattle.lk_model.specs.Formulas.Formula.{Cnf}
-use Rattle.part_formula.proofs.Places.{rises_to}
 use Rattle.part_formula.proofs.ToldDecisions.{round_within}
 use Rattle.mus_core.proofs.Telling.{open_told}
 use Rattle.mus_core.proofs.deciding.tell_open.Goals as goal
+use Rattle.lk_model.proofs.Rising.{rises_to}
 
 pub only-requires-clause-names : goal.only-requires-clause-names
 only-requires-clause-names c =

@@ -1,11 +1,11 @@
 use Rattle.std.proofs.Common.{◌≡◌, ◌∙◌, ℕ, true, subst}
 use Rattle.lk_model.specs.Limits.{max_vars}
 use Rattle.lk_model.specs.Lists.{rises_within}
-use Rattle.part_formula.proofs.Places.{rises_to}
 use Rattle.part_formula.proofs.ToldDecisions.{round_within}
 use Rattle.mus_core.specs.Named.{names_only}
 use Rattle.mus_core.proofs.Telling.{refutation_told}
 use Rattle.mus_core.proofs.deciding.tell_refutation.Goals as goal
+use Rattle.lk_model.proofs.Rising.{rises_to}
 
 pub only-requires-clause-names : goal.only-requires-clause-names
 only-requires-clause-names c =

@@ -1,7 +1,8 @@
 use Rattle.std.proofs.Common.{◌∙◌}
 use Rattle.mus_core.specs.Named.{flag_at}
-use Rattle.mus_core.proofs.Rotated.{put_held, turned, nonzero}
+use Rattle.mus_core.proofs.Rotated.{put_held, turned}
 use Rattle.mus_core.proofs.rotation.turn_at.Goals as goal
+use Rattle.lk_model.proofs.ListTests.{real_literal as nonzero}
 
 pub returns-in_ok-turned : goal.returns-in_ok-turned
 returns-in_ok-turned c =

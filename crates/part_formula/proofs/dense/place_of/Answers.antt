@@ -1,7 +1,7 @@
 use Rattle.std.proofs.Common.{arith}
 use Rattle.lk_model.specs.Limits.{max_vars}
 use Rattle.lk_model.proofs.Rising.{rising_count}
-use Rattle.part_formula.proofs.Places.{never_missing}
+use Rattle.lk_model.proofs.Places.{never_missing}
 use Rattle.part_formula.proofs.dense.place_of.Goals as goal
 
 pub overflow_cast-result : goal.overflow_cast-result

@@ -14,9 +14,10 @@ use Rattle.lk_model.specs.declared.result.General.TheVariants.{Done, Unfinished}
 use Rattle.renaming_laws.specs.Renaming.{IsDense, renamed_result, renamed_round}
 use Rattle.part_formula.specs.Named.{is_round_within}
 use Rattle.renaming_laws.proofs.RenamingLaws.{renaming_law}
-use Rattle.part_formula.proofs.Places.{rises_to}
-use Rattle.part_formula.proofs.Within.{set_within, all_within}
+use Rattle.part_formula.proofs.Within.{all_within}
 use Rattle.part_formula.proofs.kernel.kernel_of_part.Goals as goal
+use Rattle.lk_model.proofs.Rising.{rises_to}
+use Rattle.lk_model.proofs.Ranks.{rising_literals as set_within}
 
 -- the same names, read again
 dense_again : (F : Cnf) (part items first second : List ℕ) (G : Cnf) → first ≡ items → second ≡ items → IsDense F part first G → IsDense F part second G

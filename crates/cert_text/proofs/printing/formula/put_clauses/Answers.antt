@@ -1,8 +1,9 @@
 use Rattle.std.proofs.Common.{◌+◌, drop, arith}
 use Rattle.lk_model.specs.Texts.PlainText.{literal_words}
 use Rattle.lk_model.specs.Formulas.Formula.{clause_at}
-use Rattle.cert_text.proofs.PrintedTexts.{clauses_from, next_line}
 use Rattle.cert_text.proofs.printing.formula.put_clauses.Goals as goal
+use Rattle.lk_model.proofs.Clauses.{clauses_from}
+use Rattle.line_text.proofs.PrintedLines.{next_line}
 
 pub loop-k-preserved : goal.loop-k-preserved
 loop-k-preserved c =

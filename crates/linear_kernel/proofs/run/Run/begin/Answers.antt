@@ -1,8 +1,8 @@
 use Rattle.std.proofs.Common.{◌∙◌, IsTrue, ap, length, subst, sym}
 use Rattle.lk_model.specs.Lists.{rises_within}
 use Rattle.lk_model.specs.Linear.Rows.{TableauRows, start_of}
-use Rattle.linear_kernel.proofs.Moments.{all_rise}
 use Rattle.linear_kernel.proofs.run.Run.begin.Goals as goal
+use Rattle.lk_model.proofs.Rising.{all_rise}
 
 pub of-requires : goal.of-requires
 of-requires c = subst (λ ps. IsTrue (rises_within 0 (length c.args.f.now.clauses) ps)) (sym (c.as_slice.ensures ∙ c.requires)) (all_rise c.args.f.now)

@@ -4,8 +4,8 @@ use Rattle.watch_prop.specs.declared.entry.Entry.{Entry}
 use Rattle.watch_prop.specs.Trail.{literals_of, is_path}
 use Rattle.watch_prop.specs.KeptTrail.{unset_one, AreValues, place_of}
 use Rattle.watch_prop.proofs.Paths.{fresh_table, fresh_unset, path_none, Tells}
-use Rattle.watch_prop.proofs.Values.{fresh_values}
 use Rattle.watch_prop.proofs.trail.Trail.new.Goals as goal
+use Rattle.lk_model.proofs.VariableLists.{none_at as fresh_values}
 
 pub invariant_of-result : goal.invariant_of-result
 invariant_of-result c =

@@ -4,8 +4,9 @@ use Rattle.watch_prop.specs.declared.entry.Entry.{Entry}
 use Rattle.watch_prop.specs.KeptTrail.{seen, AreValues, place_of}
 use Rattle.watch_prop.specs.Trail.{Path, may_come, literals_of, entry_of, is_path}
 use Rattle.watch_prop.proofs.Paths.{comes, table_more, unset_less, literals_more, path_more, Tells}
-use Rattle.watch_prop.proofs.Values.{literal_between, values_more}
+use Rattle.watch_prop.proofs.Values.{values_more}
 use Rattle.watch_prop.proofs.trail.Trail.put.Goals as goal
+use Rattle.lk_model.proofs.Ranks.{literal_between}
 
 pub invariant_of-self : goal.invariant_of-self
 invariant_of-self c =

@@ -4,8 +4,9 @@ use Rattle.watch_prop.specs.declared.entry.Entry.{Entry}
 use Rattle.watch_prop.specs.KeptTrail.{seen, unset_one, AreValues, place_of}
 use Rattle.watch_prop.specs.Trail.{Path, literals_of, entry_of, is_path}
 use Rattle.watch_prop.proofs.Paths.{path_less, table_less, unset_more, literals_take, entry_here, Tells}
-use Rattle.watch_prop.proofs.Values.{literal_between, values_less, within_values}
+use Rattle.watch_prop.proofs.Values.{values_less, within_values}
 use Rattle.watch_prop.proofs.trail.Trail.take_back.Goals as goal
+use Rattle.lk_model.proofs.Ranks.{literal_between}
 
 pub place-at-requires : goal.place-at-requires
 place-at-requires c =

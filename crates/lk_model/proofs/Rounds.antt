@@ -1,0 +1,32 @@
+-- Rounds that are whole, and open ones.
+use Rattle.std.proofs.Common.{◌≡◌, Bool, true, false, cond, List, [], ◌∷◌, refl, ◌++◌}
+use Rattle.std.proofs.lemmas.Bool.{and_from}
+use Rattle.std.specs.List.{list_all}
+use Rattle.lk_model.specs.Lists.{is_empty}
+use Rattle.lk_model.specs.Chains.Rounds.{is_refutation}
+use Rattle.lk_model.specs.Documents.Form.{ends_at_empty, is_whole, is_open, end_open}
+use Rattle.lk_model.specs.declared.document.Step.{Step}
+use Rattle.lk_model.specs.declared.document.Round.{Round}
+use Rattle.lk_model.proofs.Booleans.{and_true}
+
+-- a whole round is a refutation
+pub whole_refutes : (steps : List Step) → ends_at_empty steps ≡ true → is_refutation steps ≡ true
+whole_refutes [] e = absurd (let f : ⊥ = cc in f)
+whole_refutes (s ∷ []) e = at_test (is_empty s.clause) e
+  where
+    at_test : (b : Bool) → cond b true false ≡ true → b ≡ true
+    at_test true e = refl
+    at_test false e = e
+whole_refutes (s ∷ t ∷ later) e = at_test (is_empty s.clause) e (whole_refutes (t ∷ later))
+  where
+    at_test : (b : Bool) → cond b false (ends_at_empty (t ∷ later)) ≡ true → (ends_at_empty (t ∷ later) ≡ true → is_refutation (t ∷ later) ≡ true) → is_refutation (t ∷ later) ≡ true
+    at_test true e rest = absurd (let f : ⊥ = cc in f)
+    at_test false e rest = rest e
+
+-- whole rounds, with an open one behind them
+pub ends_more : (rounds : List Round) (r : Round) → list_all is_whole rounds ≡ true → is_open r ≡ true → end_open (rounds ++ r ∷ []) ≡ true
+ends_more [] r e f = f
+ends_more (q ∷ []) r e f = and_from (is_whole q) (is_open r) (and_true (is_whole q) true e).0 f
+ends_more (q ∷ p ∷ rounds) r e f =
+    let both = and_true (is_whole q) (list_all is_whole (p ∷ rounds)) e in
+    and_from _ _ both.0 (ends_more (p ∷ rounds) r both.1 f)

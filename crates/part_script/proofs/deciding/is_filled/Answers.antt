@@ -1,8 +1,0 @@
-use Rattle.lk_model.proofs.Rising.{rising_bounds}
-use Rattle.part_script.proofs.deciding.is_filled.Goals as goal
-
-pub clause-requires-clause-first : goal.clause-requires-clause-first
-clause-requires-clause-first c = (rising_bounds 0 _ _ c.loop-position.position-index c.requires c.loop-position-test.true).0
-
-pub clause-requires-clause-last : goal.clause-requires-clause-last
-clause-requires-clause-last c = (rising_bounds 0 _ _ c.loop-position.position-index c.requires c.loop-position-test.true).1

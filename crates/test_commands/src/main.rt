@@ -1,0 +1,64 @@
+//! Runs the commands over texts in memory, as a script on standard input says, and prints what each run
+//! answers and writes. The expected output was worked out by hand, or computed by plain programs in Python from
+//! the definitions; `README.md` says which of the rows.
+//!
+//! A line of the script is one of these; `#` begins a remark.
+//!
+//! - `new`: no text is there, nothing fails, and bytes move in chunks of 8 and 16.
+//! - `text NAME TEXT`: the text stands under that name. `\n` ends a line of it, `\r` is a return
+//!   character.
+//! - `shelf`, `out` or `say`, and then `chunk N`, how many bytes move at a time; `room N`, how many a sink
+//!   takes; or `fails N..`, the numbers of the calls that fail.
+//! - `run WORDS`: the commands run with these words.
+//! - `calls WORDS`: the same, and it tells the calls on the shelf and the sinks, in their order, as below.
+//! - `meet WORDS`: the same at a gate where halves of the work meet, which tells how often each entered.
+//! - `keep NAME`: what the last run wrote stands under that name.
+//! - `verdict WORDS`: the line that tells this verdict.
+//!
+//! Calls are told as `start NAME`, and as `read`, `out` or `say` with how many bytes each call moved. One
+//! that failed is told as `failed`.
+#![tactic(auto)]
+
+mod calls;
+mod outside;
+mod runs;
+mod script;
+mod verdicts;
+
+use crate::runs::{print_calls, print_meeting, print_run};
+use crate::script::Script;
+use crate::verdicts::print_verdict;
+use std::test::Fail;
+use std::thread::Threads;
+
+/// Does what a line of the script says.
+fn take<R: Threads + Sync + AllocGlobal + Print>(
+    rt: &R,
+    script: &mut Script,
+    line: &str,
+) -> Result<(), Fail> {
+    let (word, rest) = line.split_once(" ").unwrap_or((line, ""));
+    match word {
+        "run" => print_run(rt, script, rest),
+        "calls" => print_calls(rt, script, rest),
+        "meet" => print_meeting(rt, script, rest),
+        "verdict" => print_verdict(rt, rest),
+        _ => script.take(rt.alloc(), word, rest),
+    }
+}
+
+/// Does what the lines of the script say.
+fn take_lines<R: Threads + Sync + AllocGlobal + Print + Input>(
+    rt: &R,
+    script: &mut Script,
+) -> Result<(), Fail> {
+    for line in rt.lines(rt.alloc()) {
+        take(rt, script, line?.as_str())?;
+    }
+    Ok(())
+}
+
+fn main(rt: HostRuntime) -> Result<(), Fail> {
+    let mut script = Script::new(rt.alloc());
+    take_lines(&rt, &mut script)
+}

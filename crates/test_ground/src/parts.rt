@@ -1,0 +1,46 @@
+//! The parts of a line of the script.
+use std::alloc::{AllocError, Global};
+
+/// What a call is asked about: the texts between the bars, each empty where there is none.
+#[derive(Clone, Copy)]
+pub(crate) struct Parts<'a> {
+    pub first: &'a str,
+    pub second: &'a str,
+    pub third: &'a str,
+    pub fourth: &'a str,
+}
+
+/// What stands before the next bar, and what stands behind it.
+fn cut(text: &str) -> (&str, &str) {
+    text.split_once(" | ").unwrap_or((text, ""))
+}
+
+/// The parts of a text.
+pub(crate) fn parts_of(text: &str) -> Parts<'_> {
+    let (first, text) = cut(text);
+    let (second, text) = cut(text);
+    let (third, fourth) = cut(text);
+    Parts {
+        first,
+        second,
+        third,
+        fourth,
+    }
+}
+
+/// The number that a part writes.
+pub(crate) fn number_of(text: &str) -> u32 {
+    text.parse().unwrap_or(0)
+}
+
+/// The text that a part writes with `\n`, `\r` and `\t`.
+pub(crate) fn text_of(alloc: Global, written: &str) -> Result<String, AllocError> {
+    let ends = written.replace(alloc, "\\n", "\n")?;
+    let returns = ends.as_str().replace(alloc, "\\r", "\r")?;
+    returns.as_str().replace(alloc, "\\t", "\t")
+}
+
+/// Writes bytes with escapes, behind a blank.
+pub(crate) fn put_bytes(bytes: &[u8], out: &mut String) -> Result<(), AllocError> {
+    write!(out, " {}", bytes.escape_ascii())
+}
