@@ -8,7 +8,7 @@
 
 `judge` prints `0` if the answer is accepted, `2 L` with the first line with which no answer's text can go on, or `8 KIND
 PLACE`. `forge` prints for each forged answer its verdict, what was done, and its text. `rows` prints the forged answers
-of two worked formulas as a script for crates/command_rows, and `expected` what the script must print. Needs python3.
+of two worked formulas as a script for crates/test_commands, and `expected` what the script must print. Needs python3.
 
 An answer is `s SATISFIABLE` and a line `v l1 .. ln 0` with a literal on variable i at place i; or `s UNSATISFIABLE`,
 `c round`, and steps `c step k l1 l2 .. 0 a t1 b1 t2 b2 .. 0` numbered from the number of clauses plus 1, of which the

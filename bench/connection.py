@@ -1,9 +1,9 @@
 #!/usr/bin/env python3
 """The orders of variables that clause learning decides by, by their definition, in plain loops.
 
-    bench/connection.py < crates/learning_script/stdin
+    bench/connection.py < crates/test_learning/stdin
 
-prints what learning_script is to print for each line `orders` of its input: the variables of the crossed clauses,
+prints what test_learning is to print for each line `orders` of its input: the variables of the crossed clauses,
 ascending, and by their connection. The next variable has most points, and of those with as many it is the least. When a
 variable comes, each clause with it gives points to its variables that have not come: one if it is the first of them,
 two if two are left, four if one is left.

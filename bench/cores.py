@@ -8,7 +8,7 @@
 
 `judge` prints `0` if the core is accepted, `2 L` with the first line with which no core's text can go on, or `8 KIND PLACE`.
 `open` does so of the unfinished document of some of the clauses that `mus` writes where its budget is used up. `rows` prints
-forged cores of worked formulas as a script for crates/command_rows, and `expected` what the script must print. Needs python3.
+forged cores of worked formulas as a script for crates/test_commands, and `expected` what the script must print. Needs python3.
 
 A core is `c leank 1 mus`, `c formula N M`, `c core p1 .. 0`, a round as in an answer (answers.py), whose chains name clauses
 at positions of the core alone, a line `c without p l1 .. 0` for each position p of the core, with literals that satisfy the

@@ -13,7 +13,7 @@ LEANK is the built program (crates/leank/out holds it after `bin/leank` ran once
 default 500) of 50 edits each, `faults` texts with each kind of faulty line at each place and texts with each byte changed,
 `limits` the last clause and the last literal that there is room for and the first that there is not, and `long` texts of
 2^30 bytes and of one more (it writes 1 GB in a folder for temporary files). Each prints the differences; the status is 1 if
-there is one. `answer` prints what `edits` must write or say. `rows` prints a script for crates/command_rows, and `expected`
+there is one. `answer` prints what `edits` must write or say. `rows` prints a script for crates/test_commands, and `expected`
 what the script must print. Needs python3.
 
 The kernel of a formula of few variables is found by all sets of variables (see deficiency.py), that of a larger one by a
@@ -300,7 +300,7 @@ def long(leank):
 
 
 class Rows:
-    """A script for command_rows, and what it must print."""
+    """A script for test_commands, and what it must print."""
 
     def __init__(self):
         self.script, self.printed = [], []

@@ -1,9 +1,9 @@
 #!/usr/bin/env python3
 """Measures clause learning beside minisat, in conflicts a second of the processor, each by its own count.
 
-    bench/learning.py LEARN_SIZES [BUDGET] [KIND ...]
+    bench/learning.py TEST_SIZES [BUDGET] [KIND ...]
 
-LEARN_SIZES is the built program (crates/learn_sizes/out holds it after `rt run` there). Needs python3, minisat and
+TEST_SIZES is the built program (crates/test_sizes/out holds it after `rt run` there). Needs python3, minisat and
 GNU time. Clause learning stops after BUDGET conflicts (by default 20000), minisat after two seconds. Each rate is
 the best of three runs, by turns. Memory is how much more the program holds at most than with a budget of one
 conflict, for each literal of the learned clauses. Nothing fails by time.

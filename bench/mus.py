@@ -6,7 +6,7 @@
     bench/mus.py families LEANK [KIND ...]
 
 LEANK is the built program (crates/leank/out holds it after `bin/leank` ran once). `drawn` goes through so many drawn formulas,
-by default 200, and `tools` through those of tool_formulas.py: the judge of cores.py accepts each core, `verify` does, minisat,
+by default 200, and `tools` through those of tool_formulas.py, by default the small ones: the judge of cores.py accepts each core, `verify` does, minisat,
 picosat and cadical find no model of the text as it stands, and one of it without any single clause; where leank finds a model,
 so do they. Where a budget is used up, the judge accepts the document and `check` does, with itself as the formula. A core of
 more than 400 clauses is tried without 60 drawn ones. `families` measures beside picomus: the seconds of the processor to the
@@ -213,7 +213,7 @@ def test_drawn(leank, number):
 def test_tools(leank, kinds):
     draw = random.Random(SEED)
     with tempfile.TemporaryDirectory() as folder:
-        for kind in kinds or tool_formulas.KINDS:
+        for kind in kinds or tool_formulas.SMALL_KINDS:
             file = os.path.join(folder, "f.cnf")
             if tool_formulas.written_by(kind, file):
                 variables, clauses = read_formula(bytes_of(file))

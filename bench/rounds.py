@@ -5,7 +5,7 @@
     bench/rounds.py rows ROWS PRINTED
 
 `documents` judges each document of the class general that stands in a file, also among other lines. Such a document has
-all clauses that its chains name, so no formula is needed. `rows` judges what `general_script` or `part_script` prints for
+all clauses that its chains name, so no formula is needed. `rows` judges what `test_general` or `test_parts` prints for
 its rows. A round is right if its steps are numbered one after another, each states the resolvent of its chain over the
 clauses without blocked variables and the steps before it, no step but the last of a finished round is empty, and each other
 one holds no complementary pair and no clause that was there before. Kept are the clauses whose variables are all blocked,

@@ -5,10 +5,12 @@
 
 LEANK is the built program (crates/leank/out holds it after `bin/leank` ran once). Each input has at most 2 MB. For each
 command that takes it stand the processor seconds, the peak of memory in MB and the status; what takes more than 3 seconds
-(5 for forged documents), or gets no answer in 60, is marked. With --growth each is also run at a quarter of its size, and
-the growth of instructions is shown (`perf stat`; Debian: linux-perf); more than 5 times is marked.
+(5 for forged documents), or gets no answer in 60, is marked. With --growth each is run at a sixteenth and at a quarter of
+its size instead, under valgrind, which counts instructions (Debian: valgrind); a growth of more than 5 times is marked.
 """
 import os
+import random
+import re
 import resource
 import subprocess
 import sys
@@ -41,6 +43,23 @@ def contradicted_pairs(n):
 def joined_squares(n):
     squares = [[s * a, t * (a + 1)] for a in range(1, 2 * n, 2) for s in (1, -1) for t in (1, -1)]
     return cnf(2 * n, squares + [[-a, a + 2] for a in range(1, 2 * n - 2, 2)])
+
+
+def planted_squares(n):
+    """n clauses of three literals, each with a true one in a drawn model, and the squares of n / 2000 pairs of variables."""
+    draw = random.Random(1)
+    variables = max(n // 4, 4)
+    model = [draw.random() < 0.5 for _ in range(variables + 1)]
+    rows = []
+    while len(rows) < n:
+        clause = [v if draw.random() < 0.5 else -v for v in draw.sample(range(1, variables + 1), 3)]
+        if any((l > 0) == model[abs(l)] for l in clause):
+            rows.append(clause)
+    for _ in range(max(n // 2000, 1)):
+        a, b = draw.sample(range(1, variables + 1), 2)
+        rows += [[s * a, t * b] for s in (1, -1) for t in (1, -1)]
+    draw.shuffle(rows)
+    return cnf(variables, rows)
 
 
 def implications_up(n):
@@ -120,6 +139,7 @@ def one_line(n):
 
 FORMULAS = [
     (long_negative_clause, 250000), (long_clauses, 60000), (contradicted_pairs, 20000), (joined_squares, 15000),
+    (planted_squares, 100000),
     (implications_up, 120000), (implications_down, 120000), (implications_round, 120000), (star, 60000),
     (empty_clauses, 900000), (units, 200000), (same_clause, 100000), (wide_clauses, 3000), (pure_cascade, 70000),
     (alternating_path, 120000), (more_clauses_than_variables, 200000), (most_variables, 100000), (many_parts, 40000),
@@ -197,13 +217,13 @@ def run(words, folder):
 
 
 def instructions(words, folder):
-    told = subprocess.run(["perf", "stat", "-x", ",", "-e", "instructions:u"] + words, cwd=folder, stdout=subprocess.DEVNULL,
-                          stderr=subprocess.PIPE, text=True, timeout=TIME_OUT)
-    for line in told.stderr.splitlines():
-        fields = line.split(",")
-        if len(fields) > 2 and "instructions" in fields[2]:
-            return int(fields[0]) if fields[0].isdigit() else 0
-    return 0
+    """Instructions of a run; None where the time ran out."""
+    counted = ["valgrind", "--tool=callgrind", "--callgrind-out-file=/dev/null"] + words
+    try:
+        told = subprocess.run(counted, cwd=folder, stdout=subprocess.DEVNULL, stderr=subprocess.PIPE, text=True, timeout=5 * TIME_OUT)
+    except subprocess.TimeoutExpired:
+        return None
+    return int(re.search(r"Collected : (\d+)", told.stderr).group(1))
 
 
 def put(folder, name, text):
@@ -212,27 +232,63 @@ def put(folder, name, text):
         file.write(text)
 
 
-def row(name, words, folder, limit, small):
+def row(name, words, folder, limit):
     seconds, peak, status = run(words, folder)
     late = status is None or seconds > limit
     text = f"{name:28} {' '.join(words[1:]):40} {seconds:7.2f} s {peak:6} MB  {'none' if status is None else status:>4}"
-    if small is not None and status is not None:
-        great = instructions(words, folder)
-        growth = great / max(instructions(words, small), 1)
-        text += f"  x {growth:5.2f}" + ("  GROWS" if growth > MOST_GROWTH else "")
     print(text + ("  LATE" if late else ""), flush=True)
     return late
 
 
-def written_by(program, reducer, folder, small):
-    """Documents that reducers write, kept beside the formula."""
-    for place in (folder, small):
-        if place is None:
+def growth_row(name, words, small, large):
+    """Whether four times the size takes more than so many times the instructions."""
+    few, many = instructions(words, small), instructions(words, large)
+    if few is None or many is None:
+        print(f"{name:28} {' '.join(words[1:]):40} none in time  GROWS", flush=True)
+        return True
+    grows = many / few > MOST_GROWTH
+    print(f"{name:28} {' '.join(words[1:]):40} {few:14} {many:14} x {many / few:5.2f}{'  GROWS' if grows else ''}", flush=True)
+    return grows
+
+
+def split(command):
+    """The words and the options of a command."""
+    is_option = lambda w: w.startswith("--") or w.isdigit()
+    return [w for w in command if not is_option(w)], [w for w in command if is_option(w)]
+
+
+def write_document(program, reducer, folder):
+    """The document that a reducer writes, kept beside the formula."""
+    words, options = split(reducer)
+    with open(os.path.join(folder, "d"), "wb") as out:
+        subprocess.run([program] + words + ["f"] + options, cwd=folder, stdout=out, stderr=subprocess.DEVNULL, timeout=TIME_OUT)
+
+
+def formula_rows(program, make, size, judge, folders):
+    """Each command on a formula, and the check of what the reducers write."""
+    for folder, part in folders:
+        put(folder, "f", make(max(size // part, 1)))
+    marked = 0
+    for command in FORMULA_COMMANDS:
+        words, options = split(command)
+        marked += judge(make.__name__, [program] + words + ["f"] + options, LIMIT)
+    for reducer in FORMULA_COMMANDS[:5]:
+        try:
+            for folder, _ in folders:
+                write_document(program, reducer, folder)
+        except subprocess.TimeoutExpired:
             continue
-        words = [program] + [w for w in reducer if not w.startswith("--") and not w.isdigit()] + ["f"]
-        words += [w for w in reducer if w.startswith("--") or w.isdigit()]
-        with open(os.path.join(place, "d"), "wb") as out:
-            subprocess.run(words, cwd=place, stdout=out, stderr=subprocess.DEVNULL, timeout=TIME_OUT)
+        marked += judge(f"{make.__name__} {reducer[1]}", [program, "check", "f", "d"], LIMIT)
+    return marked
+
+
+def document_rows(program, make, size, judge, folders):
+    """The check of a document."""
+    for folder, part in folders:
+        formula, text = make(size // part)
+        put(folder, "f", formula)
+        put(folder, "d", text)
+    return judge(make.__name__, [program, "check", "f", "d"], FORGED_LIMIT)
 
 
 def main():
@@ -241,36 +297,21 @@ def main():
     program = os.path.abspath(sys.argv[1])
     only = sys.argv[sys.argv.index("--only") + 1] if "--only" in sys.argv else ""
     growth = "--growth" in sys.argv
-    late = 0
-    with tempfile.TemporaryDirectory() as folder, tempfile.TemporaryDirectory() as other:
-        small = other if growth else None
+    marked = 0
+    with tempfile.TemporaryDirectory() as small, tempfile.TemporaryDirectory() as large:
+        folders = [(small, 16), (large, 4)] if growth else [(large, 1)]
+
+        def judge(name, words, limit):
+            return growth_row(name, words, small, large) if growth else row(name, words, large, limit)
+
         for make, size in FORMULAS:
-            if only not in make.__name__:
-                continue
-            put(folder, "f", make(size))
-            if growth:
-                put(other, "f", make(size // (2 if make is pigeons else 4)))
-            for command in FORMULA_COMMANDS:
-                words = [w for w in command if not w.startswith("--") and not w.isdigit()]
-                options = [w for w in command if w.startswith("--") or w.isdigit()]
-                late += row(make.__name__, [program] + words + ["f"] + options, folder, LIMIT, small)
-            for reducer in FORMULA_COMMANDS[:5]:
-                try:
-                    written_by(program, reducer, folder, small)
-                except subprocess.TimeoutExpired:
-                    continue
-                name = f"{make.__name__} {reducer[1]}"
-                late += row(name, [program, "check", "f", "d"], folder, LIMIT, small)
+            if only in make.__name__:
+                marked += formula_rows(program, make, size, judge, folders)
         for make, size in DOCUMENTS:
-            if only not in make.__name__:
-                continue
-            for place, n in ((folder, size), (other, size // 4)):
-                formula, text = make(n)
-                put(place, "f", formula)
-                put(place, "d", text)
-            late += row(make.__name__, [program, "check", "f", "d"], folder, FORGED_LIMIT, small)
-    print(f"{late} late")
-    sys.exit(1 if late else 0)
+            if only in make.__name__:
+                marked += document_rows(program, make, size, judge, folders)
+    print(f"{marked} marked")
+    sys.exit(1 if marked else 0)
 
 
 if __name__ == "__main__":

@@ -1,0 +1,120 @@
+#!/usr/bin/env python3
+"""Compares the map of the crates with what tells it: the order, the walls, the folders, the pages and the picture.
+
+    bench/house.py
+    bench/house.py draw
+
+The first prints what is wrong, and its status is 1 then:
+
+- in crates.txt a crate stands before one that it stands on, or a crate has no folder or a folder no crate;
+- the checks, behind the wall, stand on more than the ground, the texts and themselves, or a floor below the roof stands on them;
+- a crate that is no test stands on one that is;
+- the tables of docs/ARCHITECTURE.md have other crates or another order, or the README has other floors;
+- crates/test_house/stdin is not crates.txt, or docs/house.svg is not crates/test_house/stdout.
+
+`draw` copies crates.txt to crates/test_house/stdin, and draws the picture by the program crates/test_house/out/test_house, which is
+there after the gate or after `rt run` in that folder. The picture goes to crates/test_house/stdout, with which the gate compares,
+and to docs/house.svg. These are copies, since the gate takes no links in crates/. Needs python3.
+"""
+import os
+import re
+import shutil
+import subprocess
+import sys
+
+TOP = os.path.dirname(os.path.dirname(os.path.abspath(__file__)))
+COPIES = [("crates.txt", "crates/test_house/stdin"), ("crates/test_house/stdout", "docs/house.svg")]
+
+
+def read(name):
+    with open(os.path.join(TOP, name), encoding="utf-8") as it:
+        return it.read()
+
+
+def floors_of(text):
+    """For each floor in its order the crates, and for each of these what it stands on."""
+    floors = {}
+    for line in text.splitlines():
+        if line.startswith("# "):
+            floor = floors.setdefault(line[2:].split(":")[0], {})
+        elif line.strip():
+            crate, uses = line.split(":")
+            floor[crate] = uses.split()
+    return floors
+
+
+def wrong_order(floors):
+    seen, every = set(), {crate for floor in floors.values() for crate in floor}
+    for crates in floors.values():
+        for crate, uses in crates.items():
+            for below in uses:
+                if below in every and below not in seen:
+                    yield f"crates.txt: {crate} stands before {below}, on which it stands"
+            seen.add(crate)
+
+
+def wrong_walls(floors):
+    floor_of = {crate: floor for floor, crates in floors.items() for crate in crates}
+    for floor, crates in floors.items():
+        for crate, uses in crates.items():
+            for below in (floor_of[name] for name in uses if name in floor_of):
+                if floor == "the wall" and below not in ("ground", "texts", "the wall"):
+                    yield f"crates.txt: {crate} is behind the wall, and stands on the floor {below}"
+                if below == "the wall" and floor not in ("the wall", "roof", "tests"):
+                    yield f"crates.txt: {crate} stands on a check"
+                if below == "tests" and floor != "tests":
+                    yield f"crates.txt: {crate} stands on a test"
+
+
+def wrong_folders(floors):
+    listed = {crate for crates in floors.values() for crate in crates}
+    folders = {name for name in os.listdir(os.path.join(TOP, "crates")) if os.path.isdir(os.path.join(TOP, "crates", name, "src"))}
+    yield from (f"crates/{name}: no such folder with src/" for name in sorted(listed - folders))
+    yield from (f"crates/{name}: not in crates.txt" for name in sorted(folders - listed))
+
+
+def wrong_pages(floors):
+    listed = [crate for crates in floors.values() for crate in crates]
+    told = re.findall(r"^\| \[(\w+)\]\(\.\./crates/\1/README\.md\) \|", read("docs/ARCHITECTURE.md"), re.M)
+    if told != listed:
+        at = next((i for i, (a, b) in enumerate(zip(told, listed)) if a != b), min(len(told), len(listed)))
+        yield f"docs/ARCHITECTURE.md: row {at + 1} of the map is {told[at:at + 1]}, and not {listed[at:at + 1]}"
+    heads = re.findall(r"^### ([^:\n]+): (.*)$", read("docs/ARCHITECTURE.md"), re.M)
+    heads = [f"{name.lower()}: {words}" for name, words in heads]
+    named = [line[2:] for line in read("crates.txt").splitlines() if line.startswith("# ")]
+    if heads != named:
+        yield f"docs/ARCHITECTURE.md: the heads of the floors are not those of crates.txt: {sorted(set(heads) ^ set(named))}"
+    rows = re.findall(r"^\| \*\*([\w ]+)\*\* \|", read("README.md"), re.M)
+    if rows != list(floors):
+        yield f"README.md: the rows of the floors are {rows}, and not {list(floors)}"
+
+
+def wrong_copies():
+    for one, other in COPIES:
+        if not os.path.isfile(os.path.join(TOP, other)) or read(one) != read(other):
+            yield f"{other} is not a copy of {one}"
+
+
+def draw():
+    folder = os.path.join(TOP, "crates", "test_house")
+    shutil.copyfile(os.path.join(TOP, "crates.txt"), os.path.join(folder, "stdin"))
+    with open(os.path.join(folder, "stdin"), "rb") as given:
+        drawn = subprocess.run([os.path.join(folder, "out", "test_house")], stdin=given, stdout=subprocess.PIPE, check=True)
+    for name in ("crates/test_house/stdout", "docs/house.svg"):
+        with open(os.path.join(TOP, name), "wb") as out:
+            out.write(drawn.stdout)
+
+
+def main():
+    if sys.argv[1:] == ["draw"]:
+        return draw()
+    if sys.argv[1:]:
+        sys.exit(__doc__)
+    floors = floors_of(read("crates.txt"))
+    wrong = [*wrong_order(floors), *wrong_walls(floors), *wrong_folders(floors), *wrong_pages(floors), *wrong_copies()]
+    print("\n".join(wrong) or f"{len(floors)} floors, {sum(map(len, floors.values()))} crates: all is told as it is")
+    return 1 if wrong else 0
+
+
+if __name__ == "__main__":
+    sys.exit(main())
