@@ -4,9 +4,10 @@
     bench/connection.py < crates/test_learning/stdin
 
 prints what test_learning is to print for each line `orders` of its input: the variables of the crossed clauses,
-ascending, and by their connection. The next variable has most points, and of those with as many it is the least. When a
-variable comes, each clause with it gives points to its variables that have not come: one if it is the first of them,
-two if two are left, four if one is left.
+ascending, by their connection, and by how often they occur. By the connection the next variable has most points, and of
+those with as many it is the least. When a variable comes, each clause with it gives points to its variables that have not
+come: one if it is the first of them, two if two are left, four if one is left. By the occurrences those with most come
+first, and of those with as many the least.
 """
 import sys
 
@@ -40,6 +41,13 @@ def by_connection(clauses):
     return order
 
 
+def by_occurrences(clauses):
+    def occurrences(v):
+        return sum(abs(l) == v for clause in clauses for l in clause)
+
+    return sorted(ascending(clauses), key=lambda v: (-occurrences(v), v))
+
+
 def numbers(text):
     return [int(word) for word in text.split()]
 
@@ -51,7 +59,8 @@ def main():
             name, _, clauses, part, blocked = fields
             clauses = [[l for l in numbers(clause) if l] for clause in clauses.split(",")]
             left = crossed(clauses, numbers(part), set(numbers(blocked)))
-            print(f"== {name.strip()}\nascending: {ascending(left)}\nby connection: {by_connection(left)}")
+            print(f"== {name.strip()}\nascending: {ascending(left)}")
+            print(f"by connection: {by_connection(left)}\nby occurrences: {by_occurrences(left)}")
 
 
 if __name__ == "__main__":

@@ -5,7 +5,8 @@ ghost use Rattle.std.specs.Prelude.{◌≡◌, ◌≤◌, IfOk};
 ghost use Rattle.lk_model.specs.Limits.{max_vars, max_clauses};
 ghost use Rattle.line_text.specs.Fields.{fields};
 ghost use Rattle.line_text.specs.Taking.{IsTaken};
-ghost use Rattle.answer_check.specs.Drafts.{next_state, next_core, next_model, next_round, next_draft, refuted_by, finished, IsRead};
+ghost use Rattle.answer_check.specs.Drafts.{next_state, next_core, next_model, next_round, next_draft, refuted_by};
+ghost use Rattle.answer_check.specs.Drafts.{finished, IsRead};
 
 use crate::answer::Answer;
 use core_text::{CoreDraft, core_of, fresh_core, last_round, take_core};

@@ -1,7 +1,7 @@
 //! Printing answers: the literals of a model, the rounds of a refutation, or the text of a core.
-ghost use Rattle.std.specs.Prelude.{◌≡◌, ◌++◌, ◌∷◌, [], IfOk, OnOk, codes};
+ghost use Rattle.std.specs.Prelude.{◌≡◌, ◌++◌, IfOk, OnOk};
 ghost use Rattle.std.specs.List.{flat_map};
-ghost use Rattle.lk_model.specs.Texts.PlainText.{line, literal_words};
+ghost use Rattle.lk_model.specs.Texts.PlainText.{line};
 ghost use Rattle.answer_check.specs.Answers.{answer_lines, answer_text};
 ghost use Rattle.answer_check.specs.declared.answer.Answer.TheVariants.{Model, Refuted};
 

@@ -69,7 +69,8 @@ impl Shift {
         rounds: &mut List<Round>,
         more: List<Round>,
     ) -> Result<(), OutOfMemory>
-        ensures { IfOk result (λ unit. rounds.new ≡ rounds.old ++ map (renumbered_round (moved self.now.positions self.now.up)) more) }
+        ensures { IfOk result
+            (λ unit. rounds.new ≡ rounds.old ++ map (renumbered_round (moved self.now.positions self.now.up)) more) }
     {
         for round in more.into_vec() {
             rounds.push(self.round(alloc, round)?)?;

@@ -12,8 +12,8 @@ enum Count {
     OneMore(Snapshot<Count>),
 }
 
-/// A counter. Contracts see how many steps were counted; the number takes no bytes at run time. It keeps a ledger, whose
-/// type tells one counter from another: who has no value of that type can make no second counter of it.
+/// A counter. Contracts see how many steps were counted; the number takes no bytes at run time. It keeps a ledger,
+/// whose type tells one counter from another: who has no value of that type can make no second counter of it.
 pub struct Steps<L> {
     ledger: L,
     taken: Snapshot<Count>,

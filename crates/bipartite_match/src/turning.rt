@@ -1,5 +1,5 @@
 //! The turning of the pairs of a path that a search found.
-ghost use Rattle.std.specs.Prelude.{◌≡◌, ◌<◌, ◌≤◌, ◌-◌, ℕ, List, length, slice_index, true, IsTrue};
+ghost use Rattle.std.specs.Prelude.{◌≡◌, ◌<◌, ◌≤◌, ◌-◌, ℕ, length, slice_index, true, IsTrue};
 ghost use Rattle.lk_model.specs.Formulas.Formula.{Cnf, is_formula};
 ghost use Rattle.lk_model.specs.Lists.{among, rises_within};
 ghost use Rattle.bipartite_match.specs.declared.augmenting.Start.{Start as AnyStart};
@@ -9,13 +9,15 @@ ghost use Rattle.bipartite_match.specs.Visiting.{EndsIn, CanSearch, with_own};
 use crate::matching::Matching;
 use crate::visits::{Visits, visit_at};
 
-/// Turns the pairs of the path that a search found, from its end back to where it began. Answers the position of the clause
-/// there, which has a variable now.
+/// Turns the pairs of the path that a search found, from its end back to where it began. Answers the position of the
+/// clause there, which has a variable now.
 pub fn turn(visits: &Visits, part: &[u32], m: &mut Matching) -> u32
     requires rises { (high : ℕ) × (rises_within 0 high part.now ≡ true) }
-    requires found { (F : Cnf) × (from : AnyStart) × IsTrue (is_formula F) × CanSearch F part.now m.old from × EndsIn F part.now m.old from visits.now.queue.items visits.now.place visits.now.end }
+    requires found { (F : Cnf) × (from : AnyStart) × IsTrue (is_formula F) × CanSearch F part.now m.old from ×
+        EndsIn F part.now m.old from visits.now.queue.items visits.now.place visits.now.end }
     ensures turned { (F : Cnf) (from : AnyStart) → IsTrue (is_formula F) → CanSearch F part.now m.old from
-        → EndsIn F part.now m.old from visits.now.queue.items visits.now.place visits.now.end → IsTurned F part.now from m.old m.new result }
+        → EndsIn F part.now m.old from visits.now.queue.items visits.now.place visits.now.end →
+        IsTurned F part.now from m.old m.new result }
     ensures unmatched { m.new.unmatched ≡ m.old.unmatched }
     ensures seen { m.new.seen ≡ m.old.seen }
 {

@@ -1,19 +1,21 @@
 //! A search in breadth for one alternating path.
 //!
-//! It visits clauses by their positions, and reads of the matching only which clause has a variable. A variable by which it
-//! reached a clause is marked; the marks are the matching's own, so no list of all variables is made for a search, and they
-//! are lowered again by going through the queue. So a search costs what it visits.
-ghost use Rattle.std.specs.Prelude.{◌≡◌, ◌-◌, ◌<◌, ◌≤◌, [], ◌∷◌, length, map, slice_index, replicate, false, IfOk, OnOk, OnErr};
+//! It visits clauses by their positions, and reads of the matching only which clause has a variable. A variable by
+//! which it reached a clause is marked; the marks are the matching's own, so no list of all variables is made for a
+//! search, and they are lowered again by going through the queue. So a search costs what it visits.
+ghost use Rattle.std.specs.Prelude.{◌≡◌, ◌-◌, ◌<◌, ◌≤◌, [], ◌∷◌, length, map, replicate, false, IfOk};
+ghost use Rattle.std.specs.Prelude.{OnOk, OnErr};
 ghost use Rattle.bipartite_match.specs.Matchings.{IsReady};
-ghost use Rattle.bipartite_match.specs.Visiting.{visit_at, seen_of, roots_of, goal_of, met, AreMarks, IsSearched, CanSearch, root_visit};
+ghost use Rattle.bipartite_match.specs.Visiting.{visit_at, seen_of, roots_of, goal_of, met, AreMarks, IsSearched};
+ghost use Rattle.bipartite_match.specs.Visiting.{CanSearch, root_visit};
 
 use crate::augmenting::Start;
 use crate::matching::Matching;
 use lk_model::{Formula, OutOfMemory, VarSet};
 use std::alloc::Global;
 
-/// A clause that a search has reached: its position, the variable by which, and the place in the queue of the clause that
-/// holds this variable. The variable is 0 where the search began.
+/// A clause that a search has reached: its position, the variable by which, and the place in the queue of the clause
+/// that holds this variable. The variable is 0 where the search began.
 #[derive(Clone, Copy)]
 pub struct Visit {
     pub pos: u32,
@@ -45,8 +47,8 @@ pub struct Visits {
 }
 
 impl Visits {
-    /// Visits clauses from the start on, up to the first free variable that is looked for. The matching is the same after
-    /// it.
+    /// Visits clauses from the start on, up to the first free variable that is looked for. The matching is the same
+    /// after it.
     pub fn of(
         alloc: Global,
         f: &Formula,

@@ -19,9 +19,9 @@ use crate::search::Search;
 use lk_model::{Formula, List, OutOfMemory};
 use std::alloc::Global;
 
-/// What alternating walks from the unmatched clauses of a part reach: the positions, ascending, and for each variable of
-/// their clauses an escape, which is a kept position whose clause has the variable, and a rank, which is less for the
-/// variable that is matched with the escape. Other variables have 0.
+/// What alternating walks from the unmatched clauses of a part reach: the positions, ascending, and for each variable
+/// of their clauses an escape, which is a kept position whose clause has the variable, and a rank, which is less for
+/// the variable that is matched with the escape. Other variables have 0.
 #[derive(Drop)]
 pub struct Reached {
     pub kept: List<u32>,

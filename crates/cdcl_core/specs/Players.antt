@@ -1,37 +1,49 @@
--- Two searches that take turns.
-use Rattle.std.specs.Prelude.{◌≡◌, ℕ, ◌≤◌, length, Option, Some, None}
+-- Searches that take turns.
+use Rattle.std.specs.Prelude.{◌≡◌, ℕ, ◌<◌, ◌≤◌, List, length, slice_index_or, Option, Some, None}
+use Rattle.std.specs.List.{AllWithin}
 use Rattle.lk_model.specs.declared.crossed.Crossed.{Crossed}
 use Rattle.cdcl_core.specs.declared.decided.End.{End}
 use Rattle.cdcl_core.specs.declared.search.Search.{Search}
-use Rattle.cdcl_core.specs.declared.turns.Outcome.{Outcome}
-use Rattle.cdcl_core.specs.declared.turns.Outcome.TheVariants.{Leading, Other}
-use Rattle.cdcl_core.specs.declared.turns.Answer.{Answer}
-use Rattle.cdcl_core.specs.declared.turns.Answer.TheVariants.{Leading as ByLeading, Other as ByOther}
+use Rattle.cdcl_core.specs.declared.turns.Turns.{Turns}
+use Rattle.cdcl_core.specs.declared.players.Player.{Player}
+use Rattle.cdcl_core.specs.declared.players.Won.{Won}
 use Rattle.cdcl_core.specs.Decision.{IsDecided, IsStoppedOver}
 use Rattle.cdcl_core.specs.Searching.{IsSearch, decided_by}
 
+-- the turns have the same lengths; which order begins, and the values that are kept, may be others
+abbrev pub HasLengthsOf : Turns → Turns → Type 0
+HasLengthsOf turns others = (turns.first ≡ others.first) × (turns.further ≡ others.further)
+
 -- a search that has learned at most so many clauses, in steps that are numbered from `next`
-pub record IsWithin (over : Crossed) (next budget : ℕ) (s : Search) : Type 0 where
+pub record IsWithin (over : Crossed) (next pause : ℕ) (s : Search) : Type 0 where
   pub search : IsSearch over s
   pub first : s.log.first ≡ next
-  pub few : length s.log.steps ≤ budget
+  pub few : length s.log.steps ≤ pause
 
 -- it has learned exactly so many, and can go on from a further conflict
-pub record IsPaused (over : Crossed) (next budget : ℕ) (s : Search) : Type 0 where
+pub record IsPaused (over : Crossed) (next pause : ℕ) (s : Search) : Type 0 where
   pub search : IsSearch over s
-  pub stopped : IsStoppedOver over next budget s.log
+  pub stopped : IsStoppedOver over next pause s.log
 
--- where it has not ended within a budget, it has paused there; an end is one within the whole budget, `left`
+-- where it has not ended, it has paused there; an end is one within the whole budget
 abbrev pub WentOn : Crossed → ℕ → ℕ → ℕ → Search → Option End → Type 0
-WentOn over next budget left s (Some end) = IsDecided over next left (decided_by s.log end)
-WentOn over next budget left s None = IsPaused over next budget s
+WentOn over next pause budget s (Some end) = IsDecided over next budget (decided_by s.log end)
+WentOn over next pause budget s None = IsPaused over next pause s
 
--- the end is one of that search
-abbrev pub IsWonBy : Crossed → ℕ → ℕ → Search → Search → Outcome → Type 0
-IsWonBy over next left leading other (Leading end) = IsDecided over next left (decided_by leading.log end)
-IsWonBy over next left leading other (Other end) = IsDecided over next left (decided_by other.log end)
+-- each of the searches has learned at most so many
+abbrev pub AreWithin : Crossed → ℕ → ℕ → List Player → Type 0
+AreWithin over next pause players = AllWithin (λ (p : Player). IsWithin over next pause p.search) players 0 (length players)
 
--- it is what the search that began decides, or what the other one decided
-abbrev pub IsAnswerOf : Crossed → ℕ → ℕ → Search → Answer → Type 0
-IsAnswerOf over next left leading (ByLeading end) = IsDecided over next left (decided_by leading.log end)
-IsAnswerOf over next left leading (ByOther decided) = IsDecided over next left decided
+-- those before a place have paused there
+abbrev pub ArePausedBefore : ℕ → Crossed → ℕ → ℕ → List Player → Type 0
+ArePausedBefore place over next pause players = AllWithin (λ (p : Player). IsPaused over next pause p.search) players 0 place
+
+-- the end is one of the search at that place
+abbrev pub IsWonBy : Crossed → ℕ → ℕ → List Player → Won → Type 0
+IsWonBy over next budget players won =
+    (won.place < length players) × ((d : Player) → IsDecided over next budget (decided_by (slice_index_or players won.place d).search.log won.end))
+
+-- where none has ended, all have paused
+abbrev pub WentOnEach : Crossed → ℕ → ℕ → ℕ → List Player → Option Won → Type 0
+WentOnEach over next pause budget players (Some won) = IsWonBy over next budget players won
+WentOnEach over next pause budget players None = ArePausedBefore (length players) over next pause players

@@ -27,38 +27,38 @@ pub enum Decided {
 
 /// Looks for a model of the crossed clauses that are not empty, by learning from conflicts: the least unset variable is
 /// decided, and made true. The steps of a log are
-/// numbered from `next`, which is above the number of the formula's clauses, and at most `left` clauses are learned.
+/// numbered from `next`, which is above the number of the formula's clauses, and at most `budget` clauses are learned.
 /// Each holds no complementary pair, and contains no crossed clause that is not empty and no earlier learned one. The
 /// error is that there is no memory.
-pub fn decide(alloc: Global, over: &Crossed, next: u64, left: u64) -> Result<Decided, OutOfMemory>
+pub fn decide(alloc: Global, over: &Crossed, next: u64, budget: u64) -> Result<Decided, OutOfMemory>
     requires crossed { IsCrossed over.now }
-    requires some { 0 < left }
+    requires some { 0 < budget }
     requires past { length over.now.formula.now.clauses < next }
-    requires room { next + left < 2 ^ 64 - 1 }
-    ensures { IfOk result (IsDecided over.now next left) }
+    requires room { next + budget < 2 ^ 64 - 1 }
+    ensures { IfOk result (IsDecided over.now next budget) }
 {
     let order = ascending(alloc, over)?;
-    decide_by(alloc, over, order, &mut Signs::True, next, left)
+    decide_by(alloc, over, order, &mut Signs::True, next, budget)
 }
 
-/// As `decide`, but the first unset variable of an order is decided, with the value that `signs` has for it. If these are
-/// the last values of the variables, they are kept up to date, for a further call.
+/// As `decide`, but the first unset variable of an order is decided, with the value that `signs` has for it. If these
+/// are the last values of the variables, they are kept up to date, for a further call.
 pub fn decide_by(
     alloc: Global,
     over: &Crossed,
     order: Vec<u32>,
     signs: &mut Signs,
     next: u64,
-    left: u64,
+    budget: u64,
 ) -> Result<Decided, OutOfMemory>
     requires crossed { IsCrossed over.now }
     requires order { IsOrderOver over.now order.items }
     requires past { length over.now.formula.now.clauses < next }
-    requires room { next + left < 2 ^ 64 - 1 }
-    ensures { IfOk result (IsDecided over.now next left) }
+    requires room { next + budget < 2 ^ 64 - 1 }
+    ensures { IfOk result (IsDecided over.now next budget) }
 {
     let mut search = Search::new(alloc, over, order, next)?;
-    let end = run(&mut search, alloc, over, signs, left);
+    let end = run(&mut search, alloc, over, signs, budget);
     let log = search.into_log();
     let end = end?;
     Ok(decided_by(log, end))
@@ -92,13 +92,14 @@ pub(crate) fn run(
     alloc: Global,
     over: &Crossed,
     signs: &mut Signs,
-    left: u64,
+    budget: u64,
 ) -> Result<End, OutOfMemory>
     requires crossed { IsCrossed over.now }
     requires search { IsSearch over.now search.old }
-    requires most { length search.old.log.steps ≤ left }
-    requires room { search.old.log.first + left < 2 ^ 64 - 1 }
-    ensures decided { IfOk result (λ end. IsDecided over.now search.old.log.first left (decided_by search.new.log end)) }
+    requires most { length search.old.log.steps ≤ budget }
+    requires room { search.old.log.first + budget < 2 ^ 64 - 1 }
+    ensures decided { IfOk result
+        (λ end. IsDecided over.now search.old.log.first budget (decided_by search.new.log end)) }
     ensures goes_on { IfOk result (GoesOnFrom over.now search.new) }
 {
     'turns: loop {
@@ -114,7 +115,7 @@ pub(crate) fn run(
                     search.refute(alloc, over, conflict)?;
                     return Ok(End::Empty);
                 }
-                if search.log.len() as u64 == left {
+                if search.log.len() as u64 == budget {
                     signs.note_all(&search.propagator);
                     return Ok(End::Full);
                 }

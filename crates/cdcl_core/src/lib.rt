@@ -5,6 +5,7 @@ mod analysis;
 mod decided;
 mod marks;
 mod order;
+mod players;
 mod search;
 mod signs;
 mod turns;

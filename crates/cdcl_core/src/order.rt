@@ -2,7 +2,7 @@
 //!
 //! A place is kept before which all are set, so that set variables are not gone through at each decision: a return to a
 //! level brings back the place at which the level after it was opened.
-ghost use Rattle.std.specs.Prelude.{◌≡◌, ◌<◌, ◌≤◌, ◌++◌, ◌∷◌, [], take, length, IfSome, IsNone, OnOk, IsTrue};
+ghost use Rattle.std.specs.Prelude.{◌≡◌, ◌<◌, ◌++◌, ◌∷◌, [], take, length, IfSome, IsNone, OnOk, IsTrue};
 ghost use Rattle.lk_model.specs.Lists.{among};
 ghost use Rattle.watch_prop.specs.Propagation.{assigned};
 ghost use Rattle.cdcl_core.specs.Orders.{IsPlacedAt, are_set, are_within, place_at};

@@ -1,5 +1,6 @@
 //! A search for a model.
-ghost use Rattle.std.specs.Prelude.{◌≡◌, ◌+◌, ◌-◌, ◌<◌, ◌^◌, ◌≤◌, [], ℕ, None, true, false, slice_index_or, length, IfOk, OnOk, IsTrue};
+ghost use Rattle.std.specs.Prelude.{◌≡◌, ◌+◌, ◌-◌, ◌<◌, ◌^◌, ◌≤◌, [], ℕ, None, true, false, slice_index_or, length};
+ghost use Rattle.std.specs.Prelude.{IfOk, OnOk, IsTrue};
 ghost use Rattle.lk_model.specs.Held.VariableSets.{IsCrossed};
 ghost use Rattle.lk_model.specs.Chains.Rounds.{is_refutation};
 ghost use Rattle.refutation_log.specs.Derivation.{next_number};
@@ -66,8 +67,10 @@ impl Search {
         ensures search { OnOk result (IsSearch over.now self.new) }
         ensures log { self.new.log ≡ self.old.log }
         ensures vars { OnOk result (self.new.propagator.vars ≡ self.old.propagator.vars) }
-        ensures more { IfOk result (λ b. b ≡ true → length self.new.propagator.trail ≡ length self.old.propagator.trail + 1) }
-        ensures none { IfOk result (λ b. b ≡ false → (self.new.propagator ≡ self.old.propagator) × IsTrue (are_set self.new.propagator.trail self.new.order.vars.items)) }
+        ensures more { IfOk result (λ b. b ≡ true →
+            length self.new.propagator.trail ≡ length self.old.propagator.trail + 1) }
+        ensures none { IfOk result (λ b. b ≡ false → (self.new.propagator ≡ self.old.propagator) ×
+            IsTrue (are_set self.new.propagator.trail self.new.order.vars.items)) }
     {
         match self.order.next(&self.propagator) {
             Some(v) => {
@@ -79,8 +82,8 @@ impl Search {
         }
     }
 
-    /// Learns a clause from a false one, and goes back to the highest level of its other literals. The values that are taken
-    /// back are noted.
+    /// Learns a clause from a false one, and goes back to the highest level of its other literals. The values that are
+    /// taken back are noted.
     pub fn learn(
         &mut self,
         alloc: Global,

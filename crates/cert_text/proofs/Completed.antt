@@ -31,7 +31,8 @@ use Rattle.cert_text.specs.declared.draft.LineDue.{LineDue}
 use Rattle.cert_text.specs.declared.draft.LineDue.TheVariants.{Format, Sizes, Protect, Keep, Set, Learned, Body, Clauses}
 use Rattle.cert_text.specs.PureLines.{pure_lines}
 use Rattle.cert_text.specs.Parts.{part_word, part_lines, may_end, is_finished, body_of, rounds_of}
-use Rattle.cert_text.specs.Drafts.{size_line, keep_line, set_line, learned_line, problem_line, head_lines, middle_lines, clause_count, lines_before, lines_read, done_by, open_by, document_by}
+use Rattle.line_text.specs.SizeLines.{problem_line}
+use Rattle.cert_text.specs.Drafts.{size_line, keep_line, set_line, learned_line, head_lines, middle_lines, clause_count, lines_before, lines_read, done_by, open_by, document_by}
 use Rattle.cert_text.proofs.PartSteps.{IsPart, IsPure}
 use Rattle.round_text.specs.RoundLines.{round_of, rounds_lines, put_step}
 use Rattle.round_text.proofs.RoundEnds.{closing, shut_rounds, rounds_shut, opened_rounds, rounds_opened, rounds_whole, rounds_open, all_lines, few_steps}

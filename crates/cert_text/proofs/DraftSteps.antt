@@ -1,9 +1,9 @@
 -- What the next line does to a draft in form.
-use Rattle.std.proofs.Common.{◌≡◌, ℕ, ◌+◌, ◌-◌, ◌^◌, ◌<◌, ◌≤◌, ◌∙◌, Bool, true, false, cond, ◌&&◌, ◌==◌, List, [], ◌∷◌, ◌++◌, map, length, refl, sym, ap, subst, arith, ℤ, Option, Some, None, append_assoc, length-append, nat_le, nat_lt}
+use Rattle.std.proofs.Common.{◌≡◌, ℕ, ◌+◌, ◌-◌, ◌^◌, ◌<◌, ◌≤◌, ◌∙◌, Bool, true, false, cond, List, [], ◌∷◌, ◌++◌, map, length, refl, sym, ap, subst, arith, ℤ, Option, Some, None, append_assoc, length-append, nat_le, nat_lt}
 use Rattle.std.specs.Prelude.{option_map, option_and_then, codes}
-use Rattle.std.specs.Option.{option_zip, option_map_or}
+use Rattle.std.specs.Option.{option_zip}
 use Rattle.std.specs.Str.{bytes_eq}
-use Rattle.std.proofs.lemmas.Bool.{leb-true, ltb-true, le-leb, eqb-true}
+use Rattle.std.proofs.lemmas.Bool.{leb-true, ltb-true, le-leb}
 use Rattle.std.proofs.lemmas.List.{map-append, append-nil}
 use Rattle.std.proofs.lemmas.List.Sums.{sum_by_push}
 use Rattle.std.proofs.lemmas.Slice.Eq.{bytes_eq-Decides}
@@ -26,7 +26,9 @@ use Rattle.cert_text.specs.declared.draft.LineDue.TheVariants.{Format, Sizes, Pr
 use Rattle.line_text.specs.Fields.{after, one_within, two_within}
 use Rattle.line_text.specs.FieldLists.{rising_from, literals_from, clause_from}
 use Rattle.cert_text.specs.Parts.{part_word, part_of, part_lines, part_next, may_end, is_finished}
-use Rattle.cert_text.specs.Drafts.{format_line, size_line, keep_line, set_line, learned_line, problem_line, head_lines, middle_lines, clause_count, lines_before, lines_read, fresh_draft, protect_of, format_words, due_then, due_first, is_problem, has_room, put_clause, next_format, next_sizes, next_protect, next_keep, next_set, next_learned, next_body, next_clause, next_at, next_draft}
+use Rattle.line_text.specs.SizeLines.{problem_line, is_problem}
+use Rattle.cert_text.specs.Drafts.{format_line, size_line, keep_line, set_line, learned_line, head_lines, middle_lines, clause_count, lines_before, lines_read, fresh_draft, protect_of, format_words, due_then, due_first, has_room, put_clause, next_format, next_sizes, next_protect, next_keep, next_set, next_learned, next_body, next_clause, next_at, next_draft}
+use Rattle.line_text.proofs.SizeForms.{problem_form}
 use Rattle.line_text.proofs.ListForms.{rising_form, literals_form, rising_literals, clause_form}
 use Rattle.line_text.proofs.NumberForms.{number_form, two_form}
 use Rattle.line_text.proofs.Words.{after_form}
@@ -340,23 +342,6 @@ learned_step d e words h n =
     })
 
 -- THE BODY AND THE CLAUSES
-
-problem_form : (n count : ℕ) (words : List Word) → is_problem n count words ≡ true → words ≡ problem_line n count
-problem_form n count words e = by_found (after (codes "p") (codes "cnf") words) refl e
-  where
-    by_numbers : (rest : List Word) → words ≡ codes "p" ∷ codes "cnf" ∷ rest → (o : Option (ℕ × ℕ)) → two_within max_vars max_clauses rest ≡ o
-        → option_map_or (λ (h : ℕ × ℕ). h.0 == n && h.1 == count) o false ≡ true → words ≡ problem_line n count
-    by_numbers rest w None s f = absurd (let m : ⊥ = cc in m)
-    by_numbers rest w (Some h) s f =
-        let both = and_true (h.0 == n) (h.1 == count) f in
-        let form = two_form max_vars max_clauses rest h s in
-        w ∙ ap (λ (ws : List Word). codes "p" ∷ codes "cnf" ∷ ws) form.spelled_so
-        ∙ ap (λ (k : ℕ). problem_line k h.1) (eqb-true h.0 n both.0) ∙ ap (problem_line n) (eqb-true h.1 count both.1)
-
-    by_found : (o : Option (List Word)) → after (codes "p") (codes "cnf") words ≡ o
-        → option_map_or (λ (h : ℕ × ℕ). h.0 == n && h.1 == count) (option_and_then (two_within max_vars max_clauses) o) false ≡ true → words ≡ problem_line n count
-    by_found None s f = absurd (let m : ⊥ = cc in m)
-    by_found (Some rest) s f = by_numbers rest (after_form (codes "p") (codes "cnf") words rest s).whole (two_within max_vars max_clauses rest) refl f
 
 body_step : (d e : Draft) (words : List Word) → d.due ≡ Body → IsDraftAt Body d → next_body d words ≡ Some e → IsStep (lines_before Body d) e words
 body_step d e words due h n = by_problem (is_problem d.vars (clause_count d) words) refl n

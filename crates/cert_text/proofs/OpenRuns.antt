@@ -1,7 +1,6 @@
 -- The lines of an unfinished document lead to a draft that is this document.
-use Rattle.std.proofs.Common.{◌≡◌, ℕ, ◌+◌, ◌-◌, ◌^◌, ◌<◌, ◌≤◌, ◌∙◌, Bool, true, false, cond, ◌&&◌, ◌==◌, List, [], ◌∷◌, ◌++◌, map, length, refl, sym, ap, subst, arith, Option, Some, None, append_assoc, nat_le, nat_lt}
+use Rattle.std.proofs.Common.{◌≡◌, ℕ, ◌+◌, ◌-◌, ◌^◌, ◌<◌, ◌≤◌, ◌∙◌, Bool, true, cond, ◌==◌, List, [], ◌∷◌, ◌++◌, map, length, refl, sym, ap, subst, arith, Option, Some, None, append_assoc, nat_le, nat_lt}
 use Rattle.std.specs.Prelude.{option_map, option_and_then, codes, decimal}
-use Rattle.std.specs.Option.{option_map_or}
 use Rattle.std.specs.List.{list_all, flat_map}
 use Rattle.std.proofs.lemmas.Bool.{eq-eqb, eqb-true, leb-true, ltb-true, and_from}
 use Rattle.std.proofs.lemmas.List.{append-nil}
@@ -29,9 +28,11 @@ use Rattle.line_text.specs.Fields.{two_within}
 use Rattle.line_text.specs.FieldLists.{rising_from}
 use Rattle.round_text.specs.RoundLines.{fresh_rounds, round_of}
 use Rattle.cert_text.specs.Parts.{part_next, may_end}
-use Rattle.cert_text.specs.Drafts.{format_line, size_line, learned_line, problem_line, clause_count, fresh_draft, is_problem, document_by, finished}
+use Rattle.line_text.specs.SizeLines.{problem_line}
+use Rattle.cert_text.specs.Drafts.{format_line, size_line, learned_line, clause_count, fresh_draft, document_by, finished}
 use Rattle.line_text.proofs.ListForms.{number_back, rising_back}
 use Rattle.line_text.proofs.NumberForms.{two_back}
+use Rattle.line_text.proofs.SizeForms.{problem_is}
 use Rattle.line_text.proofs.Words.{after_ended}
 use Rattle.round_text.proofs.RoundRuns.{rounds_run, AreNumbered, open_at, shut_at, numbered_parts, open_run, round_run, rounds_all_run, numbered_from_first}
 use Rattle.cert_text.proofs.BodyRuns.{rounds_lift}
@@ -39,11 +40,6 @@ use Rattle.cert_text.specs.Drafts.{run}
 use Rattle.cert_text.proofs.Runs.{run_cons, at_body, at_clauses, clauses_run}
 
 -- THE PROBLEM LINE
-
-problem_is : (n k : ℕ) → n ≤ 1000000 → k ≤ 4000000 → is_problem n k (problem_line n k) ≡ true
-problem_is n k few small =
-    ap (λ (o : Option (ℕ × ℕ)). option_map_or (λ (h : ℕ × ℕ). h.0 == n && h.1 == k) o false) (two_back 1000000 4000000 n k (omega arith) (omega arith) few small)
-    ∙ and_from (n == n) (k == k) (eq-eqb n n refl) (eq-eqb k k refl)
 
 pub problem_run : (d : Draft) (p : Part) (rest : List (List Word)) → may_end p ≡ true → d.vars ≤ 1000000 → clause_count (at_body d p) ≤ 4000000
     → run (at_body d p) (problem_line d.vars (clause_count (at_body d p)) ∷ rest) ≡ run (record (at_body d p) { due = due.Clauses }) rest

@@ -38,7 +38,8 @@ use Rattle.cert_text.specs.MatchingLines.{fresh_matching}
 use Rattle.cert_text.specs.LinearLines.{fresh_linear, stage_of, weight_within, unit_within, linear_by}
 use Rattle.round_text.specs.RoundLines.{fresh_rounds}
 use Rattle.cert_text.specs.Parts.{part_next, may_end}
-use Rattle.cert_text.specs.Drafts.{clause_count, is_problem, has_room, put_clause, next_draft, run}
+use Rattle.line_text.specs.SizeLines.{is_problem}
+use Rattle.cert_text.specs.Drafts.{clause_count, has_room, put_clause, next_draft, run}
 use Rattle.line_text.proofs.ListForms.{literals_back, any_literals, clause_back}
 use Rattle.line_text.proofs.Words.{after_first, after_ended}
 use Rattle.cert_text.proofs.LinearSteps.{weight_words, weights_two, are_weights, share_words}

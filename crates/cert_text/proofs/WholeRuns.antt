@@ -27,7 +27,8 @@ use Rattle.cert_text.specs.declared.draft.LineDue.{LineDue}
 use Rattle.cert_text.specs.declared.draft.LineDue.TheVariants as due
 use Rattle.line_text.specs.FieldLists.{rising_from, literals_from}
 use Rattle.cert_text.specs.Parts.{may_end, is_finished, body_of}
-use Rattle.cert_text.specs.Drafts.{format_line, size_line, keep_line, set_line, problem_line, clause_count, fresh_draft, due_then, due_first, next_format, next_sizes, done_by, open_by, document_by, finished}
+use Rattle.line_text.specs.SizeLines.{problem_line}
+use Rattle.cert_text.specs.Drafts.{format_line, size_line, keep_line, set_line, clause_count, fresh_draft, due_then, due_first, next_format, next_sizes, done_by, open_by, document_by, finished}
 use Rattle.line_text.proofs.ListForms.{rising_back, literals_back, literals_rising}
 use Rattle.line_text.proofs.NumberForms.{two_back}
 use Rattle.line_text.proofs.Words.{after_ended}

@@ -1,6 +1,6 @@
 -- What was read of a document, line by line, and what the next line leads to.
 use Rattle.std.specs.Prelude.{ℕ, ◌+◌, ◌-◌, ◌^◌, Bool, true, false, ◌&&◌, ◌==◌, nat_lt, nat_le, if◌then◌else◌, List, [], ◌∷◌, ◌++◌, map, length, ℤ, codes, Option, Some, None, option_map, option_and_then}
-use Rattle.std.specs.Option.{option_zip, option_map_or}
+use Rattle.std.specs.Option.{option_zip}
 use Rattle.std.specs.Str.{bytes_eq}
 use Rattle.lk_model.specs.Texts.Lines.{Word}
 use Rattle.lk_model.specs.Limits.{max_vars, max_clauses, max_literals}
@@ -17,6 +17,7 @@ use Rattle.cert_text.specs.declared.draft.Draft.{Draft}
 use Rattle.cert_text.specs.declared.draft.LineDue.{LineDue}
 use Rattle.cert_text.specs.declared.draft.LineDue.TheVariants.{Format, Sizes, Protect, Keep, Set, Learned, Body, Clauses}
 use Rattle.line_text.specs.Fields.{after, one_within, two_within}
+use Rattle.line_text.specs.SizeLines.{problem_line, is_problem}
 use Rattle.line_text.specs.FieldLists.{rising_from, literals_from, clause_from}
 use Rattle.cert_text.specs.Parts.{part_word, part_of, part_lines, part_next, may_end, is_finished, body_of, rounds_of}
 use Rattle.cert_text.specs.PureLines.{fresh_pure}
@@ -37,9 +38,6 @@ set_line set = comment (codes "set") (literal_words set)
 
 abbrev pub learned_line : ℕ → List Word
 learned_line count = comment (codes "learned") (number_words (count ∷ []))
-
-abbrev pub problem_line : ℕ → ℕ → List Word
-problem_line n count = codes "p" ∷ codes "cnf" ∷ number_words (n ∷ count ∷ [])
 
 -- the lines up to that of the protected variables
 abbrev pub head_lines : Draft → List (List Word)
@@ -110,11 +108,6 @@ next_set d words = option_map (λ (set : List ℤ). record d { due = Body; set =
 
 abbrev pub next_learned : Draft → List Word → Option Draft
 next_learned d words = option_map (λ (count : ℕ). record d { due = Body; learned = count }) (option_and_then (one_within (2 ^ 63 - 1)) (after (codes "c") (codes "learned") words))
-
--- the words are those of the problem line
-abbrev pub is_problem : ℕ → ℕ → List Word → Bool
-is_problem n count words =
-    option_map_or (λ (h : ℕ × ℕ). h.0 == n && h.1 == count) (option_and_then (two_within max_vars max_clauses) (after (codes "p") (codes "cnf") words)) false
 
 abbrev pub next_body : Draft → List Word → Option Draft
 next_body d words = if is_problem d.vars (clause_count d) words

@@ -1,11 +1,12 @@
 //! Reading documents, line by line.
 //!
-//! The lines before it say what a line has to be, so the first one with which no document goes on is known when it ends.
-//! What is read is put where the document has it: no line is kept.
+//! The lines before it say what a line has to be, so the first one with which no document goes on is known when it
+//! ends. What is read is put where the document has it: no line is kept.
 ghost use Rattle.std.specs.Prelude.{◌≡◌, ◌<◌, ◌==◌, ◌&&◌, IfOk, IfErr, false, length};
 ghost use Rattle.lk_model.specs.declared.document.Document.TheVariants.{Done, Unfinished};
 ghost use Rattle.cert_text.specs.Parts.{is_finished};
-ghost use Rattle.cert_text.specs.Drafts.{clause_count, document_by, done_by, open_by, finished, fresh_draft, is_at_clauses, lines_read};
+ghost use Rattle.cert_text.specs.Drafts.{clause_count, document_by, done_by, open_by, finished, fresh_draft};
+ghost use Rattle.cert_text.specs.Drafts.{is_at_clauses, lines_read};
 ghost use Rattle.cert_text.specs.Completing.{IsCompletedBy, IsRead};
 ghost use Rattle.lk_model.specs.Documents.Reading.{IsTextOf};
 ghost use Rattle.cert_text.specs.ReadTexts.{IsStopAt, ReadsDocuments};

@@ -23,7 +23,8 @@ fn weight_in(word: &[u8]) -> Option<i128>
 
 /// The weight of two words, for a variable above the last one and up to n.
 fn entry_in(word: &[u8], other: &[u8], last: u32, n: u32) -> Option<Weight>
-    ensures { result ≡ weight_by (number_within (last + 1) n (plain_number word.now)) (if_weight (plain_number other.now)) }
+    ensures { result ≡ weight_by (number_within (last + 1) n (plain_number word.now))
+        (if_weight (plain_number other.now)) }
 {
     Some(Weight {
         var: number_above(word, last, n)?,
@@ -33,7 +34,8 @@ fn entry_in(word: &[u8], other: &[u8], last: u32, n: u32) -> Option<Weight>
 
 /// The share of two words, for a position above the last one and up to m.
 fn share_in(word: &[u8], other: &[u8], last: u32, m: u32) -> Option<Share>
-    ensures { result ≡ share_by (number_within (last + 1) m (plain_number word.now)) (if_weight (plain_number other.now)) }
+    ensures { result ≡ share_by (number_within (last + 1) m (plain_number word.now))
+        (if_weight (plain_number other.now)) }
 {
     Some(Share {
         pos: number_above(word, last, m)?,

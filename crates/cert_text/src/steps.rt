@@ -2,7 +2,10 @@
 ghost use Rattle.std.specs.Prelude.{◌≡◌, ◌≤◌, IfOk, true};
 ghost use Rattle.lk_model.specs.Limits.{max_vars, max_clauses};
 ghost use Rattle.line_text.specs.Fields.{fields};
-ghost use Rattle.cert_text.specs.Drafts.{clause_count, due_then, due_first, is_problem, next_format, next_sizes, next_protect, next_keep, next_set, next_learned, next_body, next_clause, next_draft, protect_of, format_words};
+ghost use Rattle.line_text.specs.SizeLines.{is_problem};
+ghost use Rattle.cert_text.specs.Drafts.{clause_count, due_then, due_first, next_format, next_sizes, next_protect};
+ghost use Rattle.cert_text.specs.Drafts.{next_keep, next_set, next_learned, next_body, next_clause, next_draft};
+ghost use Rattle.cert_text.specs.Drafts.{protect_of, format_words};
 ghost use Rattle.cert_text.specs.Taking.{IsReady, IsReadyAgain, IsSmall};
 ghost use Rattle.line_text.specs.Taking.{IsTaken};
 

@@ -1,5 +1,6 @@
 //! The checks of a linear document.
-ghost use Rattle.std.specs.Prelude.{◌≡◌, ◌≤◌, ◌<◌, ◌-◌, ◌+◌, ◌^◌, ◌++◌, ◌∷◌, ℕ, pos, [], find, length, map, slice_index_or, IfOk, OnOk, IsTrue};
+ghost use Rattle.std.specs.Prelude.{◌≡◌, ◌≤◌, ◌<◌, ◌-◌, ◌+◌, ◌^◌, ◌++◌, ◌∷◌, ℕ, pos, [], find, length, map};
+ghost use Rattle.std.specs.Prelude.{slice_index_or, IfOk, OnOk, IsTrue};
 ghost use Rattle.std.specs.List.{list_all};
 ghost use Rattle.lk_model.specs.Lists.{is_nonzero, rises_within, sum_of};
 ghost use Rattle.lk_model.specs.Limits.{is_in_range};
@@ -12,9 +13,10 @@ ghost use Rattle.lk_model.specs.Documents.Form.{are_duals, is_stage, is_weight};
 ghost use Rattle.lk_model.specs.Checks.LinearChecks.{bad_sign, bad_stage, bad_dual, bad_balance, is_same_value};
 ghost use Rattle.lk_model.specs.declared.document.Weight.{Weight};
 ghost use Rattle.exact_rows.specs.Made.{AreInRange};
-ghost use Rattle.check_tables.specs.Occurring.{AreOccurring, NotesVariables};
 ghost use Rattle.check_tables.specs.Places.{places_in};
-ghost use Rattle.check_linear.specs.Linear.{is_bad_stage, least_stage, weights_at, AreFirsts, NotesStage, sign_of, is_bad_sign, AreDuals, is_bad_dual, signed, AreNumbers, AddsNumbers, is_unbalanced, numbers_of};
+ghost use Rattle.check_linear.specs.Linear.{is_bad_stage, least_stage, weights_at, AreFirsts, NotesStage, sign_of};
+ghost use Rattle.check_linear.specs.Linear.{is_bad_sign, AreDuals, is_bad_dual, signed, AreNumbers, AddsNumbers};
+ghost use Rattle.check_linear.specs.Linear.{is_unbalanced, numbers_of};
 
 use check_tables::{Span, Workers, kept_flags, occurring_at};
 use exact_rows::sign_of_sum;
@@ -285,7 +287,10 @@ fn bad_stage_in(
     requires first { 0 < span.first }
     requires within { span.first + span.count ≤ length f.now.clauses + 1 }
     requires few { span.first + span.count < 2 ^ 32 }
-    ensures { IfOk result (λ place. place ≡ find (λ p. is_bad_stage last firsts.now.places.items firsts.now.weights.items (clause_at f.now p)) (places_in span)) }
+    ensures { IfOk result
+        (λ place. place ≡ find
+        (λ p. is_bad_stage last firsts.now.places.items firsts.now.weights.items (clause_at f.now p))
+        (places_in span)) }
 {
     for p in span.first..span.first + span.count {
         if is_bad_stage(alloc, firsts, last, f.vars(), f.clause(p))? {
@@ -339,7 +344,8 @@ fn weights_at(
     requires places { length firsts.now.places.items ≡ n }
     requires weights { length firsts.now.weights.items ≡ n }
     requires range { AreInRange firsts.now.weights.items }
-    ensures { IfOk result (λ numbers. numbers.items ≡ weights_at stage firsts.now.places.items firsts.now.weights.items clause.now) }
+    ensures { IfOk result
+        (λ numbers. numbers.items ≡ weights_at stage firsts.now.places.items firsts.now.weights.items clause.now) }
 {
     let mut numbers = Vec::new(alloc);
     for l in clause {
@@ -360,7 +366,9 @@ fn push_weight(
     requires places { length firsts.now.places.items ≡ n }
     requires weights { length firsts.now.weights.items ≡ n }
     requires range { AreInRange firsts.now.weights.items }
-    ensures { OnOk result (numbers.new.items ≡ numbers.old.items ++ weights_at stage firsts.now.places.items firsts.now.weights.items (l ∷ [])) }
+    ensures { OnOk result
+        (numbers.new.items ≡ numbers.old.items ++ weights_at stage firsts.now.places.items firsts.now.weights.items
+        (l ∷ [])) }
 {
     let v = l.var() as usize - 1;
     if firsts.places[v] == stage {

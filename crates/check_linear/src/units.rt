@@ -1,8 +1,8 @@
 //! The check of the units of a linear document.
 //!
-//! One table of numbers serves all units of a range: it is filled at the variables of a unit's shares. Then the list of each
-//! such variable is summed and taken away in the same turn, so it is summed once, however many shares have the variable. So a
-//! unit takes the time of its shares' literals.
+//! One table of numbers serves all units of a range: it is filled at the variables of a unit's shares. Then the list of
+//! each such variable is summed and taken away in the same turn, so it is summed once, however many shares have the
+//! variable. So a unit takes the time of its shares' literals.
 ghost use Rattle.std.specs.Prelude.{◌≡◌, ◌≤◌, ◌<◌, ◌+◌, ◌^◌, ◌||◌, not, neg_ℤ, find, length, map, IfOk, OnOk, IsTrue};
 ghost use Rattle.std.specs.List.{list_all, list_any};
 ghost use Rattle.lk_model.specs.Lists.{is_zero, rises_within};
@@ -17,7 +17,9 @@ ghost use Rattle.lk_model.specs.declared.document.Share.{Share};
 ghost use Rattle.lk_model.specs.declared.document.Unit.{Unit};
 ghost use Rattle.check_tables.specs.Flags.{is_flagged};
 ghost use Rattle.check_tables.specs.Places.{places_in};
-ghost use Rattle.check_linear.specs.Linear.{AreUnitPlaces, unit_numbered, is_bad_unit, AreNone, AreNumbers, ClearsNumbers, ClearsShares, numbers_by, is_unbalanced_clause, is_unbalanced_share, is_bad_unit_line};
+ghost use Rattle.check_linear.specs.Linear.{AreUnitPlaces, unit_numbered, is_bad_unit, AreNone, AreNumbers};
+ghost use Rattle.check_linear.specs.Linear.{ClearsNumbers, ClearsShares, numbers_by, is_unbalanced_clause};
+ghost use Rattle.check_linear.specs.Linear.{is_unbalanced_share, is_bad_unit_line};
 
 use crate::linear::{add_numbers, is_unbalanced, no_numbers};
 use check_tables::{Span, Workers, kept_flags, occurring_at};
@@ -77,7 +79,10 @@ fn bad_unit_in(
     requires first { 0 < span.first }
     requires within { span.first + span.count ≤ f.now.vars + 1 }
     requires few { span.first + span.count < 2 ^ 32 }
-    ensures { IfOk result (λ place. place ≡ find (is_bad_unit f.now tables.now.kept.items tables.now.occurring units.now tables.now.numbers.items) (places_in span)) }
+    ensures { IfOk result
+        (λ place. place ≡ find
+        (is_bad_unit f.now tables.now.kept.items tables.now.occurring units.now tables.now.numbers.items)
+        (places_in span)) }
 {
     let mut numbers = no_numbers(alloc, f.vars())?;
     for v in span.first..span.first + span.count {
@@ -105,7 +110,8 @@ fn is_bad_unit(
     requires first { 0 < v }
     requires last { v ≤ f.now.vars }
     requires none { AreNone f.now.vars numbers.old.items }
-    ensures bad { IfOk result (λ bad. bad ≡ is_bad_unit f.now tables.now.kept.items tables.now.occurring units.now tables.now.numbers.items v) }
+    ensures bad { IfOk result
+        (λ bad. bad ≡ is_bad_unit f.now tables.now.kept.items tables.now.occurring units.now tables.now.numbers.items v) }
     ensures none { OnOk result (AreNone f.now.vars numbers.new.items) }
 {
     let k = tables.numbers[v as usize - 1];
@@ -187,7 +193,8 @@ fn opposite(y: i128) -> i128
 
 /// Whether d is 0, or a share is of a clause that is not kept.
 fn is_void(kept: &[bool], unit: &Unit) -> bool
-    ensures { result ≡ (is_zero unit.now.d || list_any (λ (s : Share). not (is_flagged kept.now s.pos)) unit.now.shares) }
+    ensures { result ≡
+        (is_zero unit.now.d || list_any (λ (s : Share). not (is_flagged kept.now s.pos)) unit.now.shares) }
 {
     unit.d == 0 || names_removed(kept, unit.shares.as_slice())
 }
@@ -246,8 +253,8 @@ fn clear_shares(
     unbalanced
 }
 
-/// Whether a variable of a clause is out of balance. The numbers of these variables are taken away, each list as soon as it
-/// is summed, so that a variable that stands in many clauses is summed once.
+/// Whether a variable of a clause is out of balance. The numbers of these variables are taken away, each list as soon
+/// as it is summed, so that a variable that stands in many clauses is summed once.
 fn clear_clause(
     alloc: Global,
     n: u32,

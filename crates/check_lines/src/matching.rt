@@ -1,7 +1,7 @@
 //! The checks of a matching document.
 //!
-//! Each line is put into tables once, and then each place is looked at once. So no line is searched for, and no clause is
-//! gone through for each line that names it.
+//! Each line is put into tables once, and then each place is looked at once. So no line is searched for, and no clause
+//! is gone through for each line that names it.
 ghost use Rattle.std.specs.Prelude.{◌≡◌, ◌≤◌, ◌<◌, ◌-◌, ◌&&◌, ◌||◌, ◌==◌, ℕ, length, map, slice_index, IfOk, IsTrue};
 ghost use Rattle.std.specs.List.{list_all};
 ghost use Rattle.lk_model.specs.Lists.{rises_within};
@@ -15,7 +15,9 @@ ghost use Rattle.lk_model.specs.Held.VariableSets.{is_in};
 ghost use Rattle.lk_model.specs.Documents.Form.{are_own, are_rows};
 ghost use Rattle.lk_model.specs.Checks.MatchingChecks.{bad_owner, bad_row};
 ghost use Rattle.check_tables.specs.Occurring.{AreOccurring, NotesVariables};
-ghost use Rattle.check_lines.specs.Matching.{AreOwners, AreFirstOwners, AreRows, AreFirstRows, AreRankBounds, AreNamedThere, NotesNamed, has_own, has_escape, row_in, holds_true, is_bad_owner, is_bad_row};
+ghost use Rattle.check_lines.specs.Matching.{AreOwners, AreFirstOwners, AreRows, AreFirstRows, AreRankBounds};
+ghost use Rattle.check_lines.specs.Matching.{AreNamedThere, NotesNamed, has_own, has_escape, row_in, holds_true};
+ghost use Rattle.check_lines.specs.Matching.{is_bad_owner, is_bad_row};
 
 use check_tables::{Workers, kept_flags, number_at};
 use lk_model::{DoneDocument, Formula, Lit, MatchRow, OutOfMemory, Own, VarSet};
@@ -78,7 +80,8 @@ fn is_bad_owner(f: &Formula, values: &Partial, kept: &[bool], owners: &Owners, p
     requires kept { length kept.now ≡ length f.now.clauses }
     requires first { 0 < p }
     requires last { p ≤ length f.now.clauses }
-    ensures { result ≡ is_bad_owner (assignment_by values.now) kept.now owners.now.of_position.items owners.now.first.items p (clause_at f.now p) }
+    ensures { result ≡ is_bad_owner
+        (assignment_by values.now) kept.now owners.now.of_position.items owners.now.first.items p (clause_at f.now p) }
 {
     let v = number_at(&owners.of_position, p);
     if v == 0 {
@@ -149,13 +152,13 @@ pub fn bad_row<R: Threads + Sync, G: Gate>(
 {
     let n = f.vars();
     let m = f.len();
-    let tables = rows_of(alloc, n, m, rows)?;
+    let tables = row_tables(alloc, n, m, rows)?;
     let seen = seen_at(alloc, f, d.kept.as_slice(), tables.of_variable.as_slice())?;
     workers.least_place(n, &|v| is_bad_row(v, &tables, &seen))
 }
 
 /// The tables of the rows over so many variables and positions.
-fn rows_of(alloc: Global, n: u32, m: u32, lines: &[MatchRow]) -> Result<Rows, OutOfMemory>
+fn row_tables(alloc: Global, n: u32, m: u32, lines: &[MatchRow]) -> Result<Rows, OutOfMemory>
     requires { IsTrue (are_rows n m lines.now) }
     ensures of_variable { IfOk result (λ rows. AreRows n lines.now rows.of_variable.items) }
     ensures first { IfOk result (λ rows. AreFirstRows m n lines.now rows.first.items) }

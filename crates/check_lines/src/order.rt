@@ -1,5 +1,6 @@
 //! The check of an order of pure literals.
-ghost use Rattle.std.specs.Prelude.{◌≡◌, ◌≤◌, ◌<◌, ◌+◌, ◌*◌, ◌||◌, not, [], List, ℤ, length, take, nat_le, IfOk, IsTrue};
+ghost use Rattle.std.specs.Prelude.{◌≡◌, ◌≤◌, ◌<◌, ◌+◌, ◌*◌, ◌||◌, not, [], List, ℤ, length, nat_le, IfOk};
+ghost use Rattle.std.specs.Prelude.{IsTrue};
 ghost use Rattle.std.specs.List.{list_all};
 ghost use Rattle.lk_model.specs.Formulas.Literal.{is_literal, contains, rank_of};
 ghost use Rattle.lk_model.specs.Formulas.Formula.{clause_at};

@@ -1,26 +1,23 @@
 -- What a chain may name and makes, and the first bad step round by round.
-use Rattle.std.proofs.Common.{◌≡◌, ◌∙◌, ℕ, zero, suc, ◌+◌, ◌-◌, ◌*◌, ◌<◌, ◌≤◌, Bool, true, false, ◌==◌, List, [], ◌∷◌, ◌++◌, length, get_or, map, take, drop, refl, sym, ap, subst, arith, ℤ, Option, Some, None, find, option_map, slice_index_or}
+use Rattle.std.proofs.Common.{◌≡◌, ◌∙◌, ℕ, zero, suc, ◌+◌, ◌-◌, ◌<◌, ◌≤◌, Bool, true, false, ◌==◌, List, [], ◌∷◌, ◌++◌, length, get_or, map, take, drop, refl, sym, ap, subst, arith, ℤ, Option, Some, None, find, option_map, slice_index_or}
 use Rattle.std.specs.Prelude.{option_and_then}
-use Rattle.std.specs.List.{list_all}
 use Rattle.std.specs.Option.{option_or}
 use Rattle.std.proofs.lemmas.Bool.{eqb-true, eq-eqb, ne_eqb, le-leb, lt-leb, le-ltb}
 use Rattle.std.proofs.lemmas.List.{drop_more, drop_all, take_more, length-take, get_or-take, take-append-drop, get_or_default}
 use Rattle.std.proofs.lemmas.List.Folds.{find-append}
-use Rattle.lk_model.specs.Lists.{among, is_between, rises_within}
-use Rattle.lk_model.specs.Formulas.Literal.{variable, contains, complement, is_literal, is_same_set, rank_of}
+use Rattle.lk_model.specs.Lists.{among}
+use Rattle.lk_model.specs.Formulas.Literal.{variable, contains, complement, is_same_set}
 use Rattle.lk_model.specs.Formulas.Formula.{Cnf, clause_at}
 use Rattle.lk_model.specs.Formulas.Crossed.{Variables, crossed_out}
 use Rattle.lk_model.specs.Chains.Chain.{Premises, clause_named, without, resolvent, after_turns, chain_clause, states_its_clause}
 use Rattle.lk_model.specs.Chains.Rounds.{StepAt, steps_in_round, steps_in_rounds, blocked_after_round, blocked_after}
 use Rattle.lk_model.specs.Checks.RoundChecks.{bad_step, not_learned}
-use Rattle.lk_model.specs.Documents.Form.{counts_from, is_step, is_turn}
+use Rattle.lk_model.specs.Documents.Form.{counts_from, is_step}
 use Rattle.lk_model.specs.declared.document.Step.{Step}
 use Rattle.lk_model.specs.declared.document.Turn.{Turn}
 use Rattle.lk_model.specs.declared.document.Round.{Round}
 use Rattle.lk_model.proofs.Booleans.{and_true}
 use Rattle.lk_model.proofs.ListTests.{all_at}
-use Rattle.lk_model.proofs.Rising.{rises}
-use Rattle.lk_model.proofs.Ranks.{ranked_literal}
 use Rattle.kernel_laws.proofs.General.JoinLaws.{blocked_joined}
 use Rattle.check_tables.proofs.Parts.{map_or}
 use Rattle.check_rounds.specs.declared.chains.RoundAt.{RoundAt}
@@ -113,19 +110,6 @@ number_found over i j t h inside low it =
 pub step_named : (over : RoundAt) (i k : ℕ) (c : List ℤ) → length over.formula.now.clauses < k → option_map (λ (u : Step). u.clause) (step_numbered over i k) ≡ Some c
     → clause_named (premises_at over i) k ≡ Some (crossed_out (is_before (round_of over k) over.blocked_at.now) c)
 step_named over i k c past e = rw (lt-leb k (length over.formula.now.clauses) past) (e ∙ ap Some (sym (crossed_none over.blocked_at.now c)))
-
-rising_literals : (n low : ℕ) (c : List ℤ) → 1 ≤ low → rises_within low (2 * n + 1) (map rank_of c) ≡ true → list_all (is_literal n) c ≡ true
-rising_literals n low [] least up = refl
-rising_literals n low (l ∷ c) least up =
-    let r = rises low (2 * n + 1) (rank_of l) (map rank_of c) up in
-    rw (ranked_literal n l (omega (arith, r.above, least)) r.within, rising_literals n (rank_of l) c (omega (arith, r.above, least)) r.more) refl
-
-pub step_literals : (n : ℕ) (s : Step) → is_step n s ≡ true → list_all (is_literal n) s.clause ≡ true
-step_literals n s form =
-    let a = and_true _ (list_all (is_turn n s.number) s.turns) form in
-    let b = and_true _ (is_between 1 (s.number - 1) s.first) a.0 in
-    let c = and_true _ (rises_within 1 (2 * n + 1) (map rank_of s.clause)) b.0 in
-    rising_literals n 1 s.clause (omega arith) c.1
 
 -- the form of the step at a place
 pub step_form : (over : RoundAt) (i : ℕ) (s : Step) → IsRoundAt over → i < length over.steps.now → s ≡ get_or over.steps.now i s → is_step over.formula.now.vars s ≡ true

@@ -11,23 +11,17 @@ use Rattle.lk_model.specs.Lists.{among, is_empty}
 use Rattle.lk_model.specs.Formulas.Literal.{variable, contains, is_literal, rank_of}
 use Rattle.lk_model.specs.Formulas.Formula.{Cnf, clause_at}
 use Rattle.lk_model.specs.Formulas.Crossed.{Variables, crossed_out}
-use Rattle.lk_model.specs.Documents.Form.{is_step}
 use Rattle.lk_model.specs.declared.document.Step.{Step}
 use Rattle.lk_model.specs.declared.document.Round.{Round}
 use Rattle.lk_model.proofs.Booleans.{and_true, or_left, or_right}
 use Rattle.lk_model.proofs.Crossings.{contains_crossed}
 use Rattle.lk_model.proofs.Flags.{contains-push}
-use Rattle.lk_model.proofs.ListTests.{passes_each, all_weaker}
+use Rattle.lk_model.proofs.ListTests.{passes_each}
+use Rattle.lk_model.proofs.Literals.{some_literal}
 use Rattle.lk_model.proofs.Ranks.{literal_bounds}
 use Rattle.lk_model.proofs.Lists.{among_front, among_last}
 use Rattle.check_rounds.specs.Blocking.{is_before}
-use Rattle.check_rounds.specs.Index.{list_of, block_of, IsFound, AreClausesFound, AreStepsFound, AreRoundsFound, KeepsFound}
-use Rattle.check_rounds.proofs.ChainChecks.{step_literals}
-
--- a literal that is left
-pub first_left : (c : List ℤ) → is_empty c ≡ false → (l : ℤ) × (contains c l ≡ true)
-first_left [] e = absurd (let f : ⊥ = cc in f)
-first_left (l ∷ c) e = (l, or_left (int_eq l l) (contains c l) ((Decides-int_eq l l).1 refl))
+use Rattle.check_rounds.specs.Index.{list_of, block_of, IsListed, AreClausesListed, AreStepsListed, AreRoundsListed, KeepsListed}
 
 -- a variable is not blocked before a round up to its number
 before_is : (n k : ℕ) (blocks : List ℕ) (l : ℤ) → length blocks ≡ n → is_literal n l ≡ true → is_before k blocks (variable l) ≡ nat_lt (block_of blocks l) k
@@ -44,7 +38,7 @@ last_left : (n k : ℕ) (blocks : List ℕ) (c : List ℤ) (l : ℤ) → length 
     → contains (crossed_out (is_before k blocks) c) l ≡ true
 last_left n k blocks c l size lits there all some =
     let b : Variables = is_before k blocks in
-    let one = first_left (crossed_out b c) some in
+    let one = some_literal (crossed_out b c) some in
     let both = and_true (not (b (variable one.0))) (contains c one.0) (sym (contains_crossed b c one.0) ∙ one.1) in
     let open_one : nat_lt (block_of blocks one.0) k ≡ false = sym (before_is n k blocks one.0 size (passes_each (is_literal n) c one.0 lits both.1)) ∙ not-true (b (variable one.0)) both.0 in
     let least : k ≤ block_of blocks one.0 = ltb-false (block_of blocks one.0) k open_one in
@@ -57,7 +51,7 @@ last_left n k blocks c l size lits there all some =
 -- the clause is found where its number is put into the list of such a literal
 pub found_new : (n : ℕ) (blocks : List ℕ) (lists : List (List ℕ)) (c : List ℤ) (number : ℕ) (l : ℤ) (more : List ℕ) → length blocks ≡ n → list_all (is_literal n) c ≡ true → contains c l ≡ true
     → list_all (λ j. nat_le (block_of blocks j) (block_of blocks l)) c ≡ true → rank_of l < length lists → more ≡ list_of lists l ++ number ∷ []
-    → IsFound blocks (slice_set lists (rank_of l) more) c number
+    → IsListed blocks (slice_set lists (rank_of l) more) c number
 found_new n blocks lists c number l more size lits there all inside is k some = (
   l,
   last_left n k blocks c l size lits there all some,
@@ -66,7 +60,7 @@ found_new n blocks lists c number l more size lits there all inside is k some = 
 
 -- and the others are found still
 pub found_kept : (blocks : List ℕ) (lists : List (List ℕ)) (number : ℕ) (l : ℤ) (more : List ℕ) → rank_of l < length lists → more ≡ list_of lists l ++ number ∷ []
-    → KeepsFound blocks lists (slice_set lists (rank_of l) more)
+    → KeepsListed blocks lists (slice_set lists (rank_of l) more)
 found_kept blocks lists number l more inside is c other h k some =
     let w = h k some in (
       w.0,
@@ -133,23 +127,19 @@ pub all_later : {X : Type 0} (P Q : X → Type 0) (xs : List X) → ((x : X) →
 all_later P Q xs f h k d inside = f (get_or xs k d) (h k d inside)
 
 -- steps of rounds that were found are found still
-pub rounds_kept : (blocks : List ℕ) (before after : List (List ℕ)) (rounds : List Round) → KeepsFound blocks before after → AreRoundsFound blocks before rounds → AreRoundsFound blocks after rounds
+pub rounds_kept : (blocks : List ℕ) (before after : List (List ℕ)) (rounds : List Round) → KeepsListed blocks before after → AreRoundsListed blocks before rounds → AreRoundsListed blocks after rounds
 rounds_kept blocks before after rounds keeps h =
-    all_later (λ (r : Round). AreStepsFound blocks before r.steps) (λ (r : Round). AreStepsFound blocks after r.steps) rounds
-    (λ r found. all_later (λ (s : Step). IsFound blocks before s.clause s.number) (λ (s : Step). IsFound blocks after s.clause s.number) r.steps (λ s one. keeps s.clause s.number one) found) h
+    all_later (λ (r : Round). AreStepsListed blocks before r.steps) (λ (r : Round). AreStepsListed blocks after r.steps) rounds
+    (λ r found. all_later (λ (s : Step). IsListed blocks before s.clause s.number) (λ (s : Step). IsListed blocks after s.clause s.number) r.steps (λ s one. keeps s.clause s.number one) found) h
 
-pub steps_kept : (blocks : List ℕ) (before after : List (List ℕ)) (steps : List Step) → KeepsFound blocks before after → AreStepsFound blocks before steps → AreStepsFound blocks after steps
+pub steps_kept : (blocks : List ℕ) (before after : List (List ℕ)) (steps : List Step) → KeepsListed blocks before after → AreStepsListed blocks before steps → AreStepsListed blocks after steps
 steps_kept blocks before after steps keeps h =
-    all_later (λ (s : Step). IsFound blocks before s.clause s.number) (λ (s : Step). IsFound blocks after s.clause s.number) steps (λ s one. keeps s.clause s.number one) h
+    all_later (λ (s : Step). IsListed blocks before s.clause s.number) (λ (s : Step). IsListed blocks after s.clause s.number) steps (λ s one. keeps s.clause s.number one) h
 
 -- one position more
-pub clauses_next : (blocks : List ℕ) (before after : List (List ℕ)) (F : Cnf) (i : ℕ) → KeepsFound blocks before after → AreClausesFound blocks before F i → IsFound blocks after (clause_at F (i + 1)) (i + 1)
-    → AreClausesFound blocks after F (i + 1)
+pub clauses_next : (blocks : List ℕ) (before after : List (List ℕ)) (F : Cnf) (i : ℕ) → KeepsListed blocks before after → AreClausesListed blocks before F i → IsListed blocks after (clause_at F (i + 1)) (i + 1)
+    → AreClausesListed blocks after F (i + 1)
 clauses_next blocks before after F i keeps h here p low high = elim (cases_eq p (i + 1)) [
-  | inl same ↦ subst (λ (q : ℕ). IsFound blocks after (clause_at F q) q) (sym same) here
+  | inl same ↦ subst (λ (q : ℕ). IsListed blocks after (clause_at F q) q) (sym same) here
   | inr other ↦ keeps (clause_at F p) p (h p low (omega (arith, high, other)))
 ]
-
--- the literals of the steps of a round
-pub round_literals : (n : ℕ) (steps : List Step) → list_all (is_step n) steps ≡ true → list_all (λ (s : Step). list_all (is_literal n) s.clause) steps ≡ true
-round_literals n steps form = all_weaker (is_step n) (λ (s : Step). list_all (is_literal n) s.clause) (λ s e. step_literals n s e) steps form

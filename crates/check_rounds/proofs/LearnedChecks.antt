@@ -19,16 +19,17 @@ use Rattle.lk_model.proofs.Counting.{among-range}
 use Rattle.lk_model.proofs.Founds.{up_to_bounds}
 use Rattle.lk_model.proofs.Literals.{complement_literal}
 use Rattle.lk_model.proofs.ListTests.{passes_one, passes_each, passes_among, passing, all_left, all_at}
+use Rattle.lk_model.proofs.Rounds.{step_literals}
 use Rattle.lk_model.proofs.Variables.{literal_passing}
 use Rattle.check_rounds.specs.declared.chains.RoundAt.{RoundAt}
 use Rattle.check_rounds.specs.declared.learned.Known.{Known}
 use Rattle.check_rounds.specs.declared.steps.Rounds.{Rounds}
 use Rattle.check_rounds.specs.Blocking.{is_before}
 use Rattle.check_rounds.specs.Chains.{IsRoundAt, step_numbered, step_behind, is_unlearned}
-use Rattle.check_rounds.specs.Index.{list_of, IsFound, AreClausesFound, AreStepsFound, AreRoundsFound}
+use Rattle.check_rounds.specs.Index.{list_of, IsListed, AreClausesListed, AreStepsListed, AreRoundsListed}
 use Rattle.check_rounds.specs.Learned.{AreKnown, IsKnown, are_open_but_last, is_clause_within, is_step_within}
 use Rattle.check_tables.specs.LiteralSets.{IsSetOf, has_literal}
-use Rattle.check_rounds.proofs.ChainChecks.{crossed_none, number_found, step_form, step_literals}
+use Rattle.check_rounds.proofs.ChainChecks.{crossed_none, number_found, step_form}
 use Rattle.check_tables.proofs.FirstTables.{found_passes}
 use Rattle.check_tables.proofs.LiteralSetLemmas.{all_told}
 use Rattle.check_rounds.specs.Steps.{AreRounds, IsRoundOf}
@@ -157,8 +158,8 @@ step_contained : (over : RoundAt) (known : Known) (i j : ℕ) (c : List ℤ) (fl
     → s ≡ get_or over.steps.now j s → is_within s.clause c ≡ true → list_any (λ k. list_any (is_step_within over i flags) (list_of known.steps k)) c ≡ true
 step_contained over known i j c flags s h inside set low is within =
     let some : is_empty s.clause ≡ false = open_at over.steps.now j s h.steps_open (omega (arith, low, inside)) is in
-    let there : IsFound over.blocked_at.now known.steps s.clause s.number =
-    subst (λ (u : Step). IsFound over.blocked_at.now known.steps u.clause u.number) (sym is) (h.steps j s (omega (arith, low, inside))) in
+    let there : IsListed over.blocked_at.now known.steps s.clause s.number =
+    subst (λ (u : Step). IsListed over.blocked_at.now known.steps u.clause u.number) (sym is) (h.steps j s (omega (arith, low, inside))) in
     step_listed over known i j c flags s h inside set low is within (there 0 (ap is_empty (crossed_none over.blocked_at.now s.clause) ∙ some))
 
 pub steps_found : (over : RoundAt) (known : Known) (i : ℕ) (c : List ℤ) (flags : List Bool) → IsKnown over known → i < length over.steps.now → IsSetOf over.formula.now.vars c flags
@@ -218,8 +219,8 @@ unlearned_is over known i s flags form h inside is set =
 -- IN A WHOLE DOCUMENT
 
 -- what is known of all rounds is known of the one at a place
-known_round : (rounds : List Round) (blocks : List ℕ) (lists : List (List ℕ)) (k : ℕ) (r : Round) → AreRoundsFound blocks lists rounds → k < length rounds → r ≡ get_or rounds k r → AreStepsFound blocks lists r.steps
-known_round rounds blocks lists k r h lt is = subst (λ (q : Round). AreStepsFound blocks lists q.steps) (sym is) (h k r lt)
+known_round : (rounds : List Round) (blocks : List ℕ) (lists : List (List ℕ)) (k : ℕ) (r : Round) → AreRoundsListed blocks lists rounds → k < length rounds → r ≡ get_or rounds k r → AreStepsListed blocks lists r.steps
+known_round rounds blocks lists k r h lt is = subst (λ (q : Round). AreStepsListed blocks lists q.steps) (sym is) (h k r lt)
 
 open_round : (rounds : List Round) (k : ℕ) (r : Round) → list_all (λ (q : Round). are_open_but_last q.steps) rounds ≡ true → k < length rounds → r ≡ get_or rounds k r → are_open_but_last r.steps ≡ true
 open_round rounds k r all lt is = ap (λ (q : Round). are_open_but_last q.steps) is ∙ all_at (λ (q : Round). are_open_but_last q.steps) rounds k r all lt
@@ -235,10 +236,10 @@ known_at over k r known h all of lt =
       steps_open = ap are_open_but_last of.steps ∙ open_round over.rounds.now k q all.rounds_open lt is;
       clauses_size = all.clauses_size ∙ size;
       steps_size = all.steps_size ∙ size;
-      clauses = subst (λ (F : Cnf). AreClausesFound r.blocked_at.now known.clauses F (length F.clauses)) (sym of.formula)
-          (subst (λ (blocks : List ℕ). AreClausesFound blocks known.clauses over.formula.now (length over.formula.now.clauses)) (sym of.blocked_at) all.clauses);
-      steps = subst (λ (steps : List Step). AreStepsFound r.blocked_at.now known.steps steps) (sym of.steps)
-          (subst (λ (blocks : List ℕ). AreStepsFound blocks known.steps q.steps) (sym of.blocked_at) (known_round over.rounds.now over.blocked_at.now known.steps k q all.steps lt is));
+      clauses = subst (λ (F : Cnf). AreClausesListed r.blocked_at.now known.clauses F (length F.clauses)) (sym of.formula)
+          (subst (λ (blocks : List ℕ). AreClausesListed blocks known.clauses over.formula.now (length over.formula.now.clauses)) (sym of.blocked_at) all.clauses);
+      steps = subst (λ (steps : List Step). AreStepsListed r.blocked_at.now known.steps steps) (sym of.steps)
+          (subst (λ (blocks : List ℕ). AreStepsListed blocks known.steps q.steps) (sym of.blocked_at) (known_round over.rounds.now over.blocked_at.now known.steps k q all.steps lt is));
     }
 
 -- all positions rise

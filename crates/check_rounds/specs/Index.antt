@@ -19,21 +19,21 @@ block_of blocks l = slice_index blocks (variable l - 1)
 
 -- Whatever is blocked before a round: if a literal of the clause is left, the clause's number stands in the list of such a
 -- literal.
-abbrev pub IsFound : List ℕ → List (List ℕ) → List ℤ → ℕ → Type 0
-IsFound blocks lists clause number = (k : ℕ) → is_empty (crossed_out (is_before k blocks) clause) ≡ false
+abbrev pub IsListed : List ℕ → List (List ℕ) → List ℤ → ℕ → Type 0
+IsListed blocks lists clause number = (k : ℕ) → is_empty (crossed_out (is_before k blocks) clause) ≡ false
     → (l : ℤ) × (contains (crossed_out (is_before k blocks) clause) l ≡ true) × (among (list_of lists l) number ≡ true)
 
 -- so of the clauses of a formula, by their positions
-abbrev pub AreClausesFound : List ℕ → List (List ℕ) → Cnf → ℕ → Type 0
-AreClausesFound blocks lists F last = (p : ℕ) → 1 ≤ p → p ≤ last → IsFound blocks lists (clause_at F p) p
+abbrev pub AreClausesListed : List ℕ → List (List ℕ) → Cnf → ℕ → Type 0
+AreClausesListed blocks lists F last = (p : ℕ) → 1 ≤ p → p ≤ last → IsListed blocks lists (clause_at F p) p
 
 -- and of those of steps, by their numbers
-abbrev pub AreStepsFound : List ℕ → List (List ℕ) → List Step → Type 0
-AreStepsFound blocks lists steps = All (λ (s : Step). IsFound blocks lists s.clause s.number) steps
+abbrev pub AreStepsListed : List ℕ → List (List ℕ) → List Step → Type 0
+AreStepsListed blocks lists steps = All (λ (s : Step). IsListed blocks lists s.clause s.number) steps
 
-abbrev pub AreRoundsFound : List ℕ → List (List ℕ) → List Round → Type 0
-AreRoundsFound blocks lists rounds = All (λ (r : Round). AreStepsFound blocks lists r.steps) rounds
+abbrev pub AreRoundsListed : List ℕ → List (List ℕ) → List Round → Type 0
+AreRoundsListed blocks lists rounds = All (λ (r : Round). AreStepsListed blocks lists r.steps) rounds
 
--- what was found is found still
-abbrev pub KeepsFound : List ℕ → List (List ℕ) → List (List ℕ) → Type 0
-KeepsFound blocks before after = (clause : List ℤ) (number : ℕ) → IsFound blocks before clause number → IsFound blocks after clause number
+-- what was listed is listed still
+abbrev pub KeepsListed : List ℕ → List (List ℕ) → List (List ℕ) → Type 0
+KeepsListed blocks before after = (clause : List ℤ) (number : ℕ) → IsListed blocks before clause number → IsListed blocks after clause number

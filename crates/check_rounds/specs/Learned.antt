@@ -12,7 +12,7 @@ use Rattle.check_rounds.specs.declared.learned.Known.{Known}
 use Rattle.check_rounds.specs.declared.steps.Rounds.{Rounds}
 use Rattle.check_rounds.specs.Blocking.{is_before}
 use Rattle.check_rounds.specs.Chains.{IsRoundAt, step_numbered}
-use Rattle.check_rounds.specs.Index.{AreClausesFound, AreRoundsFound, AreStepsFound}
+use Rattle.check_rounds.specs.Index.{AreClausesListed, AreRoundsListed, AreStepsListed}
 use Rattle.check_tables.specs.LiteralSets.{has_literal}
 
 -- no clause but the last one is empty
@@ -28,8 +28,8 @@ pub record IsKnown (over : RoundAt) (known : Known) : Type 0 where
   pub steps_open : are_open_but_last over.steps.now ≡ true
   pub clauses_size : length known.clauses ≡ 2 * over.formula.now.vars + 2
   pub steps_size : length known.steps ≡ 2 * over.formula.now.vars + 2
-  pub clauses : AreClausesFound over.blocked_at.now known.clauses over.formula.now (length over.formula.now.clauses)
-  pub steps : AreStepsFound over.blocked_at.now known.steps over.steps.now
+  pub clauses : AreClausesListed over.blocked_at.now known.clauses over.formula.now (length over.formula.now.clauses)
+  pub steps : AreStepsListed over.blocked_at.now known.steps over.steps.now
 
 -- so of all rounds
 pub record AreKnown (over : Rounds) (known : Known) : Type 0 where
@@ -37,8 +37,8 @@ pub record AreKnown (over : Rounds) (known : Known) : Type 0 where
   pub rounds_open : IsTrue (list_all (λ (r : Round). are_open_but_last r.steps) over.rounds.now)
   pub clauses_size : length known.clauses ≡ 2 * over.formula.now.vars + 2
   pub steps_size : length known.steps ≡ 2 * over.formula.now.vars + 2
-  pub clauses : AreClausesFound over.blocked_at.now known.clauses over.formula.now (length over.formula.now.clauses)
-  pub steps : AreRoundsFound over.blocked_at.now known.steps over.rounds.now
+  pub clauses : AreClausesListed over.blocked_at.now known.clauses over.formula.now (length over.formula.now.clauses)
+  pub steps : AreRoundsListed over.blocked_at.now known.steps over.rounds.now
 
 -- some literal of the clause at a position is left, and all that are left have flags
 abbrev pub is_clause_within : RoundAt → List Bool → ℕ → Bool

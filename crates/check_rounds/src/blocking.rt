@@ -1,12 +1,11 @@
 //! Which variables the rounds of a document block.
 //!
 //! Each variable has the first round that blocks it, so that one table tells what was blocked before any round. A whole
-//! round is gone through once from its last step backwards, with a mark for each step that is reached; what a reached step
-//! names is marked, or its variables are put into the table.
+//! round is gone through once from its last step backwards, with a mark for each step that is reached; what a reached
+//! step names is marked, or its variables are put into the table.
 ghost use Rattle.std.specs.Prelude.{◌≡◌, ◌≤◌, ◌<◌, ◌+◌, ◌∷◌, ◌++◌, ℕ, List, length, IfOk, OnOk, IsTrue};
 ghost use Rattle.std.specs.List.{list_all};
 ghost use Rattle.lk_model.specs.Formulas.Literal.{is_literal};
-ghost use Rattle.lk_model.specs.Formulas.Formula.{is_formula};
 ghost use Rattle.lk_model.specs.Formulas.Lean.{are_positions};
 ghost use Rattle.lk_model.specs.Formulas.Crossed.{no_variable};
 ghost use Rattle.lk_model.specs.Chains.Chain.{names_of};
@@ -14,8 +13,8 @@ ghost use Rattle.lk_model.specs.Chains.Rounds.{is_refutation};
 ghost use Rattle.lk_model.specs.Documents.Documents.{steps_of};
 ghost use Rattle.lk_model.specs.Documents.Form.{are_steps, is_step};
 ghost use Rattle.lk_model.specs.Checks.RoundChecks.{not_blocked};
-ghost use Rattle.check_tables.specs.Occurring.{AreOccurring};
-ghost use Rattle.check_rounds.specs.Blocking.{AreBlocks, AreRoundSteps, AreMarked, BlocksClause, BlocksRound, is_before, is_unblocked, first_number};
+ghost use Rattle.check_rounds.specs.Blocking.{AreBlocks, AreRoundSteps, AreMarked, BlocksClause, BlocksRound};
+ghost use Rattle.check_rounds.specs.Blocking.{is_before, is_unblocked, first_number};
 
 use check_tables::{Workers, occurring_at};
 use lk_model::{DoneDocument, Formula, Lit, OutOfMemory, Round, Step, VarSet};
@@ -152,7 +151,8 @@ fn mark_names(
     requires size { length table.old ≡ f.now.vars }
     ensures marks_size { length marks.new ≡ length marks.old }
     ensures table_size { length table.new ≡ length table.old }
-    ensures marked { (known before : List ℕ) → AreMarked f.now k first (length marks.old) known before marks.old table.old
+    ensures marked { (known before : List ℕ) →
+        AreMarked f.now k first (length marks.old) known before marks.old table.old
         → AreMarked f.now k first (length marks.old) (names_of step.now ++ known) before marks.new table.new }
 {
     mark(f, k, first, step.first, marks, table);
@@ -169,7 +169,8 @@ fn mark(f: &Formula, k: usize, first: u64, number: u64, marks: &mut [bool], tabl
     requires size { length table.old ≡ f.now.vars }
     ensures marks_size { length marks.new ≡ length marks.old }
     ensures table_size { length table.new ≡ length table.old }
-    ensures marked { (known before : List ℕ) → AreMarked f.now k first (length marks.old) known before marks.old table.old
+    ensures marked { (known before : List ℕ) →
+        AreMarked f.now k first (length marks.old) known before marks.old table.old
         → AreMarked f.now k first (length marks.old) (number ∷ known) before marks.new table.new }
 {
     if number <= u64::from(f.len()) {

@@ -1,10 +1,12 @@
 //! The check of the chains of a document.
 //!
 //! A step is checked by itself: its clause stands in the document, and so do those of the earlier steps that its chain
-//! names, as in the traces of resolution proofs and in clausal proofs with hints (TraceCheck, LRAT). Here each turn names the
-//! literal on which it resolves, so that nothing is searched. The clauses of the formula are not copied: the literals on
-//! blocked variables are passed over, by the table of the rounds that block them. A number leads to its step by its offset.
-ghost use Rattle.std.specs.Prelude.{◌≡◌, ◌≤◌, ◌<◌, ◌∷◌, [], ℤ, List, true, false, None, Some, length, option_and_then, option_map, slice_index_or, IfOk, IfSome, OnOk, IsTrue};
+//! names, as in the traces of resolution proofs and in clausal proofs with hints (TraceCheck, LRAT). Here each turn
+//! names the literal on which it resolves, so that nothing is searched. The clauses of the formula are not copied: the
+//! literals on blocked variables are passed over, by the table of the rounds that block them. A number leads to its
+//! step by its offset.
+ghost use Rattle.std.specs.Prelude.{◌≡◌, ◌≤◌, ◌<◌, ◌∷◌, [], ℤ, List, true, false, None, Some, length, option_and_then};
+ghost use Rattle.std.specs.Prelude.{option_map, slice_index_or, IfOk, IfSome, OnOk, IsTrue};
 ghost use Rattle.std.specs.List.{list_all};
 ghost use Rattle.lk_model.specs.Formulas.Literal.{is_literal, contains};
 ghost use Rattle.lk_model.specs.Lists.{among};
@@ -140,7 +142,8 @@ fn states_its_clause(over: &RoundAt, i: usize, work: &mut Work) -> Result<bool, 
     requires round { IsRoundAt over.now }
     requires place { i < length over.now.steps.now }
     requires work { IsWork over.now.formula.now.vars [] work.old }
-    ensures stated { IfOk result (λ stated. (s : AStep) → s ≡ slice_index_or over.now.steps.now i s → stated ≡ states_its_clause (premises_at over.now i) s) }
+    ensures stated { IfOk result (λ stated. (s : AStep) → s ≡ slice_index_or over.now.steps.now i s →
+        stated ≡ states_its_clause (premises_at over.now i) s) }
     ensures work { OnOk result (IsWork over.now.formula.now.vars [] work.new) }
 {
     let step = &over.steps[i];
@@ -156,7 +159,9 @@ fn make_clause(over: &RoundAt, i: usize, step: &Step, work: &mut Work) -> Result
     requires place { i < length over.now.steps.now }
     requires step { step.now ≡ slice_index_or over.now.steps.now i step.now }
     requires work { IsWork over.now.formula.now.vars [] work.old }
-    ensures { IfOk result (λ made. IsMade over.now.formula.now.vars (chain_clause (premises_at over.now i) step.now.first step.now.turns) made work.new) }
+    ensures { IfOk result
+        (λ made. IsMade over.now.formula.now.vars
+        (chain_clause (premises_at over.now i) step.now.first step.now.turns) made work.new) }
 {
     if !start(over, i, step.first, work)? {
         return Ok(false);
@@ -175,7 +180,8 @@ fn start(over: &RoundAt, i: usize, first: u64, work: &mut Work) -> Result<bool, 
     requires place { i < length over.now.steps.now }
     requires first { 0 < first }
     requires work { IsWork over.now.formula.now.vars [] work.old }
-    ensures { IfOk result (λ made. IsMade over.now.formula.now.vars (clause_named (premises_at over.now i) first) made work.new) }
+    ensures { IfOk result
+        (λ made. IsMade over.now.formula.now.vars (clause_named (premises_at over.now i) first) made work.new) }
 {
     match named(over, i, first) {
         Some(clause) => {
@@ -195,7 +201,8 @@ fn take(over: &RoundAt, i: usize, turn: Turn, work: &mut Work) -> Result<bool, O
     requires first { 0 < turn.with }
     requires work { (c : List ℤ) × IsWork over.now.formula.now.vars c work.old }
     ensures { IfOk result (λ made. (c : List ℤ) → IsWork over.now.formula.now.vars c work.old
-        → IsMade over.now.formula.now.vars (option_and_then (resolvent turn.lit c) (clause_named (premises_at over.now i) turn.with)) made work.new) }
+        → IsMade over.now.formula.now.vars
+        (option_and_then (resolvent turn.lit c) (clause_named (premises_at over.now i) turn.with)) made work.new) }
 {
     let Some(clause) = named(over, i, turn.with) else {
         return Ok(false);
@@ -232,7 +239,9 @@ fn named<'a>(over: &RoundAt<'a>, i: usize, k: u64) -> Option<&'a [Lit]>
     requires place { i < length over.now.steps.now }
     requires first { 0 < k }
     ensures none { result ≡ None → clause_named (premises_at over.now i) k ≡ None }
-    ensures some { IfSome result (λ c. clause_named (premises_at over.now i) k ≡ Some (crossed_out (is_before (round_of over.now k) over.now.blocked_at.now) c.now)) }
+    ensures some { IfSome result
+        (λ c. clause_named (premises_at over.now i) k ≡ Some
+        (crossed_out (is_before (round_of over.now k) over.now.blocked_at.now) c.now)) }
     ensures literals { IfSome result (λ c. IsTrue (list_all (is_literal over.now.formula.now.vars) c.now)) }
 {
     if k <= u64::from(over.formula.len()) {
@@ -268,7 +277,8 @@ fn position<'a>(over: &RoundAt<'a>, p: u32) -> Option<&'a [Lit]>
     requires first { 0 < p }
     requires last { p ≤ length over.now.formula.now.clauses }
     ensures none { result ≡ None → among over.now.part.now p ≡ false }
-    ensures some { IfSome result (λ c. (among over.now.part.now p ≡ true) × (c.now ≡ clause_at over.now.formula.now p)) }
+    ensures some { IfSome result (λ c. (among over.now.part.now p ≡ true) ×
+        (c.now ≡ clause_at over.now.formula.now p)) }
     ensures literals { IfSome result (λ c. IsTrue (list_all (is_literal over.now.formula.now.vars) c.now)) }
 {
     if over.flags[p as usize - 1] {

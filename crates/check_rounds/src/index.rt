@@ -1,17 +1,19 @@
 //! Clauses by one literal each.
 //!
-//! A clause stands within another one only if the literal under which it is listed stands there too. So only the lists of
-//! the other clause's literals are gone through, and no clause stands in two lists (one-literal watching; Zhang, "On
-//! Subsumption Removal and On-the-Fly CNF Simplification", 2005). Here the literal is one on a variable that is blocked last,
-//! so that the same lists serve all rounds: where this literal is crossed out, all of the clause is. Among such literals it is
-//! the one with the shortest list so far, so that no list grows long where clauses have rare literals.
-ghost use Rattle.std.specs.Prelude.{◌≡◌, ◌≤◌, ◌<◌, ◌+◌, ◌*◌, ◌⊎◌, ℕ, ℤ, List, [], true, nat_le, length, IfOk, OnOk, IsTrue, MatchOption};
+//! A clause stands within another one only if the literal under which it is listed stands there too. So only the lists
+//! of the other clause's literals are gone through, and no clause stands in two lists (one-literal watching; Zhang, "On
+//! Subsumption Removal and On-the-Fly CNF Simplification", 2005). Here the literal is one on a variable that is blocked
+//! last, so that the same lists serve all rounds: where this literal is crossed out, all of the clause is. Among such
+//! literals it is the one with the shortest list so far, so that no list grows long where clauses have rare literals.
+ghost use Rattle.std.specs.Prelude.{◌≡◌, ◌≤◌, ◌<◌, ◌+◌, ◌*◌, ◌⊎◌, ℕ, ℤ, List, [], true, nat_le, length, IfOk, OnOk};
+ghost use Rattle.std.specs.Prelude.{IsTrue, MatchOption};
 ghost use Rattle.std.specs.List.{list_all};
 ghost use Rattle.lk_model.specs.Formulas.Literal.{is_literal, contains, rank_of};
 ghost use Rattle.lk_model.specs.Documents.Documents.{steps_of};
 ghost use Rattle.lk_model.specs.Documents.Form.{are_steps};
 ghost use Rattle.lk_model.specs.declared.document.Step.{Step as AStep};
-ghost use Rattle.check_rounds.specs.Index.{block_of, list_of, AreClausesFound, AreRoundsFound, AreStepsFound, IsFound, KeepsFound};
+ghost use Rattle.check_rounds.specs.Index.{block_of, list_of, AreClausesListed, AreRoundsListed, AreStepsListed};
+ghost use Rattle.check_rounds.specs.Index.{IsListed, KeepsListed};
 
 use lk_model::{Formula, List, Lit, LitTable, OutOfMemory, Round, Step};
 use std::alloc::Global;
@@ -46,7 +48,7 @@ impl Index {
     pub fn of_formula(alloc: Global, f: &Formula, blocks: &[usize]) -> Result<Index, OutOfMemory>
         requires { length blocks.now ≡ f.now.vars }
         ensures size { IfOk result (λ t. length t ≡ 2 * f.now.vars + 2) }
-        ensures found { IfOk result (λ t. AreClausesFound blocks.now t f.now (length f.now.clauses)) }
+        ensures found { IfOk result (λ t. AreClausesListed blocks.now t f.now (length f.now.clauses)) }
     {
         let mut index = Index::new(alloc, f.vars())?;
         for i in 0..f.len() {
@@ -65,7 +67,7 @@ impl Index {
         requires blocks { length blocks.now ≡ f.now.vars }
         requires steps { IsTrue (are_steps f.now.vars (length f.now.clauses) (steps_of rounds.now)) }
         ensures size { IfOk result (λ t. length t ≡ 2 * f.now.vars + 2) }
-        ensures found { IfOk result (λ t. AreRoundsFound blocks.now t rounds.now) }
+        ensures found { IfOk result (λ t. AreRoundsListed blocks.now t rounds.now) }
     {
         let mut index = Index::new(alloc, f.vars())?;
         for k in 0..rounds.len() {
@@ -80,8 +82,8 @@ impl Index {
         requires size { length self.old ≡ 2 * n + 2 }
         requires literals { IsTrue (list_all (λ (s : AStep). list_all (is_literal n) s.clause) steps.now) }
         ensures size { OnOk result (length self.new ≡ length self.old) }
-        ensures found { OnOk result (AreStepsFound blocks.now self.new steps.now) }
-        ensures kept { OnOk result (KeepsFound blocks.now self.old self.new) }
+        ensures found { OnOk result (AreStepsListed blocks.now self.new steps.now) }
+        ensures kept { OnOk result (KeepsListed blocks.now self.old self.new) }
     {
         for i in 0..steps.len() {
             let step = &steps[i];
@@ -102,8 +104,8 @@ impl Index {
         requires size { length self.old ≡ 2 * n + 2 }
         requires clause { IsTrue (list_all (is_literal n) clause.now) }
         ensures size { OnOk result (length self.new ≡ length self.old) }
-        ensures found { OnOk result (IsFound blocks.now self.new clause.now number) }
-        ensures kept { OnOk result (KeepsFound blocks.now self.old self.new) }
+        ensures found { OnOk result (IsListed blocks.now self.new clause.now number) }
+        ensures kept { OnOk result (KeepsListed blocks.now self.old self.new) }
     {
         if let Some(l) = self.literal_of(n, blocks, clause) {
             self.lists[l].push(number)?;

@@ -1,14 +1,15 @@
 //! The check that each learned clause is new.
 //!
-//! A learned clause contains no clause of the formula, without the literals on variables that are blocked before its round,
-//! and none of an earlier step of the round. Those that it might contain are looked for in the lists of its literals alone,
-//! with a flag for each of its literals; the flags are given back clean. So a step is checked by itself.
-ghost use Rattle.std.specs.Prelude.{◌≡◌, ◌<◌, ◌+◌, ◌*◌, ◌&&◌, ◌||◌, not, [], length, slice_index_or, take, IfOk, IsTrue};
+//! A learned clause contains no clause of the formula, without the literals on variables that are blocked before its
+//! round, and none of an earlier step of the round. Those that it might contain are looked for in the lists of its
+//! literals alone, with a flag for each of its literals; the flags are given back clean. So a step is checked by
+//! itself.
+ghost use Rattle.std.specs.Prelude.{◌≡◌, ◌<◌, ◌+◌, ◌*◌, ◌&&◌, ◌||◌, not, [], length, slice_index_or, take, IfOk};
+ghost use Rattle.std.specs.Prelude.{IsTrue};
 ghost use Rattle.std.specs.List.{list_all, list_any};
-ghost use Rattle.lk_model.specs.Lists.{is_empty};
 ghost use Rattle.lk_model.specs.Formulas.Literal.{complement, is_literal, variable};
 ghost use Rattle.lk_model.specs.Formulas.Formula.{positions_of, is_formula};
-ghost use Rattle.lk_model.specs.Formulas.Crossed.{no_variable, crossed_out};
+ghost use Rattle.lk_model.specs.Formulas.Crossed.{no_variable};
 ghost use Rattle.lk_model.specs.Documents.Documents.{steps_of};
 ghost use Rattle.lk_model.specs.Documents.Form.{are_steps};
 ghost use Rattle.lk_model.specs.Checks.RoundChecks.{not_learned};
@@ -16,7 +17,7 @@ ghost use Rattle.lk_model.specs.declared.document.Step.{Step as AStep};
 ghost use Rattle.lk_model.specs.declared.document.Round.{Round as ARound};
 ghost use Rattle.check_rounds.specs.Blocking.{AreBlocks, is_before};
 ghost use Rattle.check_rounds.specs.Chains.{IsRoundAt, is_unlearned, step_behind};
-ghost use Rattle.check_rounds.specs.Index.{list_of, AreClausesFound, AreRoundsFound};
+ghost use Rattle.check_rounds.specs.Index.{list_of, AreClausesListed, AreRoundsListed};
 ghost use Rattle.check_rounds.specs.Learned.{AreKnown, IsKnown, are_open_but_last, is_clause_within, is_step_within};
 ghost use Rattle.check_tables.specs.LiteralSets.{IsSetOf, has_literal};
 ghost use Rattle.check_rounds.specs.Steps.{AreRounds, first_step, is_step_place};
@@ -49,9 +50,10 @@ impl Known {
         requires blocks { length blocks.now ≡ f.now.vars }
         requires steps { IsTrue (are_steps f.now.vars (length f.now.clauses) (steps_of rounds.now)) }
         ensures clauses_size { IfOk result (λ known. length known.clauses ≡ 2 * f.now.vars + 2) }
-        ensures clauses { IfOk result (λ known. AreClausesFound blocks.now known.clauses f.now (length f.now.clauses)) }
+        ensures clauses { IfOk result
+            (λ known. AreClausesListed blocks.now known.clauses f.now (length f.now.clauses)) }
         ensures steps_size { IfOk result (λ known. length known.steps ≡ 2 * f.now.vars + 2) }
-        ensures steps { IfOk result (λ known. AreRoundsFound blocks.now known.steps rounds.now) }
+        ensures steps { IfOk result (λ known. AreRoundsListed blocks.now known.steps rounds.now) }
     {
         Ok(Known {
             clauses: Index::of_formula(alloc, f, blocks)?,
@@ -122,7 +124,8 @@ fn is_unlearned(over: &RoundAt, known: &Known, i: usize, held: &mut LiteralSet) 
     requires known { IsKnown over.now known.now }
     requires place { i < length over.now.steps.now }
     requires held { IsSetOf over.now.formula.now.vars [] held.old }
-    ensures test { (s : AStep) → s ≡ slice_index_or over.now.steps.now i s → result ≡ is_unlearned (step_behind over.now (take i over.now.steps.now) s) }
+    ensures test { (s : AStep) → s ≡ slice_index_or over.now.steps.now i s →
+        result ≡ is_unlearned (step_behind over.now (take i over.now.steps.now) s) }
     ensures held { IsSetOf over.now.formula.now.vars [] held.new }
 {
     let clause = over.steps[i].clause.as_slice();
@@ -179,7 +182,8 @@ fn contains_clause(n: u32, over: &RoundAt, known: &Known, clause: &[Lit], held: 
     requires vars { n ≡ over.now.formula.now.vars }
     requires clause { IsTrue (list_all (is_literal n) clause.now) }
     requires held { length held.now ≡ 2 * n + 2 }
-    ensures { result ≡ list_any (λ l. list_any (is_clause_within over.now held.now) (list_of known.now.clauses l)) clause.now }
+    ensures { result ≡ list_any
+        (λ l. list_any (is_clause_within over.now held.now) (list_of known.now.clauses l)) clause.now }
 {
     clause
         .iter()
@@ -263,7 +267,8 @@ fn contains_step(
     requires vars { n ≡ over.now.formula.now.vars }
     requires clause { IsTrue (list_all (is_literal n) clause.now) }
     requires held { length held.now ≡ 2 * n + 2 }
-    ensures { result ≡ list_any (λ l. list_any (is_step_within over.now i held.now) (list_of known.now.steps l)) clause.now }
+    ensures { result ≡ list_any
+        (λ l. list_any (is_step_within over.now i held.now) (list_of known.now.steps l)) clause.now }
 {
     clause
         .iter()

@@ -1,7 +1,7 @@
 //! The steps of a document, one after another through all its rounds.
 //!
-//! A step is found by the index of its round and its own index there, and is checked by itself. So a list of these places
-//! is cut into parts, and each part is gone through with tables of its own.
+//! A step is found by the index of its round and its own index there, and is checked by itself. So a list of these
+//! places is cut into parts, and each part is gone through with tables of its own.
 ghost use Rattle.std.specs.Prelude.{◌≡◌, ◌<◌, ◌++◌, length, IfOk, OnOk, IsTrue};
 ghost use Rattle.check_rounds.specs.Steps.{IsRoundOf, is_step_place, places_from, places_in_round, step_at};
 

@@ -1,8 +1,9 @@
 //! The clause that a chain has so far.
 //!
-//! A flag for each literal tells whether the clause holds it, and a list has all literals that it ever held, so that the
-//! flags are given back clean in the time of the chain. So a turn takes the time of the clause that it names.
-ghost use Rattle.std.specs.Prelude.{◌≡◌, ◌≤◌, ◌<◌, ◌+◌, ◌*◌, ◌++◌, ◌∷◌, ◌&&◌, not, [], true, ℕ, ℤ, List, All, length, IfOk, OnOk, IsTrue};
+//! A flag for each literal tells whether the clause holds it, and a list has all literals that it ever held, so that
+//! the flags are given back clean in the time of the chain. So a turn takes the time of the clause that it names.
+ghost use Rattle.std.specs.Prelude.{◌≡◌, ◌≤◌, ◌<◌, ◌+◌, ◌*◌, ◌++◌, ◌∷◌, ◌&&◌, not, [], true, ℕ, ℤ, List, All, length};
+ghost use Rattle.std.specs.Prelude.{IfOk, OnOk, IsTrue};
 ghost use Rattle.std.specs.List.{list_all, list_any};
 ghost use Rattle.std.specs.Ordering.{int_eq};
 ghost use Rattle.lk_model.specs.Formulas.Literal.{is_literal, is_same_set, rank_of, variable};
@@ -48,7 +49,8 @@ impl Work {
     fn add(&mut self, l: Lit) -> Result<(), OutOfMemory>
         requires { rank_of l < length self.old.flags }
         ensures size { OnOk result (length self.new.flags ≡ length self.old.flags) }
-        ensures added { OnOk result ((n : ℕ) (c : List ℤ) → is_literal n l ≡ true → IsWork n c self.old → IsWork n (c ++ l ∷ []) self.new) }
+        ensures added { OnOk result ((n : ℕ) (c : List ℤ) → is_literal n l ≡ true → IsWork n c self.old →
+            IsWork n (c ++ l ∷ []) self.new) }
     {
         if !self.flags.has(l) {
             self.literals.push(l)?;
@@ -61,7 +63,8 @@ impl Work {
     pub fn remove(&mut self, l: Lit)
         requires { rank_of l < length self.old.flags }
         ensures size { length self.new.flags ≡ length self.old.flags }
-        ensures removed { (n : ℕ) (c : List ℤ) → is_literal n l ≡ true → IsWork n c self.old → IsWork n (without c l) self.new }
+        ensures removed { (n : ℕ) (c : List ℤ) → is_literal n l ≡ true → IsWork n c self.old →
+            IsWork n (without c l) self.new }
     {
         self.flags.remove(l);
     }
@@ -77,7 +80,8 @@ impl Work {
         requires clause { IsTrue (list_all (is_literal n) clause.now) }
         requires blocks { length blocks.now ≡ n }
         requires size { length self.old.flags ≡ 2 * n + 2 }
-        ensures { OnOk result ((c : List ℤ) → IsWork n c self.old → IsWork n (c ++ crossed_out (is_before k blocks.now) clause.now) self.new) }
+        ensures { OnOk result ((c : List ℤ) → IsWork n c self.old →
+            IsWork n (c ++ crossed_out (is_before k blocks.now) clause.now) self.new) }
     {
         for l in clause {
             if !is_before(k, blocks, l.var()) {

@@ -1,5 +1,5 @@
-//! What the checks of documents share: searches for a first place on threads, sets of literals, and tables of positions and
-//! of variables.
+//! What the checks of documents share: searches for a first place on threads, sets of literals, and tables of positions
+//! and of variables.
 #![tactic(auto)]
 
 mod literal_set;

@@ -59,7 +59,8 @@ impl LiteralSet {
     pub fn add_all(&mut self, literals: &[Lit])
         requires { All (λ l. rank_of l < length self.old) literals.now }
         ensures size { length self.new ≡ length self.old }
-        ensures added { (n : ℕ) (c : List ℤ) → list_all (is_literal n) literals.now ≡ true → IsSetOf n c self.old → IsSetOf n (c ++ literals.now) self.new }
+        ensures added { (n : ℕ) (c : List ℤ) → list_all (is_literal n) literals.now ≡ true → IsSetOf n c self.old →
+            IsSetOf n (c ++ literals.now) self.new }
     {
         for l in literals {
             self.add(*l);
@@ -78,7 +79,8 @@ impl LiteralSet {
     pub fn remove_all(&mut self, literals: &[Lit])
         requires { All (λ l. rank_of l < length self.old) literals.now }
         ensures size { length self.new ≡ length self.old }
-        ensures removed { (n : ℕ) (c : List ℤ) → list_all (is_literal n) literals.now ≡ true → IsSetOf n c self.old → IsSetOf n (less c literals.now) self.new }
+        ensures removed { (n : ℕ) (c : List ℤ) → list_all (is_literal n) literals.now ≡ true → IsSetOf n c self.old →
+            IsSetOf n (less c literals.now) self.new }
     {
         for l in literals {
             self.remove(*l);

@@ -1,11 +1,12 @@
 //! The first place at which a check fails, searched for in ranges of places on threads.
 //!
-//! The places from 1 on are cut into a range for each worker. Each range is searched from its front, and of what the ranges
-//! find the first counts, so the answer is the same for every number of workers.
+//! The places from 1 on are cut into a range for each worker. Each range is searched from its front, and of what the
+//! ranges find the first counts, so the answer is the same for every number of workers.
 ghost use Rattle.std.specs.Prelude.{◌≡◌, ◌+◌, ◌^◌, ◌<◌, ℕ, Bool, find, option_map, IfOk};
 ghost use Rattle.std.specs.Fn.{FnReturns};
 ghost use Rattle.lk_model.specs.Lists.{up_to};
-ghost use Rattle.check_tables.specs.Places.{AcceptsParts, AcceptsPlaces, AcceptsSpans, AreCut, Decides, Finds, FindsItems, first_answer, places_in};
+ghost use Rattle.check_tables.specs.Places.{AcceptsParts, AcceptsPlaces, AcceptsSpans, AreCut, Decides, Finds};
+ghost use Rattle.check_tables.specs.Places.{FindsItems, first_answer, places_in};
 
 use lk_model::OutOfMemory;
 use par_halves::{Gate, map_halves};
@@ -68,7 +69,8 @@ impl<R: Threads + Sync, G: Gate> Workers<'_, R, G> {
     ) -> Result<Option<u32>, OutOfMemory>
         requires accepts { AcceptsPlaces F.Fn test.now 1 (n + 1) }
         requires few { n + 1 < 2 ^ 32 }
-        ensures { (by : ℕ → Bool) → Decides F.Fn test.now 1 (n + 1) by → IfOk result (λ place. place ≡ find by (up_to n)) }
+        ensures { (by : ℕ → Bool) → Decides F.Fn test.now 1 (n + 1) by →
+            IfOk result (λ place. place ≡ find by (up_to n)) }
     {
         self.least_found(n, &|span| first_passing(span, test))
     }
@@ -136,7 +138,8 @@ impl<R: Threads + Sync, G: Gate> Workers<'_, R, G> {
 fn first_passing<F: Fn(u32) -> bool>(span: Span, test: &F) -> Result<Option<u32>, OutOfMemory>
     requires accepts { AcceptsPlaces F.Fn test.now span.first (span.first + span.count) }
     requires few { span.first + span.count < 2 ^ 32 }
-    ensures { (by : ℕ → Bool) → Decides F.Fn test.now span.first (span.first + span.count) by → IfOk result (λ place. place ≡ find by (places_in span)) }
+    ensures { (by : ℕ → Bool) → Decides F.Fn test.now span.first (span.first + span.count) by →
+        IfOk result (λ place. place ≡ find by (places_in span)) }
 {
     for p in span.first..span.first + span.count {
         if test(p) {

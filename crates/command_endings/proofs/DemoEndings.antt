@@ -20,7 +20,7 @@ use Rattle.lean_checker.specs.Verdicts.{verdict_by, verdict_of, verdict_words}
 use Rattle.lean_checker.specs.declared.verdict.Verdict.TheVariants.{Accepted}
 use Rattle.part_kernels.specs.ByParts.{IsFirstUnfinished}
 use Rattle.demo_formula.specs.Demo.{demo_formula}
-use Rattle.command_endings.specs.Commands.Demonstrating.{conflicts, rows_of, Answers, WritesDemo, IsCheckedSize}
+use Rattle.command_endings.specs.Commands.Demonstrating.{conflicts, demo_rows, Answers, WritesDemo, IsCheckedSize}
 use Rattle.command_endings.specs.Commands.GeneralReducing.{conflicts_line}
 use Rattle.command_endings.specs.Commands.Reporting.{IsKernelSize, row_line}
 use Rattle.reductions.specs.Founds.{document_of, open_document_of, IsFoundFor, IsKernelFound}
@@ -46,7 +46,7 @@ general_size F found r =
 
 -- the lines of a formula that is the number's
 pub writes_demo : (number matching : ℕ) (F : Cnf) (found : Found) (text : List ℕ) → F ≡ demo_formula number → IsTrue (is_formula F) → IsWithinLimits F → IsKernelFound F conflicts found → IsKernelSize Matching F matching
-    → text ≡ flat_map row_line (rows_of number matching (length found.kept)) ++ line (verdict_words Accepted) → WritesDemo number text
+    → text ≡ flat_map row_line (demo_rows number matching (length found.kept)) ++ line (verdict_words Accepted) → WritesDemo number text
 writes_demo number matching F found text is form limits h size told =
     let r = reduces_formula F found form limits h.kernel in
     record {

@@ -1,5 +1,5 @@
 //! How many clauses of a formula are of some kinds.
-ghost use Rattle.std.specs.Prelude.{◌≡◌, ◌+◌, ◌<◌, ◌≤◌, ◌^◌, ℤ, [], length, IfOk, OnOk, IsTrue};
+ghost use Rattle.std.specs.Prelude.{◌≡◌, ◌+◌, ◌<◌, ◌^◌, ℤ, [], length, IfOk, OnOk, IsTrue};
 ghost use Rattle.lk_model.specs.Formulas.Literal.{complement, contains, is_clause, is_literal, is_tautology};
 ghost use Rattle.command_endings.specs.Counting.{counts_of, with_clause};
 

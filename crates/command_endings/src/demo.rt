@@ -6,7 +6,7 @@ ghost use Rattle.lean_checker.specs.declared.verdict.Verdict.TheVariants.{Accept
 ghost use Rattle.lk_model.specs.Checks.Checks.{Accepts};
 ghost use Rattle.lk_model.specs.Formulas.Formula.{is_formula};
 ghost use Rattle.lk_model.specs.Texts.PlainText.{line};
-ghost use Rattle.lk_model.specs.declared.class.Class.TheVariants.{General, Matching};
+ghost use Rattle.lk_model.specs.declared.class.Class.TheVariants.{Matching};
 ghost use Rattle.command_endings.specs.Commands.Demonstrating.{conflicts, Answers, WritesDemo};
 ghost use Rattle.command_endings.specs.Commands.Reporting.{IsKernelSize};
 ghost use Rattle.reductions.specs.Founds.{IsKernelFound};

@@ -1,7 +1,8 @@
 //! What `edits` answers.
 //!
-//! The matching of the live clauses stays maximum from edit to edit by at most one search for each, so that what an edit costs
-//! besides the kernel that is written is this search. A counter, whose ledger the functions that search do not know, shows it.
+//! The matching of the live clauses stays maximum from edit to edit by at most one search for each, so that what an
+//! edit costs besides the kernel that is written is this search. A counter, whose ledger the functions that search do
+//! not know, shows it.
 ghost use Rattle.std.specs.Prelude.{◌≡◌, ◌+◌, ◌≤◌, None, length, IfOk, OnOk, IsTrue};
 ghost use Rattle.edit_text.specs.LiveClauses.{live_of};
 ghost use Rattle.edit_text.specs.Edits.{CanBeMade, after, fault_of, is_edit_over, states};
@@ -35,8 +36,8 @@ pub fn answer(alloc: Global, read: &Edited, options: &Options<'_>) -> Result<End
     })
 }
 
-/// The lines of the matching kernels of what is live: as it stands, and behind each of these edits. For each edit at most one
-/// search is made.
+/// The lines of the matching kernels of what is live: as it stands, and behind each of these edits. For each edit at
+/// most one search is made.
 fn text_of<L>(
     alloc: Global,
     live: &mut Live,

@@ -83,7 +83,8 @@ fn extension(alloc: Global, n: u32, set: &[Lit], model: &Partial) -> Result<List
     requires rising { IsTrue (rises_within 0 n (map variable set.now)) }
     requires vars { length model.now ≡ n }
     ensures literals { IfOk result (λ ls. ls ≡ extended_literals (assignment_of set.now) (assignment_by model.now) n) }
-    ensures values { IfOk result (λ ls. assignment_of ls ≡ extended (assignment_of set.now) (assignment_by model.now) n) }
+    ensures values { IfOk result
+        (λ ls. assignment_of ls ≡ extended (assignment_of set.now) (assignment_by model.now) n) }
 {
     let values = assignment_of(alloc, n, set)?;
     extend_total(alloc, &values, model)

@@ -1,7 +1,8 @@
 //! The lines that the program says.
-ghost use Rattle.std.specs.Prelude.{◌≡◌, ◌++◌, codes, decimal, IfOk, OnOk};
+ghost use Rattle.std.specs.Prelude.{◌≡◌, ◌++◌, decimal, IfOk, OnOk};
 ghost use Rattle.command_endings.specs.Commands.GeneralReducing.{conflicts_line};
-ghost use Rattle.command_endings.specs.Commands.LinearReducing.{budget_line, op_word, operands, too_large_line, too_wide_line};
+ghost use Rattle.command_endings.specs.Commands.LinearReducing.{budget_line, op_word, operands, too_large_line};
+ghost use Rattle.command_endings.specs.Commands.LinearReducing.{too_wide_line};
 ghost use Rattle.command_endings.specs.StopLines.{line_of, formula_line, refusal_line, edits_line};
 ghost use Rattle.edit_text.specs.EditText.{fault_text};
 

@@ -16,7 +16,7 @@ pub record TakesUp (told_before told_now : Told) (before now : Option (List ℕ)
   pub later : faults_before ≤ faults_now
 
 -- at first no byte was taken
-pub nothing_taken : (left : Option (List ℕ)) → Consumes left left []
+pub nothing_taken : (unread : Option (List ℕ)) → Consumes unread unread []
 nothing_taken None = tt
 nothing_taken (Some bytes) = refl
 

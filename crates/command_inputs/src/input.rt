@@ -1,5 +1,6 @@
 //! Reading whole inputs.
-ghost use Rattle.std.specs.Prelude.{◌≡◌, ◌≢◌, OnOk, Some, ℕ, ◌<◌, ◌≤◌, ◌∷◌, [], length, IfOk, IfErr, IfSome, IsTrue, IsErrAnd};
+ghost use Rattle.std.specs.Prelude.{◌≡◌, ◌≢◌, OnOk, Some, ℕ, ◌<◌, ◌≤◌, ◌∷◌, [], length, IfOk, IfErr, IfSome, IsTrue};
+ghost use Rattle.std.specs.Prelude.{IsErrAnd};
 ghost use Rattle.lk_model.specs.Documents.Form.{is_in_form};
 ghost use Rattle.lk_model.specs.Documents.Reading.{IsTextOf};
 ghost use Rattle.lk_model.specs.Texts.Dimacs.{Spells};
@@ -11,8 +12,11 @@ ghost use Rattle.line_text.specs.LineReading.{CanComplete};
 ghost use Rattle.lk_outside.specs.Reads.{ReadTakes};
 ghost use Rattle.lk_outside.specs.Causes.{HasCause, TellsTheSame};
 ghost use Rattle.command_inputs.specs.LineTexts.{IsReadAs};
-ghost use Rattle.command_inputs.specs.Inputs.{nothing_known, AreRead, IsModelRead, StopsReading, StopsText, StopsOn, IsFailure};
-ghost use Rattle.command_words.specs.declared.shape.Grammar.TheVariants.{Formula as FormulaText, Document as DocumentText, Model as ModelText, Answer as AnswerText, Edits as EditsText};
+ghost use Rattle.command_inputs.specs.Inputs.{nothing_known, AreRead, IsModelRead, StopsReading, StopsText, StopsOn};
+ghost use Rattle.command_inputs.specs.Inputs.{IsFailure};
+ghost use Rattle.command_words.specs.declared.shape.Grammar.TheVariants.{Formula as FormulaText};
+ghost use Rattle.command_words.specs.declared.shape.Grammar.TheVariants.{Document as DocumentText, Model as ModelText};
+ghost use Rattle.command_words.specs.declared.shape.Grammar.TheVariants.{Answer as AnswerText, Edits as EditsText};
 
 use crate::stop::Stop;
 use answer_check::{Answer, answer_reader};
@@ -34,7 +38,8 @@ const PIECE: usize = 65_536;
 pub fn read_formula<H: Shelf>(alloc: Global, shelf: &mut H, name: &str) -> Result<Formula, Stop>
     ensures told { TellsTheSame (H.told shelf.old) (H.told shelf.new) }
     ensures formula { IfOk result (λ f. IfSome (H.told shelf.old name.now) (λ bytes. Spells bytes f)) }
-    ensures stop { IfErr result (StopsReading FormulaText nothing_known (H.told shelf.old name.now) (H.ailing shelf.new)) }
+    ensures stop { IfErr result
+        (StopsReading FormulaText nothing_known (H.told shelf.old name.now) (H.ailing shelf.new)) }
     ensures current { IsErrAnd result (λ s. s ≡ Stop.Read) → H.current shelf.new ≡ Some name.now }
     ensures cause { HasCause (H.faults shelf.old) (H.faults shelf.new) (IsErrAnd result (λ s. s ≡ Stop.Read)) }
     ensures well { IsTrue (H.ailing shelf.new) → IsErrAnd result IsFailure }
@@ -48,7 +53,7 @@ pub fn read_formula<H: Shelf>(alloc: Global, shelf: &mut H, name: &str) -> Resul
 fn start_text<H: Shelf>(shelf: &mut H, name: &str) -> Result<(), Stop>
     ensures told { TellsTheSame (H.told shelf.old) (H.told shelf.new) }
     ensures started { OnOk result (IsTrue (H.started shelf.new)) }
-    ensures left { OnOk result (H.left shelf.new ≡ H.told shelf.old name.now) }
+    ensures unread { OnOk result (H.unread shelf.new ≡ H.told shelf.old name.now) }
     ensures stop { IfErr result (StopsText (H.ailing shelf.new)) }
     ensures current { result ≢ Err Stop.Memory → H.current shelf.new ≡ Some name.now }
     ensures cause { HasCause (H.faults shelf.old) (H.faults shelf.new) (IsErrAnd result (λ s. s ≡ Stop.Read)) }
@@ -63,7 +68,7 @@ fn read_piece<H: Shelf>(shelf: &mut H, piece: &mut [u8]) -> Result<usize, Stop>
     requires room { 0 < length piece.old }
     ensures told { TellsTheSame (H.told shelf.old) (H.told shelf.new) }
     ensures bound { IfOk result (λ count. count ≤ length piece.new) }
-    ensures bytes { IfOk result (λ count. ReadTakes (H.left shelf.old) (H.left shelf.new) count piece.new) }
+    ensures bytes { IfOk result (λ count. ReadTakes (H.unread shelf.old) (H.unread shelf.new) count piece.new) }
     ensures started { OnOk result (IsTrue (H.started shelf.new)) }
     ensures stop { IfErr result (λ s. (s ≡ Stop.Read) × IsTrue (H.ailing shelf.new)) }
     ensures current { H.current shelf.new ≡ H.current shelf.old }
@@ -78,8 +83,8 @@ fn read_started<H: Shelf>(alloc: Global, shelf: &mut H, piece: &mut [u8]) -> Res
     requires started { IsTrue (H.started shelf.old) }
     requires room { 0 < length piece.old }
     ensures told { TellsTheSame (H.told shelf.old) (H.told shelf.new) }
-    ensures formula { IfOk result (λ f. IfSome (H.left shelf.old) (λ bytes. Spells bytes f)) }
-    ensures stop { IfErr result (StopsReading FormulaText nothing_known (H.left shelf.old) (H.ailing shelf.new)) }
+    ensures formula { IfOk result (λ f. IfSome (H.unread shelf.old) (λ bytes. Spells bytes f)) }
+    ensures stop { IfErr result (StopsReading FormulaText nothing_known (H.unread shelf.old) (H.ailing shelf.new)) }
     ensures current { H.current shelf.new ≡ H.current shelf.old }
     ensures cause { HasCause (H.faults shelf.old) (H.faults shelf.new) (IsErrAnd result (λ s. s ≡ Stop.Read)) }
     ensures well { IsTrue (H.ailing shelf.new) → IsErrAnd result IsFailure }
@@ -130,7 +135,8 @@ fn read_document<H: Shelf>(alloc: Global, shelf: &mut H, name: &str) -> Result<D
     ensures told { TellsTheSame (H.told shelf.old) (H.told shelf.new) }
     ensures document { IfOk result (λ d. IfSome (H.told shelf.old name.now) (λ bytes. IsTextOf bytes d)) }
     ensures form { IfOk result (λ d. IsTrue (is_in_form d)) }
-    ensures stop { IfErr result (StopsReading DocumentText nothing_known (H.told shelf.old name.now) (H.ailing shelf.new)) }
+    ensures stop { IfErr result
+        (StopsReading DocumentText nothing_known (H.told shelf.old name.now) (H.ailing shelf.new)) }
     ensures current { IsErrAnd result (λ s. s ≡ Stop.Read) → H.current shelf.new ≡ Some name.now }
     ensures cause { HasCause (H.faults shelf.old) (H.faults shelf.new) (IsErrAnd result (λ s. s ≡ Stop.Read)) }
     ensures well { IsTrue (H.ailing shelf.new) → IsErrAnd result IsFailure }
@@ -173,8 +179,8 @@ fn read_started_model<H: Shelf>(
     requires started { IsTrue (H.started shelf.old) }
     requires room { 0 < length piece.old }
     ensures told { TellsTheSame (H.told shelf.old) (H.told shelf.new) }
-    ensures model { IfOk result (IsModelRead (H.left shelf.old) formula.now) }
-    ensures stop { IfErr result (StopsReading ModelText formula.now (H.left shelf.old) (H.ailing shelf.new)) }
+    ensures model { IfOk result (IsModelRead (H.unread shelf.old) formula.now) }
+    ensures stop { IfErr result (StopsReading ModelText formula.now (H.unread shelf.old) (H.ailing shelf.new)) }
     ensures current { H.current shelf.new ≡ H.current shelf.old }
     ensures cause { HasCause (H.faults shelf.old) (H.faults shelf.new) (IsErrAnd result (λ s. s ≡ Stop.Read)) }
     ensures well { IsTrue (H.ailing shelf.new) → IsErrAnd result IsFailure }
@@ -233,7 +239,9 @@ fn read_answer_of<H: Shelf>(
     formula: &Formula,
 ) -> Result<Answer, Stop>
     ensures told { TellsTheSame (H.told shelf.old) (H.told shelf.new) }
-    ensures answer { IfOk result (λ a. IfSome (H.told shelf.old name.now) (λ bytes. IsAnswerText formula.now.vars (length formula.now.clauses) bytes a)) }
+    ensures answer { IfOk result
+        (λ a. IfSome (H.told shelf.old name.now)
+        (λ bytes. IsAnswerText formula.now.vars (length formula.now.clauses) bytes a)) }
     ensures form { IfOk result (λ a. IsTrue (is_answer formula.now.vars (length formula.now.clauses) a)) }
     ensures stop { IfErr result (StopsReading AnswerText formula.now (H.told shelf.old name.now) (H.ailing shelf.new)) }
     ensures current { IsErrAnd result (λ s. s ≡ Stop.Read) → H.current shelf.new ≡ Some name.now }
@@ -308,9 +316,9 @@ fn read_started_edits<H: Shelf>(
     requires started { IsTrue (H.started shelf.old) }
     requires room { 0 < length piece.old }
     ensures told { TellsTheSame (H.told shelf.old) (H.told shelf.new) }
-    ensures edits { IfOk result (λ edits. IfSome (H.left shelf.old) (IsEdits formula.now edits)) }
+    ensures edits { IfOk result (λ edits. IfSome (H.unread shelf.old) (IsEdits formula.now edits)) }
     ensures made { IfOk result (CanBeMade (live_of formula.now)) }
-    ensures stop { IfErr result (StopsReading EditsText formula.now (H.left shelf.old) (H.ailing shelf.new)) }
+    ensures stop { IfErr result (StopsReading EditsText formula.now (H.unread shelf.old) (H.ailing shelf.new)) }
     ensures current { H.current shelf.new ≡ H.current shelf.old }
     ensures cause { HasCause (H.faults shelf.old) (H.faults shelf.new) (IsErrAnd result (λ s. s ≡ Stop.Read)) }
     ensures well { IsTrue (H.ailing shelf.new) → IsErrAnd result IsFailure }
@@ -362,7 +370,7 @@ fn read_started_lines<H: Shelf, R: LineReader + Drop>(
     requires first { R.count reader ≡ 0 }
     requires completed { CanComplete (R.completes reader) }
     ensures told { TellsTheSame (H.told shelf.old) (H.told shelf.new) }
-    ensures read { IfOk result (IsReadAs (R.completes reader) (H.left shelf.old)) }
+    ensures read { IfOk result (IsReadAs (R.completes reader) (H.unread shelf.old)) }
     ensures stop { IfErr result (StopsText (H.ailing shelf.new)) }
     ensures current { H.current shelf.new ≡ H.current shelf.old }
     ensures cause { HasCause (H.faults shelf.old) (H.faults shelf.new) (IsErrAnd result (λ s. s ≡ Stop.Read)) }

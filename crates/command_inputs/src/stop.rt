@@ -1,7 +1,8 @@
 //! Why a command ends without its result.
 ghost use Rattle.std.specs.Prelude.{◌≡◌};
 ghost use Rattle.command_inputs.specs.declared.stop.Stop.TheVariants.{Memory as MemoryStop, Read as ReadStop};
-ghost use Rattle.command_inputs.specs.Stops.{stop_of, start_stop_of, read_stop_of, model_stop_of, answer_stop_of, edits_stop_of};
+ghost use Rattle.command_inputs.specs.Stops.{stop_of, start_stop_of, read_stop_of, model_stop_of, answer_stop_of};
+ghost use Rattle.command_inputs.specs.Stops.{edits_stop_of};
 
 use dimacs_reader::Refused;
 use edit_text::{EditFault, EditsRefused};
@@ -18,7 +19,8 @@ pub enum Stop {
     Words(usize),
     /// The text of the formula is refused.
     Formula(Refused),
-    /// The text is of none of the documents that are read; the first line with which none of them goes on, counted from 1.
+    /// The text is of none of the documents that are read; the first line with which none of them goes on, counted from
+    /// 1.
     Document(u64),
     /// The text is no model for the formula; its first faulty line, counted from 1.
     Model(u64),

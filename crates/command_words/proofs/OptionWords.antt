@@ -8,7 +8,7 @@ use Rattle.std.proofs.lemmas.Slice.Eq.{bytes_eq-Decides}
 use Rattle.lk_model.specs.Texts.Lines.{Word}
 use Rattle.lk_model.specs.Texts.NumberWords.{natural}
 use Rattle.lk_model.proofs.Booleans.{and_true, or_true}
-use Rattle.command_words.specs.Settings.{Key, conflicts, is_in_range, is_number_of, is_value_of, is_allowed, sets, parts_of, number_within, value_behind, number_in}
+use Rattle.command_words.specs.Settings.{Key, conflicts, is_in_range, is_number_of, is_value_of, is_allowed, sets, parts_of, number_within, value_behind, option_number}
 use Rattle.command_words.specs.OptionRows.{number_or, number_given}
 use Rattle.command_words.specs.OptionPlaces.{is_new, is_value}
 use Rattle.command_words.specs.declared.range.Range.{Range}
@@ -93,7 +93,7 @@ within_is range None e = refl
 within_is range (Some n) e = rw e refl
 
 -- so among options the code finds the number that they give
-pub number_is : (keys : List Key) (words : List Word) (key : Key) (usual : ℕ) → key.is_list ≡ false → agrees keys key ≡ true → fits keys [] words ≡ true → number_in key usual words ≡ number_given key usual words
+pub number_is : (keys : List Key) (words : List Word) (key : Key) (usual : ℕ) → key.is_list ≡ false → agrees keys key ≡ true → fits keys [] words ≡ true → option_number key usual words ≡ number_given key usual words
 number_is keys words key usual single a f = by (value_behind key.word words) refl
   where
     by : (o : Option Word) → value_behind key.word words ≡ o → unwrap_or (option_and_then natural o) usual ≡ number_or key usual o

@@ -4,7 +4,6 @@ use Rattle.std.specs.Str.{bytes_eq}
 use Rattle.lk_model.specs.Texts.Lines.{Word}
 use Rattle.command_words.specs.Shapes.{words_of}
 use Rattle.command_words.specs.Lawful as lawful
-use Rattle.command_words.specs.Lawful.{behind}
 use Rattle.command_words.specs.OptionRows.{values_of}
 use Rattle.command_words.specs.declared.command.Command.{Command}
 use Rattle.command_words.specs.declared.options.Options.{Options}

@@ -101,8 +101,8 @@ value_behind option (word ∷ []) = None
 value_behind option (word ∷ value ∷ words) = if bytes_eq word option then Some value else value_behind option words
 
 -- the number behind it, or the usual one where the option is not given
-abbrev pub number_in : Key → ℕ → List Word → ℕ
-number_in key usual words = unwrap_or (option_and_then natural (value_behind key.word words)) usual
+abbrev pub option_number : Key → ℕ → List Word → ℕ
+option_number key usual words = unwrap_or (option_and_then natural (value_behind key.word words)) usual
 
 -- the numbers of a list
 abbrev pub listed : Word → List ℕ
@@ -112,9 +112,9 @@ listed value = filter_map natural (parts_of value)
 abbrev pub options_by : List Word → Options
 options_by words = record {
   number = 0;
-  conflicts = number_in conflicts 100000 words;
-  pivots = number_in pivots 100000 words;
-  workers = number_in workers 1 words;
+  conflicts = option_number conflicts 100000 words;
+  pivots = option_number pivots 100000 words;
+  workers = option_number workers 1 words;
   protect = option_map listed (value_behind protect.word words);
 }
 

@@ -1,5 +1,6 @@
 //! The options of a command: pairs of an option's word and its value.
-ghost use Rattle.std.specs.Prelude.{◌≡◌, ◌<◌, ◌≤◌, ◌^◌, [], map, length, take, drop, Some, IfErr, MatchResult, option_map};
+ghost use Rattle.std.specs.Prelude.{◌≡◌, ◌<◌, ◌≤◌, [], map, length, Some, IfErr, MatchResult};
+ghost use Rattle.std.specs.Prelude.{option_map};
 ghost use Rattle.command_words.specs.OptionPlaces.{is_word_of, is_new_at, is_value_first, refused_place};
 ghost use Rattle.command_words.specs.OptionRows.{known, number_or, given_by, values_of};
 ghost use Rattle.command_words.specs.Settings.{options_of, is_allowed, value_behind};
@@ -100,15 +101,15 @@ fn given<'a>(words: &[&'a str]) -> Options<'a>
 {
     Options {
         number: 0,
-        conflicts: Budget::new(number_in(CONFLICTS, words, 100_000)).unwrap(),
-        pivots: number_in(PIVOTS, words, 100_000),
-        workers: Workers::new(number_in(WORKERS, words, 1)).unwrap(),
+        conflicts: Budget::new(option_number(CONFLICTS, words, 100_000)).unwrap(),
+        pivots: option_number(PIVOTS, words, 100_000),
+        workers: Workers::new(option_number(WORKERS, words, 1)).unwrap(),
         protect: value_behind(words, PROTECT.word),
     }
 }
 
 /// The number that is given for an option, or else the usual one.
-fn number_in(key: Key, words: &[&str], usual: u64) -> u64
+fn option_number(key: Key, words: &[&str], usual: u64) -> u64
     ensures { result ≡ number_or (known key) usual (value_behind key.word.now (map (λ w. w.now) words.now)) }
 {
     match value_behind(words, key.word) {

@@ -16,8 +16,8 @@ pub enum Grammar {
     Document,
     /// A model for the variables of the formula before it.
     Model,
-    /// An answer for the variables and the clauses of the formula before it: a model of it, a refutation, or a minimally
-    /// unsatisfiable core.
+    /// An answer for the variables and the clauses of the formula before it: a model of it, a refutation, or a
+    /// minimally unsatisfiable core.
     Answer,
     /// Edits of the formula before it: clauses that are added and numbers of clauses that are removed.
     Edits,

@@ -1,5 +1,5 @@
 -- What a core in form is made of.
-use Rattle.std.proofs.Common.{◌≡◌, ◌∙◌, true, ◌&&◌, ◌==◌, length}
+use Rattle.std.proofs.Common.{◌≡◌, true, ◌==◌, length}
 use Rattle.std.specs.List.{list_all}
 use Rattle.std.proofs.lemmas.Bool.{eqb-true}
 use Rattle.lk_model.specs.Lists.{rises_within}

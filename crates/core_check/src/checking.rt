@@ -35,7 +35,9 @@ fn step_failure(alloc: Global, f: &Formula, a: &MusAnswer) -> Result<Option<Why>
     requires form { IsTrue (is_core_in_form a.now) }
     requires vars { a.now.vars ≡ f.now.vars }
     requires clauses { a.now.clauses ≡ length f.now.clauses }
-    ensures { IfOk result (λ why. why ≡ first_of (bad_step no_variable f.now a.now.core (a.now.round ∷ []) ∷ bad_without f.now a.now.core a.now.without ∷ [])) }
+    ensures { IfOk result
+        (λ why. why ≡ first_of
+        (bad_step no_variable f.now a.now.core (a.now.round ∷ []) ∷ bad_without f.now a.now.core a.now.without ∷ [])) }
 {
     match misstated_step(alloc, f, a.core.as_slice(), &a.round)? {
         Some(number) => Ok(Some(Why {

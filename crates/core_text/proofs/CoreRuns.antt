@@ -30,9 +30,10 @@ use Rattle.round_text.specs.RoundLines.{fresh_rounds, next_step, is_round, round
 use Rattle.round_text.specs.declared.read_rounds.RoundsPart.{RoundsPart}
 use Rattle.round_text.proofs.CleanRounds.{clean_round}
 use Rattle.round_text.proofs.RoundRuns.{rounds_run, open_at, shut_at, whole_run, numbered_from_first}
-use Rattle.formula_text.specs.FormulaLines.{problem_line, next_clause}
+use Rattle.line_text.specs.SizeLines.{problem_line}
+use Rattle.formula_text.specs.FormulaLines.{next_clause}
 use Rattle.formula_text.proofs.ClauseForms.{clauses_run, formula_with, clauses_back}
-use Rattle.formula_text.proofs.SizeForms.{sizes_are, problem_is}
+use Rattle.line_text.proofs.SizeForms.{sizes_are, problem_is}
 use Rattle.core_text.specs.CoreDrafts.{format_line, size_line, fresh_core, with_rounds, without_within, next_without, next_problem, next_draft, last_round, core_by, is_core_of, core_drafts}
 use Rattle.core_text.specs.declared.draft.CoreDraft.{CoreDraft}
 use Rattle.core_text.specs.declared.draft.LineDue.TheVariants.{Sizes, Positions, Steps, Witnesses, Clauses}

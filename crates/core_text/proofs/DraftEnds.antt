@@ -20,7 +20,7 @@ use Rattle.line_text.proofs.Options.{map_some}
 use Rattle.round_text.specs.RoundLines.{rounds_lines}
 use Rattle.round_text.proofs.RoundEnds.{shut_rounds, opened_rounds, rounds_opened, rounds_shut, few_steps}
 use Rattle.core_text.proofs.OneRounds.{one_shut, ended_lines, ended_form}
-use Rattle.formula_text.specs.FormulaLines.{problem_line}
+use Rattle.line_text.specs.SizeLines.{problem_line}
 use Rattle.formula_text.proofs.ClauseForms.{formula_with, missing, filled}
 use Rattle.core_text.specs.CoreDrafts.{size_line, head_lines, lines_before, draft_lines, last_round, is_at_clauses, has_ended, core_by, finished, is_core_of, core_drafts}
 use Rattle.core_text.specs.declared.draft.CoreDraft.{CoreDraft}

@@ -18,8 +18,9 @@ use Rattle.round_text.specs.RoundLines.{rounds_lines, rounds_next}
 use Rattle.round_text.specs.declared.read_rounds.RoundsPart.{RoundsPart}
 use Rattle.round_text.proofs.RoundParts.{IsRoundsStep, rounds_step}
 use Rattle.core_text.proofs.OneRounds.{IsOneRound, one_step}
-use Rattle.formula_text.specs.FormulaLines.{has_sizes, problem_line, is_problem, next_clause}
-use Rattle.formula_text.proofs.SizeForms.{sizes_form, problem_form}
+use Rattle.line_text.specs.SizeLines.{has_sizes, problem_line, is_problem}
+use Rattle.formula_text.specs.FormulaLines.{next_clause}
+use Rattle.line_text.proofs.SizeForms.{sizes_form, problem_form}
 use Rattle.formula_text.proofs.ClauseForms.{clause_step}
 use Rattle.core_text.specs.CoreDrafts.{format_line, size_line, head_lines, lines_before, draft_lines, is_format, next_format, next_sizes, next_positions, with_rounds, next_step, without_within, due_position, next_without, next_problem, next_witness, next_text, next_at, next_draft}
 use Rattle.core_text.specs.declared.draft.CoreDraft.{CoreDraft}

@@ -17,7 +17,8 @@ use Rattle.line_text.specs.Fields.{after, number_within}
 use Rattle.line_text.specs.FieldLists.{rising_from, literals_from}
 use Rattle.round_text.specs.RoundLines.{fresh_rounds, rounds_next, rounds_lines}
 use Rattle.round_text.specs.declared.read_rounds.RoundsPart.{RoundsPart}
-use Rattle.formula_text.specs.FormulaLines.{has_sizes, problem_line, is_problem, next_clause, IsReady}
+use Rattle.line_text.specs.SizeLines.{has_sizes, problem_line, is_problem}
+use Rattle.formula_text.specs.FormulaLines.{next_clause, IsReady}
 use Rattle.core_text.specs.declared.draft.CoreDraft.{CoreDraft}
 use Rattle.core_text.specs.declared.draft.LineDue.{LineDue}
 use Rattle.core_text.specs.declared.draft.LineDue.TheVariants.{Format, Sizes, Positions, Steps, Witnesses, Clauses}

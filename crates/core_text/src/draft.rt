@@ -1,5 +1,5 @@
 //! What was read of the text of a core so far.
-ghost use Rattle.std.specs.Prelude.{◌≡◌, ◌≤◌, ◌&&◌, ◌==◌, IfOk, length};
+ghost use Rattle.std.specs.Prelude.{◌≡◌, ◌≤◌, ◌&&◌, ◌==◌, IfOk};
 ghost use Rattle.lk_model.specs.Limits.{max_vars};
 ghost use Rattle.core_text.specs.CoreDrafts.{finished, fresh_core, has_ended, last_round};
 

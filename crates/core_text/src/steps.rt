@@ -4,7 +4,9 @@ ghost use Rattle.lk_model.specs.Limits.{max_vars, max_clauses};
 ghost use Rattle.line_text.specs.Fields.{fields};
 ghost use Rattle.line_text.specs.Taking.{IsTaken};
 ghost use Rattle.formula_text.specs.FormulaLines.{IsReady};
-ghost use Rattle.core_text.specs.CoreDrafts.{is_format, next_format, next_sizes, next_positions, next_step, without_within, next_without, next_problem, next_witness, next_text, next_draft, IsReadyDraft};
+ghost use Rattle.core_text.specs.CoreDrafts.{is_format, next_format, next_sizes, next_positions, next_step};
+ghost use Rattle.core_text.specs.CoreDrafts.{without_within, next_without, next_problem, next_witness, next_text};
+ghost use Rattle.core_text.specs.CoreDrafts.{next_draft, IsReadyDraft};
 
 use crate::draft::{CoreDraft, LineDue};
 use formula_text::{has_sizes, is_problem, take_clause};

@@ -106,15 +106,15 @@ pub whole_kernel : (F : Cnf) (kept : List ℕ) → KernelWithin class.Matching F
 whole_kernel F kept k = record { positions = k.positions; lean = k.lean; largest = λ S within. k.largest S (λ p s. in_positions F p (within p s)) }
 
 -- All that is promised of a result, from a maximum matching and what is reached from it.
-pub record IsFound (F : Cnf) (r : Reached) (own : List Own) (d : ℕ) : Type 0 where
+pub record IsAttained (F : Cnf) (r : Reached) (own : List Own) (d : ℕ) : Type 0 where
   pub is_value : IsMaxDeficiency F d
   pub is_kernel : Kernel class.Matching F r.kept
   pub has_it : HasSurplus F r.kept d
   pub owners : AreOwners F own
 
-pub is_found : ReachedLaw → (F : Cnf) (m : Matching) (r : Reached) (own : List Own) (d : ℕ) → is_formula F ≡ true → IsWithinLimits F → are_positions F (positions_of F) ≡ true
-    → IsMaximum F (positions_of F) m → IsReached F (positions_of F) m r → own ≡ pairs_of (positions_of F) m.of_clause → length own + d ≡ length F.clauses → IsFound F r own d
-is_found law F m r own d form limits rise most h e n =
+pub is_attained : ReachedLaw → (F : Cnf) (m : Matching) (r : Reached) (own : List Own) (d : ℕ) → is_formula F ≡ true → IsWithinLimits F → are_positions F (positions_of F) ≡ true
+    → IsMaximum F (positions_of F) m → IsReached F (positions_of F) m r → own ≡ pairs_of (positions_of F) m.of_clause → length own + d ≡ length F.clauses → IsAttained F r own d
+is_attained law F m r own d form limits rise most h e n =
     let owners = subst (λ (o : List Own). AreOwners F o) (sym e) (pairs_own F (positions_of F) m rise most.matching) in
     let surplus = reached_surplus F m r d form rise most h (subst (λ (o : List Own). length o + d ≡ length F.clauses) e n) in
     record {

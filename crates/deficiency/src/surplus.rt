@@ -1,14 +1,14 @@
 //! The maximal deficiency.
 //!
-//! The deficiency of a set of clauses is the number of them less the number of variables that occur in them. Its greatest
-//! value over all sets of clauses of a formula is how many clauses a maximum matching leaves without a variable of their
-//! own (König's theorem, as Hall's with a defect: Ore, "Graphs and Matching Theorems", 1955), and the matching kernel has it:
-//! it is the least set that does (Kullmann, "Lean Clause-Sets: Generalizations of Minimally Unsatisfiable Clause-Sets", 2003;
-//! the contracts say only that it has it).
+//! The deficiency of a set of clauses is the number of them less the number of variables that occur in them. Its
+//! greatest value over all sets of clauses of a formula is how many clauses a maximum matching leaves without a
+//! variable of their own (König's theorem, as Hall's with a defect: Ore, "Graphs and Matching Theorems", 1955), and the
+//! matching kernel has it: it is the least set that does (Kullmann, "Lean Clause-Sets: Generalizations of Minimally
+//! Unsatisfiable Clause-Sets", 2003; the contracts say only that it has it).
 //!
-//! One maximum matching and one search from what it leaves give all three parts of the result. What shows the value is so small
-//! that it can be checked by counting: the set from below, the variables of the clauses' own from above.
-ghost use Rattle.std.specs.Prelude.{◌≡◌, ◌+◌, ◌≤◌, length, map, filter, zip, IfOk, IsTrue};
+//! One maximum matching and one search from what it leaves give all three parts of the result. What shows the value is
+//! so small that it can be checked by counting: the set from below, the variables of the clauses' own from above.
+ghost use Rattle.std.specs.Prelude.{◌≡◌, ◌+◌, ◌≤◌, length, map, filter, zip, IfOk};
 ghost use Rattle.lk_model.specs.Formulas.Lean.{Kernel};
 ghost use Rattle.lk_model.specs.declared.class.Class.TheVariants.{Matching};
 ghost use Rattle.deficiency.specs.Deficiency.{AreOwners, HasSurplus, IsMaxDeficiency, pairs_of};

@@ -1,7 +1,8 @@
 //! Clauses that are drawn from the words of a generator.
-ghost use Rattle.std.specs.Prelude.{◌≡◌, ◌+◌, ◌∷◌, ◌≤◌, [], length, OnOk, IfOk, IsTrue};
+ghost use Rattle.std.specs.Prelude.{◌≡◌, ◌+◌, ◌≤◌, length, OnOk, IfOk, IsTrue};
 ghost use Rattle.lk_model.specs.Formulas.Literal.{is_clause, is_literal, mentions};
-ghost use Rattle.demo_formula.specs.Demo.{rest, with_literal, drawn_variable, drawn_literal, drawn_clause, after_clause};
+ghost use Rattle.demo_formula.specs.Demo.{rest, with_literal, drawn_variable, drawn_literal, drawn_clause};
+ghost use Rattle.demo_formula.specs.Demo.{after_clause};
 
 use lk_model::{Lit, OutOfMemory};
 use rand_core::utils::NextWord;

@@ -71,9 +71,6 @@ pub words_texts : (n : ℕ) (bytes : List ℕ) → texts (words_after n bytes) �
 words_texts n bytes =
     texts_filter (λ word. not (is_empty word)) (placed_after n (slice_split is_blank bytes)) ∙ ap (filter (λ word. not (is_empty word))) (texts_placed n (slice_split is_blank bytes))
 
-pub blank_before : (b : ℕ) (bs : List ℕ) → is_blank b ≡ true → words_in (b ∷ bs) ≡ words_in bs
-blank_before b bs h = ap (filter (λ word. not (is_empty word))) (slice_split-cons_yes is_blank b bs h)
-
 pub word_before : (word rest : List ℕ) → 0 < length word → has_no_blank word ≡ true → (b : ℕ) → is_blank b ≡ true → words_in (word ++ b ∷ rest) ≡ word ∷ words_in rest
 word_before word rest some h b blank =
     ap (filter (λ w. not (is_empty w))) (slice_split_at is_blank word b rest (none_pass is_blank word h) blank)

@@ -17,7 +17,8 @@ use Rattle.dimacs_reader.specs.Words.{AreDigits}
 use Rattle.dimacs_reader.specs.ProblemLines.{BeginsAs, IsLineSoFar, problem_line_kind}
 use Rattle.dimacs_reader.specs.declared.problem.ProblemLine.{ProblemLine}
 use Rattle.dimacs_reader.specs.declared.problem.ProblemLine.TheVariants.{P, BehindP, C, Cn, Cnf, BehindCnf, Vars, BehindVars, Clauses, BehindClauses, Other}
-use Rattle.dimacs_reader.proofs.Cuts.{blank_before, word_before, one_word, grows}
+use Rattle.lk_model.proofs.Pieces.{blank_before}
+use Rattle.dimacs_reader.proofs.Cuts.{word_before, one_word, grows}
 use Rattle.dimacs_reader.proofs.Digits.{digits_no_blank, digits_more, one_digit, natural_is, natural_wrong}
 
 -- BYTES BEHIND

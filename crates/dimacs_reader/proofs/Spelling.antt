@@ -1,5 +1,5 @@
 -- Texts and what they spell, by the bytes of their lines.
-use Rattle.std.proofs.Common.{◌≡◌, ℕ, suc, ◌+◌, ◌-◌, ◌≤◌, ◌∙◌, Bool, true, false, not, cond, ◌||◌, ◌==◌, List, [], ◌∷◌, ◌++◌, length, take, map, refl, sym, ap, arith, inl, inr, Some}
+use Rattle.std.proofs.Common.{◌≡◌, ℕ, suc, ◌+◌, ◌≤◌, ◌∙◌, Bool, true, false, not, cond, ◌||◌, ◌==◌, List, [], ◌∷◌, ◌++◌, length, take, map, refl, sym, ap, arith, inl, inr, Some}
 use Rattle.std.specs.Prelude.{filter, flat_map, take_while}
 use Rattle.std.specs.List.{slice_split, prefix_len}
 use Rattle.std.proofs.lemmas.Bool.{cases_Bool}
@@ -11,15 +11,10 @@ use Rattle.lk_model.specs.Texts.Lines.{Piece, Word, is_newline, lines_of, words_
 use Rattle.lk_model.specs.Texts.NumberWords.{number}
 use Rattle.lk_model.specs.Texts.Dimacs.{Spells, first_byte, is_blank_line, is_comment, is_end_mark, content_lines, stated_by}
 use Rattle.dimacs_reader.specs.Contents.{words_in, first_of, is_end, is_content, content_of, IsWritten}
-use Rattle.dimacs_reader.proofs.Cuts.{words_texts}
 use Rattle.dimacs_reader.proofs.OutcomeLaws.{content_line, with_line}
-use Rattle.lk_model.proofs.Pieces.{texts_placed}
+use Rattle.lk_model.proofs.Pieces.{texts_placed, words_by}
 
 -- PIECES BY THEIR BYTES
-
--- the words of a line
-words_by : (line : Piece) → texts (words_of line) ≡ words_in line.bytes
-words_by line = words_texts (line.last - length line.bytes) line.bytes
 
 first_by : (words : List Piece) → first_byte words ≡ first_of (texts words)
 first_by [] = refl

@@ -3,7 +3,8 @@ ghost use Rattle.std.specs.Prelude.{◌≡◌, ◌<◌, ◌≤◌, ◌+◌, ◌�
 ghost use Rattle.lk_model.specs.Formulas.Literal.{is_literal};
 ghost use Rattle.lk_model.specs.Limits.{max_vars, max_clauses};
 ghost use Rattle.dimacs_reader.specs.Faults.{ForFault};
-ghost use Rattle.dimacs_reader.specs.ReadStates.{Fits, HasRead, Leads, HasFault, HasFaultAtEnd, Closes, Writes, closed, with_literal, is_short_of};
+ghost use Rattle.dimacs_reader.specs.ReadStates.{Fits, HasRead, Leads, HasFault, HasFaultAtEnd, Closes, Writes, closed};
+ghost use Rattle.dimacs_reader.specs.ReadStates.{with_literal, is_short_of};
 ghost use Rattle.dimacs_reader.specs.Words.{IsWordSoFar};
 
 use crate::stop::{Stop, fault_at};
@@ -54,8 +55,10 @@ fn add_literal(state: &mut ReadState, lit: Lit) -> Result<(), OutOfMemory>
 pub(crate) fn add_word(state: &mut ReadState, word: WordSoFar, place: usize) -> Result<(), Stop>
     requires { Fits state.old }
     ensures fits { OnOk result (Fits state.new) }
-    ensures ok { (bytes : List ℕ) → IsWordSoFar bytes word → OnOk result (Leads (record { bytes = bytes; last = place } ∷ []) state.old state.new) }
-    ensures fault { (bytes : List ℕ) → IsWordSoFar bytes word → IfErr result (λ s. ForFault s (HasFault (record { bytes = bytes; last = place } ∷ []) state.old)) }
+    ensures ok { (bytes : List ℕ) → IsWordSoFar bytes word →
+        OnOk result (Leads (record { bytes = bytes; last = place } ∷ []) state.old state.new) }
+    ensures fault { (bytes : List ℕ) → IsWordSoFar bytes word →
+        IfErr result (λ s. ForFault s (HasFault (record { bytes = bytes; last = place } ∷ []) state.old)) }
 {
     let Some(number) = number_of(word, state.growing.vars()) else {
         return Err(stop_at(FaultKind::BadToken, place));

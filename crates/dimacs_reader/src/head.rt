@@ -33,7 +33,8 @@ pub(crate) enum HeadStep {
 pub(crate) fn head_step(line: HeadLine, byte: u8, before: usize) -> Result<HeadStep, Fault>
     requires { before < usize.MAX }
     ensures limits { IfOk result IsWithinLimits }
-    ensures ok { (fed : List ℕ) → length fed ≡ before → StandsInHead fed line → IfOk result (StandsAt (fed ++ byte ∷ [])) }
+    ensures ok { (fed : List ℕ) → length fed ≡ before → StandsInHead fed line →
+        IfOk result (StandsAt (fed ++ byte ∷ [])) }
     ensures fault { (fed : List ℕ) → length fed ≡ before → StandsInHead fed line → IfErr result (IsMet fed byte) }
 {
     match byte_kind(byte) {
@@ -46,7 +47,8 @@ pub(crate) fn head_step(line: HeadLine, byte: u8, before: usize) -> Result<HeadS
 /// Takes the end of the line, behind so many bytes.
 fn end_line(line: HeadLine, before: usize) -> Result<HeadStep, Fault>
     ensures limits { IfOk result IsWithinLimits }
-    ensures ok { (fed : List ℕ) → length fed ≡ before → StandsInHead fed line → IfOk result (StandsAt (fed ++ 10 ∷ [])) }
+    ensures ok { (fed : List ℕ) → length fed ≡ before → StandsInHead fed line →
+        IfOk result (StandsAt (fed ++ 10 ∷ [])) }
     ensures fault { (fed : List ℕ) → length fed ≡ before → StandsInHead fed line → IfErr result (IsMet fed 10) }
 {
     let HeadLine::Problem(problem) = line else {
@@ -60,7 +62,8 @@ fn end_line(line: HeadLine, before: usize) -> Result<HeadStep, Fault>
 pub(crate) fn stated_at(line: ProblemLine, last: usize) -> Result<(u32, u32), Fault>
     ensures limits { IfOk result (λ h. (h.0 ≤ max_vars) × (h.1 ≤ max_clauses)) }
     ensures ok { (bytes : List ℕ) → IsLineSoFar bytes line → IfOk result (λ h. stated_by (words_in bytes) ≡ Some h) }
-    ensures fault { (bytes : List ℕ) → IsLineSoFar bytes line → IfErr result (λ f. (problem_line_kind (stated_by (words_in bytes)) ≡ Some f.kind) × (f.place ≡ last)) }
+    ensures fault { (bytes : List ℕ) → IsLineSoFar bytes line →
+        IfErr result (λ f. (problem_line_kind (stated_by (words_in bytes)) ≡ Some f.kind) × (f.place ≡ last)) }
 {
     match stated(line) {
         Ok(numbers) => Ok(numbers),
@@ -70,7 +73,8 @@ pub(crate) fn stated_at(line: ProblemLine, last: usize) -> Result<(u32, u32), Fa
 
 /// The line with a blank behind it.
 fn with_blank(line: HeadLine) -> HeadLine
-    ensures { (fed : List ℕ) → (blank : ℕ) → is_blank blank ≡ true → is_newline blank ≡ false → StandsInHead fed line → StandsInHead (fed ++ blank ∷ []) result }
+    ensures { (fed : List ℕ) → (blank : ℕ) → is_blank blank ≡ true → is_newline blank ≡ false → StandsInHead fed line →
+        StandsInHead (fed ++ blank ∷ []) result }
 {
     match line {
         HeadLine::Problem(problem) => HeadLine::Problem(line_with_blank(problem)),
@@ -83,7 +87,8 @@ fn with_byte(line: HeadLine, byte: u8, before: usize) -> Result<HeadLine, Fault>
     requires room { before < usize.MAX }
     requires no_newline { is_newline byte ≡ false }
     requires no_blank { is_blank byte ≡ false }
-    ensures ok { (fed : List ℕ) → length fed ≡ before → StandsInHead fed line → IfOk result (StandsInHead (fed ++ byte ∷ [])) }
+    ensures ok { (fed : List ℕ) → length fed ≡ before → StandsInHead fed line →
+        IfOk result (StandsInHead (fed ++ byte ∷ [])) }
     ensures fault { (fed : List ℕ) → length fed ≡ before → StandsInHead fed line → IfErr result (IsMet fed byte) }
 {
     match line {
@@ -97,8 +102,10 @@ fn with_byte(line: HeadLine, byte: u8, before: usize) -> Result<HeadLine, Fault>
 fn begun(byte: u8, place: usize) -> Result<HeadLine, Fault>
     requires no_newline { is_newline byte ≡ false }
     requires no_blank { is_blank byte ≡ false }
-    ensures ok { (fed : List ℕ) → length fed + 1 ≡ place → StandsInHead fed HeadLine.Start → IfOk result (StandsInHead (fed ++ byte ∷ [])) }
-    ensures fault { (fed : List ℕ) → length fed + 1 ≡ place → StandsInHead fed HeadLine.Start → IfErr result (IsMet fed byte) }
+    ensures ok { (fed : List ℕ) → length fed + 1 ≡ place → StandsInHead fed HeadLine.Start →
+        IfOk result (StandsInHead (fed ++ byte ∷ [])) }
+    ensures fault { (fed : List ℕ) → length fed + 1 ≡ place → StandsInHead fed HeadLine.Start →
+        IfErr result (IsMet fed byte) }
 {
     match byte {
         b'c' => Ok(HeadLine::Comment),

@@ -35,8 +35,10 @@ pub(crate) fn number_step(
     requires fits { Fits state.old }
     requires room { before < usize.MAX }
     ensures fits { OnOk result (Fits state.new) }
-    ensures ok { (fed : List ℕ) → length fed ≡ before → StandsInNumbers fed state.old line → IfOk result (StandsInNumbers (fed ++ byte ∷ []) state.new) }
-    ensures fault { (fed : List ℕ) → length fed ≡ before → StandsInNumbers fed state.old line → IfErr result (λ s. ForFault s (IsMet fed byte)) }
+    ensures ok { (fed : List ℕ) → length fed ≡ before → StandsInNumbers fed state.old line →
+        IfOk result (StandsInNumbers (fed ++ byte ∷ []) state.new) }
+    ensures fault { (fed : List ℕ) → length fed ≡ before → StandsInNumbers fed state.old line →
+        IfErr result (λ s. ForFault s (IsMet fed byte)) }
 {
     match byte_kind(byte) {
         ByteKind::Newline => end_line(state, line, before),
@@ -49,8 +51,10 @@ pub(crate) fn number_step(
 fn end_line(state: &mut ReadState, line: NumberLine, before: usize) -> Result<NumberLine, Stop>
     requires { Fits state.old }
     ensures fits { OnOk result (Fits state.new) }
-    ensures ok { (fed : List ℕ) → length fed ≡ before → StandsInNumbers fed state.old line → IfOk result (StandsInNumbers (fed ++ 10 ∷ []) state.new) }
-    ensures fault { (fed : List ℕ) → length fed ≡ before → StandsInNumbers fed state.old line → IfErr result (λ s. ForFault s (IsMet fed 10)) }
+    ensures ok { (fed : List ℕ) → length fed ≡ before → StandsInNumbers fed state.old line →
+        IfOk result (StandsInNumbers (fed ++ 10 ∷ []) state.new) }
+    ensures fault { (fed : List ℕ) → length fed ≡ before → StandsInNumbers fed state.old line →
+        IfErr result (λ s. ForFault s (IsMet fed 10)) }
 {
     match line {
         NumberLine::Ended => Ok(NumberLine::Ended),
@@ -66,9 +70,11 @@ fn end_line(state: &mut ReadState, line: NumberLine, before: usize) -> Result<Nu
 fn with_blank(state: &mut ReadState, line: NumberLine, before: usize) -> Result<NumberLine, Stop>
     requires { Fits state.old }
     ensures fits { OnOk result (Fits state.new) }
-    ensures ok { (fed : List ℕ) → (blank : ℕ) → is_blank blank ≡ true → is_newline blank ≡ false → length fed ≡ before → StandsInNumbers fed state.old line
+    ensures ok { (fed : List ℕ) → (blank : ℕ) → is_blank blank ≡ true → is_newline blank ≡ false → length fed ≡ before →
+        StandsInNumbers fed state.old line
         → IfOk result (StandsInNumbers (fed ++ blank ∷ []) state.new) }
-    ensures fault { (fed : List ℕ) → (blank : ℕ) → is_blank blank ≡ true → is_newline blank ≡ false → length fed ≡ before → StandsInNumbers fed state.old line
+    ensures fault { (fed : List ℕ) → (blank : ℕ) → is_blank blank ≡ true → is_newline blank ≡ false →
+        length fed ≡ before → StandsInNumbers fed state.old line
         → IfErr result (λ s. ForFault s (IsMet fed blank)) }
 {
     match line {
@@ -91,8 +97,10 @@ fn with_byte(
     requires no_newline { is_newline byte ≡ false }
     requires no_blank { is_blank byte ≡ false }
     requires fits { Fits state.now }
-    ensures ok { (fed : List ℕ) → length fed ≡ before → StandsInNumbers fed state.now line → IfOk result (StandsInNumbers (fed ++ byte ∷ []) state.now) }
-    ensures fault { (fed : List ℕ) → length fed ≡ before → StandsInNumbers fed state.now line → IfErr result (IsMet fed byte) }
+    ensures ok { (fed : List ℕ) → length fed ≡ before → StandsInNumbers fed state.now line →
+        IfOk result (StandsInNumbers (fed ++ byte ∷ []) state.now) }
+    ensures fault { (fed : List ℕ) → length fed ≡ before → StandsInNumbers fed state.now line →
+        IfErr result (IsMet fed byte) }
 {
     match line {
         NumberLine::Start => begun(state, byte, before + 1),
@@ -107,8 +115,10 @@ fn begun(state: &ReadState, byte: u8, place: usize) -> Result<NumberLine, Fault>
     requires no_newline { is_newline byte ≡ false }
     requires no_blank { is_blank byte ≡ false }
     requires fits { Fits state.now }
-    ensures ok { (fed : List ℕ) → length fed + 1 ≡ place → StandsInNumbers fed state.now NumberLine.Start → IfOk result (StandsInNumbers (fed ++ byte ∷ []) state.now) }
-    ensures fault { (fed : List ℕ) → length fed + 1 ≡ place → StandsInNumbers fed state.now NumberLine.Start → IfErr result (IsMet fed byte) }
+    ensures ok { (fed : List ℕ) → length fed + 1 ≡ place → StandsInNumbers fed state.now NumberLine.Start →
+        IfOk result (StandsInNumbers (fed ++ byte ∷ []) state.now) }
+    ensures fault { (fed : List ℕ) → length fed + 1 ≡ place → StandsInNumbers fed state.now NumberLine.Start →
+        IfErr result (IsMet fed byte) }
 {
     if byte == b'c' {
         Ok(NumberLine::Comment)

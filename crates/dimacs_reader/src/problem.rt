@@ -29,7 +29,8 @@ pub(crate) enum ProblemLine {
 
 /// The line with a blank behind it.
 pub(crate) fn line_with_blank(line: ProblemLine) -> ProblemLine
-    ensures { (bytes : List ℕ) → (blank : ℕ) → is_blank blank ≡ true → IsLineSoFar bytes line → IsLineSoFar (bytes ++ blank ∷ []) result }
+    ensures { (bytes : List ℕ) → (blank : ℕ) → is_blank blank ≡ true → IsLineSoFar bytes line →
+        IsLineSoFar (bytes ++ blank ∷ []) result }
 {
     match line {
         ProblemLine::P => ProblemLine::BehindP,
@@ -83,7 +84,8 @@ fn line_with_digit(line: ProblemLine, digit: u32) -> ProblemLine
 pub(crate) fn stated(line: ProblemLine) -> Result<(u32, u32), FaultKind>
     ensures limits { IfOk result (λ h. (h.0 ≤ max_vars) × (h.1 ≤ max_clauses)) }
     ensures ok { (bytes : List ℕ) → IsLineSoFar bytes line → IfOk result (λ h. stated_by (words_in bytes) ≡ Some h) }
-    ensures fault { (bytes : List ℕ) → IsLineSoFar bytes line → IfErr result (λ k. problem_line_kind (stated_by (words_in bytes)) ≡ Some k) }
+    ensures fault { (bytes : List ℕ) → IsLineSoFar bytes line →
+        IfErr result (λ k. problem_line_kind (stated_by (words_in bytes)) ≡ Some k) }
 {
     let (vars, clauses) = match line {
         ProblemLine::Clauses { vars, clauses } => (vars, clauses),

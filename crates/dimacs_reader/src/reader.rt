@@ -1,5 +1,5 @@
 //! The reader of formulas.
-ghost use Rattle.std.specs.Prelude.{◌≡◌, ◌≤◌, [], ◌++◌, ℕ, List, length, OnOk, OnErr, IfOk, IfErr};
+ghost use Rattle.std.specs.Prelude.{◌≡◌, ◌≤◌, [], ◌++◌, ℕ, List, length, OnOk, IfOk, IfErr};
 ghost use Rattle.lk_model.specs.Limits.{max_bytes};
 ghost use Rattle.lk_model.specs.Texts.Dimacs.{Spells};
 ghost use Rattle.dimacs_reader.specs.Faults.{IsRefusalOf, IsSettledAs, HasNoneDue};

@@ -1,10 +1,9 @@
 //! Reading formulas, byte by byte.
 //!
-//! A text is before the end of its problem line, or behind it, and each byte moves it on. So it may come in any pieces, of
-//! which nothing but a number that has not ended is kept, and a fault is known at its byte.
-ghost use Rattle.std.specs.Prelude.{◌≡◌, ◌<◌, ◌≤◌, ◌+◌, ◌∷◌, [], ◌++◌, ℕ, List, length, OnOk, IfOk, IfErr, count_by};
+//! A text is before the end of its problem line, or behind it, and each byte moves it on. So it may come in any pieces,
+//! of which nothing but a number that has not ended is kept, and a fault is known at its byte.
+ghost use Rattle.std.specs.Prelude.{◌≡◌, ◌<◌, ◌+◌, ◌∷◌, [], ◌++◌, ℕ, List, length, OnOk, IfOk, IfErr};
 ghost use Rattle.lk_model.specs.Limits.{max_bytes};
-ghost use Rattle.lk_model.specs.Texts.Lines.{is_newline};
 ghost use Rattle.lk_model.specs.Texts.Dimacs.{Spells};
 ghost use Rattle.lk_model.specs.Texts.Fault.{IsSettled};
 ghost use Rattle.dimacs_reader.specs.Faults.{ForFault, IsRefusalOf, IsSettledAs};
@@ -54,8 +53,10 @@ fn step(stage: &mut Stage, alloc: Global, byte: u8, before: usize) -> Result<(),
     requires sound { IsSound stage.old }
     requires room { before < usize.MAX }
     ensures sound { OnOk result (IsSound stage.new) }
-    ensures ok { (fed : List ℕ) → length fed ≡ before → Stands fed stage.old → OnOk result (Stands (fed ++ byte ∷ []) stage.new) }
-    ensures fault { (fed : List ℕ) → length fed ≡ before → Stands fed stage.old → IfErr result (λ s. ForFault s (IsMet fed byte)) }
+    ensures ok { (fed : List ℕ) → length fed ≡ before → Stands fed stage.old →
+        OnOk result (Stands (fed ++ byte ∷ []) stage.new) }
+    ensures fault { (fed : List ℕ) → length fed ≡ before → Stands fed stage.old →
+        IfErr result (λ s. ForFault s (IsMet fed byte)) }
 {
     match stage {
         Stage::Head(line) => match head_step(*line, byte, before)? {
@@ -87,7 +88,8 @@ fn take(reading: &mut Reading, byte: u8) -> Result<(), Stop>
     requires { IsSoundReading reading.old }
     ensures sound { OnOk result (IsSoundReading reading.new) }
     ensures ok { (fed : List ℕ) → HasTaken fed reading.old → OnOk result (HasTaken (fed ++ byte ∷ []) reading.new) }
-    ensures fault { (fed : List ℕ) → HasTaken fed reading.old → IfErr result (λ s. ForFault s (λ f. IsSettled (fed ++ byte ∷ []) (f.kind, reading.old.line))) }
+    ensures fault { (fed : List ℕ) → HasTaken fed reading.old →
+        IfErr result (λ s. ForFault s (λ f. IsSettled (fed ++ byte ∷ []) (f.kind, reading.old.line))) }
     ensures line { IfErr result (λ _. reading.new.line ≡ reading.old.line) }
 {
     let taken = step(&mut reading.stage, reading.alloc, byte, reading.bytes);
@@ -156,7 +158,8 @@ fn with_last_line(alloc: Global, line: HeadLine, last: usize) -> Result<ReadStat
     requires { last < usize.MAX }
     ensures fits { IfOk result Fits }
     ensures ok { (fed : List ℕ) → length fed ≡ last → StandsInHead fed line → IfOk result (EndsAs fed) }
-    ensures fault { (fed : List ℕ) → length fed ≡ last → StandsInHead fed line → IfErr result (λ s. ForFault s (IsMetAtEnd fed)) }
+    ensures fault { (fed : List ℕ) → length fed ≡ last → StandsInHead fed line →
+        IfErr result (λ s. ForFault s (IsMetAtEnd fed)) }
 {
     let HeadLine::Problem(problem) = line else {
         return Err(Stop::Fault(fault_at(FaultKind::NoHeader, last + 1)));
@@ -170,7 +173,8 @@ fn with_last_word(state: ReadState, line: NumberLine, last: usize) -> Result<Rea
     requires { Fits state }
     ensures fits { IfOk result Fits }
     ensures ok { (fed : List ℕ) → length fed ≡ last → StandsInNumbers fed state line → IfOk result (EndsAs fed) }
-    ensures fault { (fed : List ℕ) → length fed ≡ last → StandsInNumbers fed state line → IfErr result (λ s. ForFault s (IsMetAtEnd fed)) }
+    ensures fault { (fed : List ℕ) → length fed ≡ last → StandsInNumbers fed state line →
+        IfErr result (λ s. ForFault s (IsMetAtEnd fed)) }
 {
     let mut state = state;
     if let NumberLine::Word(word) = line {

@@ -13,9 +13,9 @@ use Rattle.lk_model.specs.Texts.Lines.{Word}
 use Rattle.lk_model.specs.Texts.Dimacs.{without_repeats}
 use Rattle.lk_model.specs.Texts.ModelText.{is_model_number, ends_at_zero, literals_among}
 use Rattle.lk_model.specs.Texts.NumberWords.{number}
-use Rattle.lk_model.proofs.Booleans.{and_true, or_false}
+use Rattle.lk_model.proofs.Booleans.{and_true}
 use Rattle.line_text.specs.FieldLists.{IsClauseOf}
-use Rattle.model_text.proofs.Numbers.{fails, literals_more, literals_last, zero_last}
+use Rattle.model_text.proofs.Numbers.{fails, ends_open, literals_more, literals_last, zero_last}
 use Rattle.dimacs_reader.proofs.NumberLemmas.{contains-repeats, repeats-more}
 use Rattle.edit_text.specs.EditText.{is_closed, added}
 use Rattle.edit_text.specs.Words.{entry_of, with_once}
@@ -117,11 +117,6 @@ pub not_closed : (n : ℕ) (words : List Word) (literals : List ℤ) → AreRead
 not_closed n words literals r =
     let whole : words ≡ r.done = r.parts ∙ append-nil r.done in
     not_added n words (rw (whole, r.numbers, r.not_closed) refl)
-
--- behind numbers without a 0
-ends_open : (xs ys : List ℤ) → list_any is_zero xs ≡ false → ends_at_zero (xs ++ ys) ≡ ends_at_zero ys
-ends_open [] ys h = refl
-ends_open (x ∷ xs) ys h = let p = or_false (is_zero x) (list_any is_zero xs) h in rw p.0 (ends_open xs ys p.1)
 
 -- a word behind the 0
 has_number : (n : ℕ) (word : Word) → is_model_number n word ≡ true → (x : ℤ) × (number word ≡ Some x)

@@ -13,6 +13,7 @@ use Rattle.model_text.specs.ModelTexts.{words_in}
 use Rattle.lk_model.proofs.ListTests.{all_more}
 use Rattle.model_text.proofs.Numbers.{fails}
 use Rattle.model_text.proofs.Lines.{line_ended, line_last}
+use Rattle.model_text.proofs.Standing.{behind_byte}
 use Rattle.edit_text.specs.LiveClauses.{LiveClauses, live_of}
 use Rattle.edit_text.specs.Edits.{CanBeMade, after_all}
 use Rattle.edit_text.proofs.EditTexts.{lines_made}
@@ -26,10 +27,6 @@ use Rattle.edit_text.specs.declared.refusal.EditsRefused.{EditsRefused}
 use Rattle.edit_text.specs.declared.progress.OpenLine.{OpenLine}
 use Rattle.edit_text.specs.declared.progress.Progress.{Progress}
 use Rattle.edit_text.proofs.TextLines.{edits_more, live_more, faults_behind, none_more, first_more}
-
--- one byte more, before what comes behind it
-behind_byte : (fed more : List ℕ) (b : ℕ) → (fed ++ b ∷ []) ++ more ≡ fed ++ b ∷ more
-behind_byte fed more b = append_assoc fed (b ∷ []) more
 
 -- the lines where the open line ends here
 ended_lines : (F : Cnf) (fed more : List ℕ) (line : ℕ) (open_line : OpenLine) → (s : StandsInLine F fed line open_line) → is_one_line open_line.bytes.items ≡ true

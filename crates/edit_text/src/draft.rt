@@ -1,6 +1,6 @@
 //! What the lines of a text of edits led to.
-ghost use Rattle.std.specs.Prelude.{◌≡◌, ◌<◌, ◌++◌, ◌∷◌, [], ℕ, List, IfOk, OnOk, min, ◌^◌, length, IsTrue};
-ghost use Rattle.lk_model.specs.Formulas.Formula.{Cnf, literal_count};
+ghost use Rattle.std.specs.Prelude.{◌≡◌, ◌<◌, [], ℕ, List, IfOk, OnOk, min, ◌^◌};
+ghost use Rattle.lk_model.specs.Formulas.Formula.{literal_count};
 ghost use Rattle.edit_text.specs.LiveClauses.{LiveClauses, live_of};
 ghost use Rattle.edit_text.specs.Fed.{Tells, Makes, IsSoundDraft};
 ghost use Rattle.edit_text.specs.declared.edit.Edit.{Edit as EditOf};

@@ -49,7 +49,9 @@ fn take_added(draft: &mut Draft, line: &[u8], from: usize) -> Result<Option<Edit
     requires line { IsTrue (is_one_line line.now) }
     ensures sound { OnOk result (IsSoundDraft draft.new) }
     ensures taken { (s : LiveClauses) (edits : List EditOf) → Tells s edits draft.old
-        → IfOk result (λ fault. MakesIfAny s edits (option_map Add (added s.held.vars (words_in (drop from line.now)))) fault draft.new) }
+        → IfOk result
+        (λ fault. MakesIfAny s edits
+        (option_map Add (added s.held.vars (words_in (drop from line.now)))) fault draft.new) }
 {
     draft.clause.clear();
     if !read_clause(&mut draft.clause, line, from)? {
@@ -69,7 +71,8 @@ fn take_removed(
     requires line { IsTrue (is_one_line line.now) }
     ensures sound { OnOk result (IsSoundDraft draft.new) }
     ensures taken { (s : LiveClauses) (edits : List EditOf) → Tells s edits draft.old
-        → IfOk result (λ fault. MakesIfAny s edits (option_map Remove (removed (words_in (drop from line.now)))) fault draft.new) }
+        → IfOk result
+        (λ fault. MakesIfAny s edits (option_map Remove (removed (words_in (drop from line.now)))) fault draft.new) }
 {
     let Some(number) = removed_number(line, from) else {
         return Ok(Some(EditFault::NotAnEdit));
@@ -105,7 +108,8 @@ fn read_clause(clause: &mut OpenClause, line: &[u8], begin: usize) -> Result<boo
     requires within { begin ≤ length line.now }
     requires line { IsTrue (is_one_line line.now) }
     ensures vars { clause.new.vars ≡ clause.old.vars }
-    ensures read { IfOk result (λ is. IsClauseOf (added clause.old.vars (words_in (drop begin line.now))) is clause.new.literals) }
+    ensures read { IfOk result
+        (λ is. IsClauseOf (added clause.old.vars (words_in (drop begin line.now))) is clause.new.literals) }
 {
     let n = clause.vars();
     let mut from = begin;

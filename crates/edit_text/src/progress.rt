@@ -7,7 +7,8 @@ ghost use Rattle.edit_text.specs.LiveClauses.{LiveClauses, live_of};
 ghost use Rattle.edit_text.specs.declared.edit.Edit.{Edit as EditOf};
 ghost use Rattle.edit_text.specs.Edits.{CanBeMade};
 ghost use Rattle.edit_text.specs.EditText.{IsEdits};
-ghost use Rattle.edit_text.specs.Fed.{StandsInLine, IsSoundLine, TakesLine, Tells, IsSoundDraft, line_behind, HasTaken, IsSoundProgress, IsSoundStage, Stands, IsSettledAs, IsRefusalOf};
+ghost use Rattle.edit_text.specs.Fed.{StandsInLine, IsSoundLine, TakesLine, Tells, line_behind, HasTaken};
+ghost use Rattle.edit_text.specs.Fed.{IsSoundProgress, IsSoundStage, Stands, IsSettledAs, IsRefusalOf};
 
 use crate::draft::{Draft, draft_of};
 use crate::edit::{Edit, EditFault};
@@ -71,8 +72,10 @@ pub(crate) fn nothing_read(alloc: Global, f: &Formula) -> Result<Progress, OutOf
 pub(crate) fn take_all(progress: &mut Progress, piece: &[u8]) -> Result<(), EditsRefused>
     requires { IsSoundProgress progress.old }
     ensures sound { OnOk result (IsSoundProgress progress.new) }
-    ensures ok { (F : Cnf) (fed : List ℕ) → HasTaken F fed progress.old → OnOk result (HasTaken F (fed ++ piece.now) progress.new) }
-    ensures cause { (F : Cnf) (fed : List ℕ) → HasTaken F fed progress.old → IfErr result (IsSettledAs F (fed ++ piece.now)) }
+    ensures ok { (F : Cnf) (fed : List ℕ) → HasTaken F fed progress.old →
+        OnOk result (HasTaken F (fed ++ piece.now) progress.new) }
+    ensures cause { (F : Cnf) (fed : List ℕ) → HasTaken F fed progress.old →
+        IfErr result (IsSettledAs F (fed ++ piece.now)) }
 {
     for byte in piece {
         if let Err(refused) = take(progress, *byte) {
@@ -86,8 +89,10 @@ pub(crate) fn take_all(progress: &mut Progress, piece: &[u8]) -> Result<(), Edit
 fn take(progress: &mut Progress, byte: u8) -> Result<(), EditsRefused>
     requires { IsSoundProgress progress.old }
     ensures sound { OnOk result (IsSoundProgress progress.new) }
-    ensures ok { (F : Cnf) (fed : List ℕ) → HasTaken F fed progress.old → OnOk result (HasTaken F (fed ++ byte ∷ []) progress.new) }
-    ensures cause { (F : Cnf) (fed : List ℕ) → HasTaken F fed progress.old → IfErr result (IsSettledAs F (fed ++ byte ∷ [])) }
+    ensures ok { (F : Cnf) (fed : List ℕ) → HasTaken F fed progress.old →
+        OnOk result (HasTaken F (fed ++ byte ∷ []) progress.new) }
+    ensures cause { (F : Cnf) (fed : List ℕ) → HasTaken F fed progress.old →
+        IfErr result (IsSettledAs F (fed ++ byte ∷ [])) }
 {
     if progress.bytes == MAX_BYTES {
         return Err(EditsRefused::Line {
@@ -107,7 +112,8 @@ fn take(progress: &mut Progress, byte: u8) -> Result<(), EditsRefused>
 fn step(stage: &mut Stage, line: u64, byte: u8) -> Result<(), OutOfMemory>
     requires { IsSoundStage stage.old }
     ensures sound { OnOk result (IsSoundStage stage.new) }
-    ensures ok { (F : Cnf) (fed : List ℕ) → Stands F fed line stage.old → OnOk result (Stands F (fed ++ byte ∷ []) (line_behind line byte) stage.new) }
+    ensures ok { (F : Cnf) (fed : List ℕ) → Stands F fed line stage.old →
+        OnOk result (Stands F (fed ++ byte ∷ []) (line_behind line byte) stage.new) }
 {
     let Stage::Reading(open_line) = stage else {
         return Ok(());
@@ -163,9 +169,11 @@ pub(crate) fn edits_of(progress: Progress) -> Result<List<Edit>, EditsRefused>
 /// The edits of the text whose last line this is.
 fn with_last_line(open_line: OpenLine, line: u64) -> Result<List<Edit>, EditsRefused>
     requires { IsSoundLine open_line }
-    ensures ok { (F : Cnf) (fed : List ℕ) → length fed ≤ max_bytes → StandsInLine F fed line open_line → IfOk result (λ edits. IsEdits F edits fed) }
+    ensures ok { (F : Cnf) (fed : List ℕ) → length fed ≤ max_bytes → StandsInLine F fed line open_line →
+        IfOk result (λ edits. IsEdits F edits fed) }
     ensures made { (F : Cnf) (fed : List ℕ) → StandsInLine F fed line open_line → IfOk result (CanBeMade (live_of F)) }
-    ensures cause { (F : Cnf) (fed : List ℕ) → length fed ≤ max_bytes → StandsInLine F fed line open_line → IfErr result (IsRefusalOf F fed) }
+    ensures cause { (F : Cnf) (fed : List ℕ) → length fed ≤ max_bytes → StandsInLine F fed line open_line →
+        IfErr result (IsRefusalOf F fed) }
 {
     let mut draft = open_line.draft;
     match take_line(&mut draft, open_line.bytes.as_slice())? {

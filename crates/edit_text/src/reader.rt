@@ -1,5 +1,5 @@
 //! The reader of edits.
-ghost use Rattle.std.specs.Prelude.{◌≡◌, ◌≤◌, [], ◌++◌, ℕ, List, length, OnOk, OnErr, IfOk, IfErr};
+ghost use Rattle.std.specs.Prelude.{◌≡◌, ◌≤◌, [], ◌++◌, ℕ, List, length, OnOk, IfOk, IfErr};
 ghost use Rattle.lk_model.specs.Limits.{max_bytes};
 ghost use Rattle.lk_model.specs.Formulas.Formula.{Cnf};
 ghost use Rattle.edit_text.specs.LiveClauses.{live_of};
@@ -50,9 +50,12 @@ impl EditsReader {
     /// whatever stands before and behind it: other faults are told at the end. After a refusal the reader
     /// holds nothing but the refusal, which each later call answers.
     pub fn feed(&mut self, piece: &[u8]) -> Result<(), EditsRefused>
-        ensures ok { (F : Cnf) (fed : List ℕ) → HasBeenFed F fed self.old → OnOk result (HasBeenFed F (fed ++ piece.now) self.new) }
-        ensures fits { (F : Cnf) (fed : List ℕ) → HasBeenFed F fed self.old → OnOk result (length (fed ++ piece.now) ≤ max_bytes) }
-        ensures cause { (F : Cnf) (fed : List ℕ) → HasBeenFed F fed self.old → IfErr result (IsSettledAs F (fed ++ piece.now)) }
+        ensures ok { (F : Cnf) (fed : List ℕ) → HasBeenFed F fed self.old →
+            OnOk result (HasBeenFed F (fed ++ piece.now) self.new) }
+        ensures fits { (F : Cnf) (fed : List ℕ) → HasBeenFed F fed self.old →
+            OnOk result (length (fed ++ piece.now) ≤ max_bytes) }
+        ensures cause { (F : Cnf) (fed : List ℕ) → HasBeenFed F fed self.old →
+            IfErr result (IsSettledAs F (fed ++ piece.now)) }
         ensures err { IfErr result (λ r. self.new ≡ Stopped r) }
         ensures same { (r : RefusedOf) → self.old ≡ Stopped r → result ≡ Err r }
     {

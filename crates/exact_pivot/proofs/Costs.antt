@@ -12,7 +12,7 @@ use Rattle.lk_model.specs.Lists.{up_to, sum_of, rises_within}
 use Rattle.lk_model.specs.Linear.Rows.{Row, entry, less_column}
 use Rattle.lk_model.proofs.Rising.{rises}
 use Rattle.exact_rows.specs.declared.sparse.Entry.{Entry}
-use Rattle.exact_rows.specs.Sparse.{AreEntries, entries_of, number_in, row_of}
+use Rattle.exact_rows.specs.Sparse.{AreEntries, entries_of, value_in_column, row_of}
 use Rattle.exact_rows.proofs.Entries.{columns_of, number_before, number_is, row_of_entries, number_first as number_here}
 use Rattle.exact_rows.specs.Made.{AreInRange}
 use Rattle.exact_pivot.specs.Small.{AreSmall, cost_of}
@@ -50,17 +50,17 @@ entry_at f n k some most = get_or-map-range_with_len f 1 n (k - 1) k (pos 0) (om
 
 -- ONE ROW
 
-number_other : (e : Entry) (es : List Entry) (k : ℕ) → e.column ≢ k → number_in (e ∷ es) k ≡ number_in es k
+number_other : (e : Entry) (es : List Entry) (k : ℕ) → e.column ≢ k → value_in_column (e ∷ es) k ≡ value_in_column es k
 number_other e es k h = grind (arith, nat_tests, h)
 
 -- of an entry of a row and those behind it
 pub record EntryAt (low n : ℕ) (es : List Entry) (i : ℕ) (e : Entry) : Type 0 where
   pub above : low < e.column
   pub most : e.column ≤ n
-  pub whole : number_in es e.column ≡ e.value
-  pub here : number_in (drop i es) e.column ≡ e.value
-  pub behind : number_in (drop (i + 1) es) e.column ≡ pos 0
-  pub others : (k : ℕ) → k ≢ e.column → number_in (drop i es) k ≡ number_in (drop (i + 1) es) k
+  pub whole : value_in_column es e.column ≡ e.value
+  pub here : value_in_column (drop i es) e.column ≡ e.value
+  pub behind : value_in_column (drop (i + 1) es) e.column ≡ pos 0
+  pub others : (k : ℕ) → k ≢ e.column → value_in_column (drop i es) k ≡ value_in_column (drop (i + 1) es) k
 
 entry_first : (low high : ℕ) (e : Entry) (es : List Entry) → rises_within low high (columns_of (e ∷ es)) ≡ true → EntryAt low high (e ∷ es) 0 e
 entry_first low high e es r =
@@ -92,7 +92,7 @@ entry_along low high (e ∷ es) (suc i) d r h =
 
 -- what is left of a row to be subtracted: of the number in a column that of the entries that are left is still to come
 abbrev pub subtracted : List ℤ → List ℤ → List Entry → ℕ → ℤ
-subtracted sums row left k = (entry sums k -ℤ entry row k) +ℤ number_in left k
+subtracted sums row rest k = (entry sums k -ℤ entry row k) +ℤ value_in_column rest k
 
 nothing_left : (x y : ℤ) → (x -ℤ y) +ℤ y ≡ x
 nothing_left x y = omega (arith, ints)
@@ -104,7 +104,7 @@ one_less : (a x y z : ℤ) → y ≡ (a +ℤ x) -ℤ x → z ≡ pos 0 → y ≡
 one_less a x y z e h = omega (arith, ints, e, h)
 
 module _ (sums row : List ℤ) (es : List Entry) (e : es ≡ entries_of row) (h : AreEntries (length row) es) (w : length row ≡ length sums) where
-  number_of : (k : ℕ) → 0 < k → number_in es k ≡ entry row k
+  number_of : (k : ℕ) → 0 < k → value_in_column es k ≡ entry row k
   number_of k some = number_is (length row) es k h some ∙ ap (λ (xs : List ℤ). entry xs k) (ap (row_of (length row)) e ∙ row_of_entries row)
 
   pub subtract_begun : sums ≡ map (subtracted sums row (drop 0 es)) (up_to (length sums))
@@ -123,7 +123,7 @@ module _ (sums row : List ℤ) (es : List Entry) (e : es ≡ entries_of row) (h 
   subtract_reads now i d lt is =
       let p = entry_of_row i d lt in
       let k = (get_or es i d).column in
-      let same : number_in (drop i es) k ≡ entry row k = p.here ∙ value_of_row i d lt in
+      let same : value_in_column (drop i es) k ≡ entry row k = p.here ∙ value_of_row i d lt in
       ap (λ (xs : List ℤ). entry xs k) is ∙ entry_at (subtracted sums row (drop i es)) (length sums) k p.above p.most
       ∙ ap (λ z. (entry sums k -ℤ entry row k) +ℤ z) same ∙ nothing_left (entry sums k) (entry row k)
 
@@ -136,7 +136,7 @@ module _ (sums row : List ℤ) (es : List Entry) (e : es ≡ entries_of row) (h 
       let n = length sums in
       let a = entry sums k -ℤ entry row k in
       let read : entry now k ≡ a +ℤ x = ap (λ (xs : List ℤ). entry xs k) is ∙ entry_at (subtracted sums row (drop i es)) n k p.above p.most ∙ ap (λ z. a +ℤ z) p.here in
-      let value : y ≡ a +ℤ number_in (drop (i + 1) es) k = one_less a x y (number_in (drop (i + 1) es) k) (made ∙ ap (λ z. z -ℤ x) read) p.behind in
+      let value : y ≡ a +ℤ value_in_column (drop (i + 1) es) k = one_less a x y (value_in_column (drop (i + 1) es) k) (made ∙ ap (λ z. z -ℤ x) read) p.behind in
       let place : 1 + (k - 1) ≡ k = omega (arith, p.above) in
       ap (λ (xs : List ℤ). set xs (k - 1) y) is
       ∙ range_set (subtracted sums row (drop i es)) (subtracted sums row (drop (i + 1) es)) 1 n (k - 1) y (omega (arith, p.above, p.most))

@@ -6,7 +6,7 @@ use Rattle.lk_model.specs.Lists.{up_to, rises_within}
 use Rattle.lk_model.specs.Linear.Rows.{entry}
 use Rattle.lk_model.proofs.Rising.{rises}
 use Rattle.exact_rows.specs.declared.sparse.Entry.{Entry}
-use Rattle.exact_rows.specs.Sparse.{AreEntries, number_in, row_of, entries_of}
+use Rattle.exact_rows.specs.Sparse.{AreEntries, value_in_column, row_of, entries_of}
 use Rattle.exact_rows.proofs.Entries.{columns_of, number_before, number_is, row_of_entries}
 use Rattle.exact_pivot.specs.Columns.{first_column, column_within}
 use Rattle.exact_pivot.proofs.Finds.{find_first, find_none}
@@ -14,25 +14,25 @@ use Rattle.exact_pivot.proofs.Finds.{find_first, find_none}
 -- where the column stands, behind some column
 record FirstIs (test : ℤ → Bool) (low : ℕ) (es : List Entry) (k : ℕ) : Type 0 where
   pub above : low < k
-  pub passes : test (number_in es k) ≡ true
-  pub before : (j : ℕ) → j < k → test (number_in es j) ≡ false
+  pub passes : test (value_in_column es k) ≡ true
+  pub before : (j : ℕ) → j < k → test (value_in_column es j) ≡ false
 
 abbrev FirstAt : (ℤ → Bool) → ℕ → List Entry → Option ℕ → Type 0
-FirstAt test low es None = (k : ℕ) → test (number_in es k) ≡ false
+FirstAt test low es None = (k : ℕ) → test (value_in_column es k) ≡ false
 FirstAt test low es (Some k) = FirstIs test low es k
 
 module _ (test : ℤ → Bool) (zero_fails : test (pos 0) ≡ false) where
-  number_fails : (e : Entry) (es : List Entry) (k : ℕ) → test e.value ≡ false → test (number_in es k) ≡ false → test (number_in (e ∷ es) k) ≡ false
+  number_fails : (e : Entry) (es : List Entry) (k : ℕ) → test e.value ≡ false → test (value_in_column es k) ≡ false → test (value_in_column (e ∷ es) k) ≡ false
   number_fails e es k here later = at_test (e.column == k) refl
     where
-      at_test : (b : Bool) → (e.column == k) ≡ b → test (number_in (e ∷ es) k) ≡ false
+      at_test : (b : Bool) → (e.column == k) ≡ b → test (value_in_column (e ∷ es) k) ≡ false
       at_test true t = rw t here
       at_test false t = rw t later
 
-  number_other : (e : Entry) (es : List Entry) (k : ℕ) → e.column < k → number_in (e ∷ es) k ≡ number_in es k
+  number_other : (e : Entry) (es : List Entry) (k : ℕ) → e.column < k → value_in_column (e ∷ es) k ≡ value_in_column es k
   number_other e es k h = grind (arith, nat_tests, h)
 
-  number_here : (e : Entry) (es : List Entry) → number_in (e ∷ es) e.column ≡ e.value
+  number_here : (e : Entry) (es : List Entry) → value_in_column (e ∷ es) e.column ≡ e.value
   number_here e es = grind (arith, nat_tests)
 
   first_passed : (e : Entry) (es : List Entry) (low : ℕ) (o : Option ℕ) → low < e.column → test e.value ≡ false → FirstAt test e.column es o → FirstAt test low (e ∷ es) o
@@ -43,7 +43,7 @@ module _ (test : ℤ → Bool) (zero_fails : test (pos 0) ≡ false) where
     before = λ j h. number_fails e es j here (f.before j h);
   }
 
-  number_before_it : (e : Entry) (es : List Entry) (high j : ℕ) → rises_within e.column high (columns_of es) ≡ true → j < e.column → number_in (e ∷ es) j ≡ pos 0
+  number_before_it : (e : Entry) (es : List Entry) (high j : ℕ) → rises_within e.column high (columns_of es) ≡ true → j < e.column → value_in_column (e ∷ es) j ≡ pos 0
   number_before_it e es high j r h =
       let none = number_before e.column high es j r (omega (arith, h)) in
       grind (arith, nat_tests, h, none)
@@ -63,7 +63,7 @@ module _ (test : ℤ → Bool) (zero_fails : test (pos 0) ≡ false) where
           rw t here
       at_test false t later = (let s = rises low high e.column (columns_of es) r in rw t (first_passed e es low (first_column test es) s.above t later))
 
-  found_at : (row : List ℤ) (es : List Entry) (last : ℕ) (o : Option ℕ) → ((k : ℕ) → 0 < k → number_in es k ≡ entry row k) → FirstAt test 0 es o
+  found_at : (row : List ℤ) (es : List Entry) (last : ℕ) (o : Option ℕ) → ((k : ℕ) → 0 < k → value_in_column es k ≡ entry row k) → FirstAt test 0 es o
       → column_within last o ≡ find (λ k. test (entry row k)) (up_to last)
   found_at row es last None same none = sym (find_none (λ k. test (entry row k)) 1 last (λ j h l. ap test (sym (same j (omega (arith, h)))) ∙ none j))
   found_at row es last (Some k) same f = by_place (nat_le k last) refl

@@ -24,11 +24,11 @@ abbrev pub made_in_difference : ℕ → ℕ → List ℤ → ℕ → List Wide
 made_in_difference m r cost j = made Difference (entry cost (m + j)) (entry cost (m + r + 1)) ∷ []
 
 -- what it has in a row, and in the row that can't be pivoted on
-abbrev pub number_in : ℕ → List Row → ℕ → ℕ → ℤ
-number_in m rows i j = entry (row_in rows i).entries (m + j)
+abbrev pub number_in_row : ℕ → List Row → ℕ → ℕ → ℤ
+number_in_row m rows i j = entry (row_in rows i).entries (m + j)
 
 abbrev pub row_number : ℕ → ℕ → List Row → ℕ → ℤ
-row_number m r rows j = number_in m rows (unwrap_or (artificial_in m r rows) 0) j
+row_number m r rows j = number_in_row m rows (unwrap_or (artificial_in m r rows) 0) j
 
 -- the one in the first phase, the other in the second, times the sign of the variable
 abbrev pub signed_number : List ℤ → (ℕ → ℤ) → ℕ → ℤ

@@ -8,17 +8,20 @@
 //! Here a unit for each variable shows the rest: its shares balance to a number that is not 0 in that variable and to
 //! 0 in the others, so a weighting with only balances 0 is 0. Both are read off the rows in which a run ends, over the
 //! common denominator of a column.
-ghost use Rattle.std.specs.Prelude.{◌≡◌, ◌+◌, ◌<◌, ◌^◌, pos, negsuc, ◌<ℤ◌, ◌*ℤ◌, ◌⊎◌, int_div, length, map, IsTrue, IfOk, OnOk};
+ghost use Rattle.std.specs.Prelude.{◌≡◌, ◌+◌, ◌<◌, ◌^◌, pos, negsuc, ◌<ℤ◌, ◌*ℤ◌, ◌⊎◌, int_div, length, map, IsTrue};
+ghost use Rattle.std.specs.Prelude.{IfOk, OnOk};
 ghost use Rattle.std.specs.List.{All, flat_map};
 ghost use Rattle.std.specs.Result.{result_err};
 ghost use Rattle.lk_model.specs.Limits.{is_in_range};
 ghost use Rattle.lk_model.specs.Linear.Arithmetic.{first_wide, gcd_of, reduced, made};
 ghost use Rattle.lk_model.specs.Linear.Rows.{TableauRows, right_column};
-ghost use Rattle.lk_model.specs.Linear.Ends.{numerator, denominator, made_in_dual, dual_at_end, made_in_units, units_at_end};
+ghost use Rattle.lk_model.specs.Linear.Ends.{numerator, denominator, made_in_dual, dual_at_end, made_in_units};
+ghost use Rattle.lk_model.specs.Linear.Ends.{units_at_end};
 ghost use Rattle.exact_rows.specs.Made.{IsMade};
 ghost use Rattle.exact_pivot.specs.Moves.{Gives};
 ghost use Rattle.exact_pivot.specs.Shape.{IsRow};
-ghost use Rattle.exact_pivot.specs.Placed.{IsBasic, signed_of, made_in_multiple, sum_with, made_in_sum, placed, common_of, made_in_common, duals_with, shares_with, unit_in, made_in_unit};
+ghost use Rattle.exact_pivot.specs.Placed.{IsBasic, signed_of, made_in_multiple, sum_with, made_in_sum, placed};
+ghost use Rattle.exact_pivot.specs.Placed.{common_of, made_in_common, duals_with, shares_with, unit_in, made_in_unit};
 ghost use Rattle.lk_model.specs.declared.wide.Op.{Op};
 
 use crate::equation::Equation;
@@ -229,7 +232,8 @@ pub fn duals(
     column: u32,
 ) -> Result<List<Dual>, PivotStop>
     requires { All (IsRow column) rows.now }
-    ensures { (t : TableauRows) → t.positions ≡ positions.now → t.rows ≡ rows.now → right_column t ≡ column → Gives (made_in_dual t) (dual_at_end t) result }
+    ensures { (t : TableauRows) → t.positions ≡ positions.now → t.rows ≡ rows.now → right_column t ≡ column →
+        Gives (made_in_dual t) (dual_at_end t) result }
 {
     let common = common(rows, column)?;
     let mut values = vec![in alloc; 0; rows.len()]?;
@@ -250,7 +254,8 @@ pub fn units(
     requires rows { All (IsRow (length positions.now + length vars.now + 2)) rows.now }
     requires signs { length signs.now ≡ length vars.now }
     requires units { All (λ e. (e ≡ pos 1) ⊎ (e ≡ negsuc 0)) signs.now }
-    ensures { (t : TableauRows) → t.positions ≡ positions.now → t.vars ≡ vars.now → t.signs ≡ signs.now → t.rows ≡ rows.now → Gives (made_in_units t) (units_at_end t) result }
+    ensures { (t : TableauRows) → t.positions ≡ positions.now → t.vars ≡ vars.now → t.signs ≡ signs.now →
+        t.rows ≡ rows.now → Gives (made_in_units t) (units_at_end t) result }
 {
     let mut units = Vec::with_capacity(alloc, vars.len())?;
     for (j, var) in vars.iter().enumerate() {

@@ -58,7 +58,8 @@ impl Growing {
     // Adds 1 or -1 to the number in the last column: it is 0 there, or becomes 0.
     fn add(&mut self, column: usize, value: i128) -> Result<(), OutOfMemory>
         requires nonzero { value ≢ pos 0 }
-        ensures { (es : List Entry) (x : ℤ) → last_column es < column → (x ≡ pos 0) ⊎ (x +ℤ value ≡ pos 0) → self.old ≡ with_number es column x
+        ensures { (es : List Entry) (x : ℤ) → last_column es < column → (x ≡ pos 0) ⊎ (x +ℤ value ≡ pos 0) →
+            self.old ≡ with_number es column x
             → OnOk result (self.new ≡ with_number es column (x +ℤ value)) }
     {
         if self.last_column() == column {

@@ -16,7 +16,8 @@ ghost use Rattle.lk_model.specs.Linear.Rows.{TableauRows, entry, m_of};
 ghost use Rattle.lk_model.specs.Linear.Phases.{stage_of, made_in_stage};
 ghost use Rattle.exact_rows.specs.Made.{AreInRange};
 ghost use Rattle.exact_pivot.specs.Moves.{Gives};
-ghost use Rattle.exact_pivot.specs.Staged.{row_in, artificial_in, difference_at, made_in_difference, number_in, signed_number, stage_numbers, made_in_numbers, lasts, weights_with};
+ghost use Rattle.exact_pivot.specs.Staged.{row_in, artificial_in, difference_at, made_in_difference, number_in_row};
+ghost use Rattle.exact_pivot.specs.Staged.{signed_number, stage_numbers, made_in_numbers, lasts, weights_with};
 
 use crate::ends::signed;
 use crate::equation::Equation;
@@ -39,7 +40,8 @@ pub fn stage(
     requires size { clause_count + length vars.now + 2 < 2 ^ 32 }
     requires signs { length signs.now ≡ length vars.now }
     requires units { All (λ e. (e ≡ pos 1) ⊎ (e ≡ negsuc 0)) signs.now }
-    ensures { (t : TableauRows) → m_of t ≡ clause_count → t.vars ≡ vars.now → t.signs ≡ signs.now → t.rows ≡ rows.now → t.cost ≡ cost.now → Gives (made_in_stage t) (stage_of t) result }
+    ensures { (t : TableauRows) → m_of t ≡ clause_count → t.vars ≡ vars.now → t.signs ≡ signs.now → t.rows ≡ rows.now →
+        t.cost ≡ cost.now → Gives (made_in_stage t) (stage_of t) result }
 {
     let mut numbers = vec![in alloc; 0; signs.len()]?;
     write_numbers(&mut numbers, clause_count, signs, rows, cost)?;
@@ -58,8 +60,11 @@ fn write_numbers(
     requires lengths { length numbers.old ≡ length signs.now }
     requires units { All (λ e. (e ≡ pos 1) ⊎ (e ≡ negsuc 0)) signs.now }
     requires range { AreInRange numbers.old }
-    ensures wide { result_err result ≡ first_wide (made_in_numbers (lasts clause_count (length signs.now) cost.now) clause_count (length signs.now) cost.now) }
-    ensures value { OnOk result (numbers.new ≡ stage_numbers (lasts clause_count (length signs.now) cost.now) clause_count (length signs.now) signs.now rows.now cost.now) }
+    ensures wide { result_err result ≡ first_wide
+        (made_in_numbers (lasts clause_count (length signs.now) cost.now) clause_count (length signs.now) cost.now) }
+    ensures value { OnOk result
+        (numbers.new ≡ stage_numbers (lasts clause_count (length signs.now) cost.now) clause_count
+        (length signs.now) signs.now rows.now cost.now) }
     ensures range { AreInRange numbers.new }
 {
     if lasts(cost, clause_count + signs.len() as u32 + 2) {
@@ -88,8 +93,11 @@ fn write_differences(
     requires lengths { length numbers.old ≡ length signs.now }
     requires units { All (λ e. (e ≡ pos 1) ⊎ (e ≡ negsuc 0)) signs.now }
     requires range { AreInRange numbers.old }
-    ensures wide { result_err result ≡ first_wide (flat_map (made_in_difference clause_count (length signs.now) cost.now) (up_to (length signs.now))) }
-    ensures value { OnOk result (numbers.new ≡ map (signed_number signs.now (difference_at clause_count (length signs.now) cost.now)) (up_to (length signs.now))) }
+    ensures wide { result_err result ≡ first_wide
+        (flat_map (made_in_difference clause_count (length signs.now) cost.now) (up_to (length signs.now))) }
+    ensures value { OnOk result
+        (numbers.new ≡ map (signed_number signs.now (difference_at clause_count (length signs.now) cost.now))
+        (up_to (length signs.now))) }
     ensures range { AreInRange numbers.new }
 {
     let unit = cost.entry(clause_count + signs.len() as u32 + 1);
@@ -111,7 +119,8 @@ fn write_entries(
     requires lengths { length numbers.old ≡ length signs.now }
     requires units { All (λ e. (e ≡ pos 1) ⊎ (e ≡ negsuc 0)) signs.now }
     requires range { AreInRange numbers.old }
-    ensures value { numbers.new ≡ map (signed_number signs.now (number_in clause_count rows.now row)) (up_to (length signs.now)) }
+    ensures value { numbers.new ≡ map (signed_number signs.now (number_in_row clause_count rows.now row))
+        (up_to (length signs.now)) }
     ensures range { AreInRange numbers.new }
 {
     for (j, sign) in signs.iter().enumerate() {

@@ -1,12 +1,13 @@
 //! The rows at the start.
-ghost use Rattle.std.specs.Prelude.{◌≡◌, ℕ, ◌<◌, ◌≤◌, ◌+◌, ◌-◌, ◌++◌, ◌∷◌, [], cond, int_lt, negsuc, pos, ◌^◌, ◌-ℤ◌, ◌+ℤ◌, ◌*ℤ◌, neg_ℤ, length, map, replicate, take, slice_index_or, slice_set, IsTrue, IfOk, OnOk, unsigned_abs};
+ghost use Rattle.std.specs.Prelude.{◌≡◌, ℕ, ◌<◌, ◌≤◌, ◌+◌, ◌-◌, ◌++◌, ◌∷◌, [], pos, ◌^◌, ◌-ℤ◌};
+ghost use Rattle.std.specs.Prelude.{◌+ℤ◌, ◌*ℤ◌, length, map, replicate, take, slice_index_or, slice_set, IsTrue};
+ghost use Rattle.std.specs.Prelude.{IfOk, OnOk, unsigned_abs};
 ghost use Rattle.std.specs.List.{All};
-ghost use Rattle.lk_model.specs.Lists.{rises_within, up_to, sum_of};
+ghost use Rattle.lk_model.specs.Lists.{rises_within, up_to};
 ghost use Rattle.lk_model.specs.Limits.{is_in_range};
 ghost use Rattle.lk_model.specs.Formulas.Formula.{variables_at, IsWithinLimits};
 ghost use Rattle.lk_model.specs.Linear.Rows.{Row, entry, sign_of, start_rows, less_column};
-ghost use Rattle.exact_rows.specs.Made.{AreInRange};
-ghost use Rattle.exact_rows.specs.Sparse.{AreEntries, number_in, row_of};
+ghost use Rattle.exact_rows.specs.Sparse.{AreEntries, row_of};
 ghost use Rattle.exact_pivot.specs.Small.{AreSmall, AreSmallEntries, cost_of};
 ghost use Rattle.exact_pivot.specs.Scattered.{lack_of, sign_at, times_sign, start_entries, with_number};
 
@@ -55,7 +56,12 @@ fn push_row(
     requires fit { AreEntries right (start_entries entries.now artificial right) }
     requires column { artificial < 2 ^ 32 }
     ensures signs { OnOk result (signs.new.items ≡ signs.old.items ++ sign_at (lack_of entries.now) ∷ []) }
-    ensures rows { OnOk result (rows.new.items ≡ rows.old.items ++ record { entries = row_of right (start_entries entries.now artificial right); basic = artificial } ∷ []) }
+    ensures rows { OnOk result
+        (rows.new.items ≡ rows.old.items ++ record {
+          entries = row_of right
+              (start_entries entries.now artificial right);
+          basic = artificial;
+        } ∷ []) }
 {
     let numbers = start_numbers(alloc, entries, artificial, right)?;
     signs.push(sign_for(lack(entries)))?;
@@ -159,7 +165,9 @@ pub fn start_cost(alloc: Global, m: u32, rows: &[Equation]) -> Result<Numbers, O
 // The numbers of the cost row, for so many clauses and variables: those of the clauses and that on the right side.
 fn cost_numbers(alloc: Global, m: usize, r: usize, sums: &[i128]) -> Result<Vec<i128>, OutOfMemory>
     requires { length sums.now ≡ m + r + 2 }
-    ensures { IfOk result (λ cost. cost.items ≡ take m sums.now ++ replicate r (pos 0) ++ pos 1 ∷ slice_index_or sums.now (m + r + 1) (pos 0) ∷ []) }
+    ensures { IfOk result
+        (λ cost. cost.items ≡ take m sums.now ++ replicate r (pos 0) ++ pos 1 ∷ slice_index_or sums.now (m + r + 1)
+        (pos 0) ∷ []) }
 {
     let mut cost = Vec::with_capacity(alloc, sums.len())?;
     cost.extend_from_slice(&sums[..m])?;

@@ -7,12 +7,13 @@
 //! Here all numbers are whole: a row is multiplied, not divided by the pivot, and then divided by its content. The
 //! cost row has a column of its own for the factor by which it was multiplied, the cost unit. A result that does not
 //! fit ends the call with its operands, and nothing is rounded.
-ghost use Rattle.std.specs.Prelude.{◌≡◌, ℕ, pos, ◌+◌, ◌<◌, ◌≤◌, ◌^◌, ◌≤ℤ◌, length, IsTrue, IfOk, OnOk};
+ghost use Rattle.std.specs.Prelude.{◌≡◌, ℕ, pos, ◌+◌, ◌<◌, ◌≤◌, ◌≤ℤ◌, length, IsTrue, IfOk, OnOk};
 ghost use Rattle.lk_model.specs.Lists.{rises_within};
 ghost use Rattle.lk_model.specs.Linear.Rows.{TableauRows, start_of, entry, row_at, m_of, r_of, right_column};
 ghost use Rattle.lk_model.specs.Linear.Pivot.{in_first_phase, pivoted, made_in_pivot};
 ghost use Rattle.lk_model.specs.Linear.Ends.{dual_at_end, units_at_end, made_in_dual, made_in_units};
-ghost use Rattle.lk_model.specs.Linear.Phases.{next, PivotOn, StageStands, EndsLean, stage_of, made_in_stage, entering, may_leave, leaves_before, leaving, artificial_row, replacing};
+ghost use Rattle.lk_model.specs.Linear.Phases.{next, PivotOn, StageStands, EndsLean, stage_of, made_in_stage, entering};
+ghost use Rattle.lk_model.specs.Linear.Phases.{may_leave, leaves_before, leaving, artificial_row, replacing};
 ghost use Rattle.exact_pivot.specs.Moves.{move_of, Gives};
 ghost use Rattle.exact_pivot.specs.AtPivots.{IsAtPivot};
 ghost use Rattle.exact_pivot.specs.Shape.{IsTableau};
@@ -48,12 +49,12 @@ impl Model for Tableau {
 
     ghost Value = { TableauRows };
 
-    ghost use Rattle.exact_pivot.specs.Seen.{rows_of};
+    ghost use Rattle.exact_pivot.specs.Seen.{tableau_rows};
     ghost use Rattle.exact_pivot.specs.Shape.{IsTableau};
 
-    ghost view = { rows_of };
+    ghost view = { tableau_rows };
 
-    ghost invariant = { λ t. IsTableau (rows_of t) };
+    ghost invariant = { λ t. IsTableau (tableau_rows t) };
 }
 
 impl Tableau {
@@ -309,7 +310,8 @@ fn pivot_rows(
     col: u32,
 ) -> Result<(), PivotStop>
     requires { (t : TableauRows) × IsAtPivot t row col rows.old.items cost.old first_phase }
-    ensures made { (t : TableauRows) → IsAtPivot t row col rows.old.items cost.old first_phase → Gives (made_in_pivot t row col) tt result }
+    ensures made { (t : TableauRows) → IsAtPivot t row col rows.old.items cost.old first_phase →
+        Gives (made_in_pivot t row col) tt result }
     ensures rows { (t : TableauRows) → IsAtPivot t row col rows.old.items cost.old first_phase
         → OnOk result (record t { rows = rows.new.items; cost = cost.new } ≡ pivoted t row col) }
 {

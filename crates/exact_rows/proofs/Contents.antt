@@ -14,7 +14,7 @@ use Rattle.lk_model.specs.Linear.Arithmetic.{gcd, gcd_of, content, primitive}
 use Rattle.lk_model.proofs.GcdLaws.{gcd_is_gcd}
 use Rattle.lk_model.proofs.Rising.{rises}
 use Rattle.exact_rows.specs.declared.sparse.Entry.{Entry}
-use Rattle.exact_rows.specs.Sparse.{AreEntries, IsEntry, number_in, row_of}
+use Rattle.exact_rows.specs.Sparse.{AreEntries, IsEntry, value_in_column, row_of}
 use Rattle.exact_rows.specs.Merged.{content_of, divided}
 use Rattle.exact_rows.proofs.Divisors.{gcd_some, gcd_comm, gcd-zero_left}
 use Rattle.exact_rows.proofs.Quotients.{quotient_le, quotient-one}
@@ -98,12 +98,12 @@ columns-divided : (g : ℤ) (es : List Entry) → columns_of (map (divided g) es
 columns-divided g [] = refl
 columns-divided g (e ∷ es) = λ i. e.column ∷ columns-divided g es i
 
-number-divided : (g : ℕ) (es : List Entry) (k : ℕ) → number_in (map (divided (pos g)) es) k ≡ int_div (number_in es k) (pos g)
+number-divided : (g : ℕ) (es : List Entry) (k : ℕ) → value_in_column (map (divided (pos g)) es) k ≡ int_div (value_in_column es k) (pos g)
 number-divided g [] k = ap pos (sym (zero-div g))
 number-divided g (e ∷ es) k = at_test (e.column == k) refl (number-divided g es k)
   where
-    at_test : (b : Bool) → (e.column == k) ≡ b → number_in (map (divided (pos g)) es) k ≡ int_div (number_in es k) (pos g)
-        → number_in (map (divided (pos g)) (e ∷ es)) k ≡ int_div (number_in (e ∷ es) k) (pos g)
+    at_test : (b : Bool) → (e.column == k) ≡ b → value_in_column (map (divided (pos g)) es) k ≡ int_div (value_in_column es k) (pos g)
+        → value_in_column (map (divided (pos g)) (e ∷ es)) k ≡ int_div (value_in_column (e ∷ es) k) (pos g)
     at_test true t later = rw t refl
     at_test false t later = rw t later
 
@@ -123,8 +123,8 @@ are_entries-divided n es h =
 
 row-over : (n g : ℕ) (es : List Entry) → row_of n (map (divided (pos g)) es) ≡ map (λ x. int_div x (pos g)) (row_of n es)
 row-over n g es =
-    same_map (number_in (map (divided (pos g)) es)) (λ k. int_div (number_in es k) (pos g)) (number-divided g es) (range_with_len 1 n)
-    ∙ map_twice (λ x. int_div x (pos g)) (number_in es) (range_with_len 1 n)
+    same_map (value_in_column (map (divided (pos g)) es)) (λ k. int_div (value_in_column es k) (pos g)) (number-divided g es) (range_with_len 1 n)
+    ∙ map_twice (λ x. int_div x (pos g)) (value_in_column es) (range_with_len 1 n)
 
 pub row-divided : (n : ℕ) (es : List Entry) → AreEntries n es → row_of n (map (divided (content_of es)) es) ≡ primitive (row_of n es)
 row-divided n es h =

@@ -13,20 +13,20 @@ use Rattle.lk_model.proofs.Rising.{rises, rises_from}
 use Rattle.lk_model.proofs.ListTests.{zero_is as zero_from}
 use Rattle.exact_rows.specs.declared.sparse.Entry.{Entry}
 use Rattle.exact_rows.specs.Made.{AreInRange}
-use Rattle.exact_rows.specs.Sparse.{AreEntries, IsEntry, entries_of, number_in, row_of, turned}
+use Rattle.exact_rows.specs.Sparse.{AreEntries, IsEntry, entries_of, value_in_column, row_of, turned}
 
 abbrev pub columns_of : List Entry → List ℕ
 columns_of es = map (λ (e : Entry). e.column) es
 
 -- the numbers in n columns behind the first ones, and the entries of a row that begins there
 abbrev pub row_behind : ℕ → ℕ → List Entry → List ℤ
-row_behind low n es = map (number_in es) (range_with_len (low + 1) n)
+row_behind low n es = map (value_in_column es) (range_with_len (low + 1) n)
 
 abbrev pub entries_behind : ℕ → List ℤ → List Entry
 entries_behind low row = map (λ (k, x). record { column = k; value = x }) (filter (λ (k, x). is_nonzero x) (zip (range_with_len (low + 1) (length row)) row))
 
 -- columns that rise have none before the first
-pub number_before : (low high : ℕ) (es : List Entry) (k : ℕ) → rises_within low high (columns_of es) ≡ true → k ≤ low → number_in es k ≡ pos 0
+pub number_before : (low high : ℕ) (es : List Entry) (k : ℕ) → rises_within low high (columns_of es) ≡ true → k ≤ low → value_in_column es k ≡ pos 0
 number_before low high [] k r h = refl
 number_before low high (e ∷ es) k r h =
     let s = rises low high e.column (columns_of es) r in
@@ -37,7 +37,7 @@ number_before low high (e ∷ es) k r h =
 pub without_first : (e : Entry) (es : List Entry) (low n : ℕ) → e.column ≤ low → row_behind low n (e ∷ es) ≡ row_behind low n es
 without_first e es low zero h = refl
 without_first e es low (suc n) h =
-    let here : number_in (e ∷ es) (low + 1) ≡ number_in es (low + 1) = grind (arith, nat_tests) in
+    let here : value_in_column (e ∷ es) (low + 1) ≡ value_in_column es (low + 1) = grind (arith, nat_tests) in
     let later = without_first e es (low + 1) n (omega (arith, h)) in
     λ i. here i ∷ later i
 
@@ -75,7 +75,7 @@ in_next low n e es r =
       | inr most ↦ inl (omega (arith, most, s.above))
     ]
 
-pub number_first : (e : Entry) (es : List Entry) (k : ℕ) → e.column ≡ k → number_in (e ∷ es) k ≡ e.value
+pub number_first : (e : Entry) (es : List Entry) (k : ℕ) → e.column ≡ k → value_in_column (e ∷ es) k ≡ e.value
 number_first e es k h = grind (arith, nat_tests)
 
 -- the entries of the row that entries make are these
@@ -138,7 +138,7 @@ pub are_entries : (row : List ℤ) → AreInRange row → AreEntries (length row
 are_entries row h = record { rise = subst (λ (m : ℕ). rises_within 0 m (columns_of (entries_of row)) ≡ true) (let e : 0 + length row ≡ length row = omega arith in e) (entries_rise 0 row); each = entries_each 0 row h }
 
 -- behind the last column
-pub number_past : (low high : ℕ) (es : List Entry) (k : ℕ) → rises_within low high (columns_of es) ≡ true → high < k → number_in es k ≡ pos 0
+pub number_past : (low high : ℕ) (es : List Entry) (k : ℕ) → rises_within low high (columns_of es) ≡ true → high < k → value_in_column es k ≡ pos 0
 number_past low high [] k r h = refl
 number_past low high (e ∷ es) k r h =
     let s = rises low high e.column (columns_of es) r in
@@ -146,22 +146,22 @@ number_past low high (e ∷ es) k r h =
     grind (arith, nat_tests, s.within, later)
 
 -- a number in a column is in range
-pub number_in_range : (es : List Entry) (k : ℕ) → All IsEntry es → IsTrue (is_in_range (number_in es k))
+pub number_in_range : (es : List Entry) (k : ℕ) → All IsEntry es → IsTrue (is_in_range (value_in_column es k))
 number_in_range [] k h = refl
 number_in_range (e ∷ es) k h = at_test (e.column == k) refl (All-head IsEntry e es h).1 (number_in_range es k (All-tail IsEntry e es h))
   where
-    at_test : (b : Bool) → (e.column == k) ≡ b → IsTrue (is_in_range e.value) → IsTrue (is_in_range (number_in es k)) → IsTrue (is_in_range (number_in (e ∷ es) k))
+    at_test : (b : Bool) → (e.column == k) ≡ b → IsTrue (is_in_range e.value) → IsTrue (is_in_range (value_in_column es k)) → IsTrue (is_in_range (value_in_column (e ∷ es) k))
     at_test true t here later = rw t here
     at_test false t here later = rw t later
 
 -- what stands in a column
-pub number_is : (n : ℕ) (es : List Entry) (k : ℕ) → AreEntries n es → 0 < k → number_in es k ≡ entry (row_of n es) k
+pub number_is : (n : ℕ) (es : List Entry) (k : ℕ) → AreEntries n es → 0 < k → value_in_column es k ≡ entry (row_of n es) k
 number_is n es k h some = elim (cases_lt n k) [
   | inl past ↦ (
-      let size = length-map-range_with_len (number_in es) 1 n in
+      let size = length-map-range_with_len (value_in_column es) 1 n in
       let none = get_or_past (row_of n es) (k - 1) (pos 0) (omega (arith, size, past)) in
       number_past 0 n es k h.rise past ∙ sym none)
-  | inr within ↦ sym (get_or-map-range_with_len (number_in es) 1 n (k - 1) k (pos 0) (omega (arith, within, some)) (omega (arith, some)))
+  | inr within ↦ sym (get_or-map-range_with_len (value_in_column es) 1 n (k - 1) k (pos 0) (omega (arith, within, some)) (omega (arith, some)))
 ]
 
 -- entries times -1
@@ -169,11 +169,11 @@ columns-turned : (es : List Entry) → columns_of (map turned es) ≡ columns_of
 columns-turned [] = refl
 columns-turned (e ∷ es) = λ i. e.column ∷ columns-turned es i
 
-number-turned : (es : List Entry) (k : ℕ) → number_in (map turned es) k ≡ neg_ℤ (number_in es k)
+number-turned : (es : List Entry) (k : ℕ) → value_in_column (map turned es) k ≡ neg_ℤ (value_in_column es k)
 number-turned [] k = refl
 number-turned (e ∷ es) k = at_test (e.column == k) refl (number-turned es k)
   where
-    at_test : (b : Bool) → (e.column == k) ≡ b → number_in (map turned es) k ≡ neg_ℤ (number_in es k) → number_in (map turned (e ∷ es)) k ≡ neg_ℤ (number_in (e ∷ es) k)
+    at_test : (b : Bool) → (e.column == k) ≡ b → value_in_column (map turned es) k ≡ neg_ℤ (value_in_column es k) → value_in_column (map turned (e ∷ es)) k ≡ neg_ℤ (value_in_column (e ∷ es) k)
     at_test true t later = rw t refl
     at_test false t later = rw t later
 
@@ -202,4 +202,4 @@ map_twice f g [] = refl
 map_twice f g (k ∷ ks) = λ i. f (g k) ∷ map_twice f g ks i
 
 pub row-turned : (n : ℕ) (es : List Entry) → row_of n (map turned es) ≡ map neg_ℤ (row_of n es)
-row-turned n es = same_map (number_in (map turned es)) (λ k. neg_ℤ (number_in es k)) (number-turned es) (range_with_len 1 n) ∙ map_twice neg_ℤ (number_in es) (range_with_len 1 n)
+row-turned n es = same_map (value_in_column (map turned es)) (λ k. neg_ℤ (value_in_column es k)) (number-turned es) (range_with_len 1 n) ∙ map_twice neg_ℤ (value_in_column es) (range_with_len 1 n)

@@ -13,7 +13,7 @@ use Rattle.lk_model.specs.declared.wide.Wide.{Wide}
 use Rattle.lk_model.proofs.Rising.{rises, rises_from, rises_to}
 use Rattle.exact_rows.specs.declared.sparse.Entry.{Entry}
 use Rattle.exact_rows.specs.Made.{made_at, made_by, mixed}
-use Rattle.exact_rows.specs.Sparse.{AreEntries, IsEntry, number_in, row_of}
+use Rattle.exact_rows.specs.Sparse.{AreEntries, IsEntry, value_in_column, row_of}
 use Rattle.exact_rows.specs.Merged.{first_number, next_column, past}
 use Rattle.exact_rows.proofs.Entries.{columns_of, number_before, number_past}
 use Rattle.exact_rows.proofs.Wides.{first_wide-append}
@@ -32,15 +32,15 @@ rises_push low b (x ∷ xs) e r h same =
     let s = rises low b x.column (columns_of xs) r in
     rw (lt-ltb low x.column s.above, le-leb x.column (b + 1) (omega (arith, s.within)), rises_push x.column b xs e s.more s.within same) refl
 
-number_push-other : (es : List Entry) (e : Entry) (k : ℕ) → e.column ≢ k → number_in (es ++ e ∷ []) k ≡ number_in es k
+number_push-other : (es : List Entry) (e : Entry) (k : ℕ) → e.column ≢ k → value_in_column (es ++ e ∷ []) k ≡ value_in_column es k
 number_push-other [] e k h = grind (arith, nat_tests)
 number_push-other (x ∷ xs) e k h = at_test (x.column == k) refl (number_push-other xs e k h)
   where
-    at_test : (b : Bool) → (x.column == k) ≡ b → number_in (xs ++ e ∷ []) k ≡ number_in xs k → number_in (x ∷ xs ++ e ∷ []) k ≡ number_in (x ∷ xs) k
+    at_test : (b : Bool) → (x.column == k) ≡ b → value_in_column (xs ++ e ∷ []) k ≡ value_in_column xs k → value_in_column (x ∷ xs ++ e ∷ []) k ≡ value_in_column (x ∷ xs) k
     at_test true t later = rw t refl
     at_test false t later = rw t later
 
-number_push-here : (low b : ℕ) (es : List Entry) (e : Entry) → rises_within low b (columns_of es) ≡ true → e.column ≡ b + 1 → number_in (es ++ e ∷ []) (b + 1) ≡ e.value
+number_push-here : (low b : ℕ) (es : List Entry) (e : Entry) → rises_within low b (columns_of es) ≡ true → e.column ≡ b + 1 → value_in_column (es ++ e ∷ []) (b + 1) ≡ e.value
 number_push-here low b [] e r same = grind (arith, nat_tests)
 number_push-here low b (x ∷ xs) e r same =
     let s = rises low b x.column (columns_of xs) r in
@@ -49,7 +49,7 @@ number_push-here low b (x ∷ xs) e r same =
 
 -- THE FIRST COLUMN
 
-first_is : (b n : ℕ) (es : List Entry) → rises_within b n (columns_of es) ≡ true → first_number es (b + 1) ≡ number_in es (b + 1)
+first_is : (b n : ℕ) (es : List Entry) → rises_within b n (columns_of es) ≡ true → first_number es (b + 1) ≡ value_in_column es (b + 1)
 first_is b n [] r = refl
 first_is b n (e ∷ es) r =
     let s = rises b n e.column (columns_of es) r in
@@ -71,11 +71,11 @@ past_rises b n (e ∷ es) r = at_test (e.column == b + 1) refl
         let later : b + 1 < e.column = grind (arith, nat_tests, s.above) in
         rw t (again b (b + 1) n e es r later)
 
-past_same : (b : ℕ) (es : List Entry) (k : ℕ) → b + 1 < k → number_in (past es (b + 1)) k ≡ number_in es k
+past_same : (b : ℕ) (es : List Entry) (k : ℕ) → b + 1 < k → value_in_column (past es (b + 1)) k ≡ value_in_column es k
 past_same b [] k h = refl
 past_same b (e ∷ es) k h = at_test (e.column == b + 1) refl
   where
-    at_test : (t : Bool) → (e.column == b + 1) ≡ t → number_in (past (e ∷ es) (b + 1)) k ≡ number_in (e ∷ es) k
+    at_test : (t : Bool) → (e.column == b + 1) ≡ t → value_in_column (past (e ∷ es) (b + 1)) k ≡ value_in_column (e ∷ es) k
     at_test true t = rw t (grind (arith, nat_tests, h))
     at_test false t = rw t refl
 
@@ -156,12 +156,12 @@ pub record Merged (n c : ℕ) (s t : ℤ) (row other left right out : List Entry
   pub width : c ≤ n
   pub left_rise : rises_within c n (columns_of left) ≡ true
   pub right_rise : rises_within c n (columns_of right) ≡ true
-  pub left_same : (k : ℕ) → c < k → number_in left k ≡ number_in row k
-  pub right_same : (k : ℕ) → c < k → number_in right k ≡ number_in other k
+  pub left_same : (k : ℕ) → c < k → value_in_column left k ≡ value_in_column row k
+  pub right_same : (k : ℕ) → c < k → value_in_column right k ≡ value_in_column other k
   pub out_rise : rises_within 0 c (columns_of out) ≡ true
   pub out_each : All IsEntry out
-  pub in_range : (k : ℕ) → 0 < k → k ≤ c → first_wide (made_at s t (number_in row k) (number_in other k)) ≡ None
-  pub out_same : (k : ℕ) → 0 < k → k ≤ c → number_in out k ≡ s *ℤ number_in row k -ℤ t *ℤ number_in other k
+  pub in_range : (k : ℕ) → 0 < k → k ≤ c → first_wide (made_at s t (value_in_column row k) (value_in_column other k)) ≡ None
+  pub out_same : (k : ℕ) → 0 < k → k ≤ c → value_in_column out k ≡ s *ℤ value_in_column row k -ℤ t *ℤ value_in_column other k
 
 times_zero : (s : ℤ) → s *ℤ pos 0 ≡ pos 0
 times_zero s = omega (arith, ints)
@@ -177,8 +177,8 @@ zeros_in_range s t x y e f = rw (e, f, times_zero s, times_zero t) refl
 pub skipped : (n c b : ℕ) (s t : ℤ) (row other left right out : List Entry) → c ≤ b → b ≤ n → rises_within b n (columns_of left) ≡ true → rises_within b n (columns_of right) ≡ true
     → Merged n c s t row other left right out → Merged n b s t row other left right out
 skipped n c b s t row other left right out h k l r m =
-    let none_left : (i : ℕ) → c < i → i ≤ b → number_in row i ≡ pos 0 = (λ i above most. sym (m.left_same i above) ∙ number_before b n left i l most) in
-    let none_right : (i : ℕ) → c < i → i ≤ b → number_in other i ≡ pos 0 = (λ i above most. sym (m.right_same i above) ∙ number_before b n right i r most) in
+    let none_left : (i : ℕ) → c < i → i ≤ b → value_in_column row i ≡ pos 0 = (λ i above most. sym (m.left_same i above) ∙ number_before b n left i l most) in
+    let none_right : (i : ℕ) → c < i → i ≤ b → value_in_column other i ≡ pos 0 = (λ i above most. sym (m.right_same i above) ∙ number_before b n right i r most) in
     record {
       width = k;
       left_rise = l;
@@ -188,27 +188,27 @@ skipped n c b s t row other left right out h k l r m =
       out_rise = rises_to 0 c b (columns_of out) h m.out_rise;
       out_each = m.out_each;
       in_range = λ i some most. elim (cases_lt c i) [
-        | inl above ↦ zeros_in_range s t (number_in row i) (number_in other i) (none_left i above most) (none_right i above most)
+        | inl above ↦ zeros_in_range s t (value_in_column row i) (value_in_column other i) (none_left i above most) (none_right i above most)
         | inr before ↦ m.in_range i some before
       ];
       out_same = λ i some most. elim (cases_lt c i) [
-        | inl above ↦ number_past 0 c out i m.out_rise above ∙ sym (zeros_mixed s t (number_in row i) (number_in other i) (none_left i above most) (none_right i above most))
+        | inl above ↦ number_past 0 c out i m.out_rise above ∙ sym (zeros_mixed s t (value_in_column row i) (value_in_column other i) (none_left i above most) (none_right i above most))
         | inr before ↦ m.out_same i some before
       ];
     }
 
 -- the numbers of the whole rows in the next column
 module _ (n b : ℕ) (s t : ℤ) (row other left right out : List Entry) (m : Merged n b s t row other left right out) where
-  first_left : first_number left (b + 1) ≡ number_in row (b + 1)
+  first_left : first_number left (b + 1) ≡ value_in_column row (b + 1)
   first_left = first_is b n left m.left_rise ∙ m.left_same (b + 1) (omega arith)
 
-  first_right : first_number right (b + 1) ≡ number_in other (b + 1)
+  first_right : first_number right (b + 1) ≡ value_in_column other (b + 1)
   first_right = first_is b n right m.right_rise ∙ m.right_same (b + 1) (omega arith)
 
   -- after the next column, where these are its entries
   pub stepped : (z : ℤ) (now : List Entry) → b < n → first_wide (made_at s t (first_number left (b + 1)) (first_number right (b + 1))) ≡ None
       → z ≡ s *ℤ first_number left (b + 1) -ℤ t *ℤ first_number right (b + 1)
-      → rises_within 0 (b + 1) (columns_of now) ≡ true → All IsEntry now → number_in now (b + 1) ≡ z → ((k : ℕ) → 0 < k → k ≤ b → number_in now k ≡ number_in out k)
+      → rises_within 0 (b + 1) (columns_of now) ≡ true → All IsEntry now → value_in_column now (b + 1) ≡ z → ((k : ℕ) → 0 < k → k ≤ b → value_in_column now k ≡ value_in_column out k)
       → Merged n (b + 1) s t row other (past left (b + 1)) (past right (b + 1)) now
   stepped z now h none value rise each here before = record {
     width = omega (arith, h);
@@ -221,14 +221,14 @@ module _ (n b : ℕ) (s t : ℤ) (row other left right out : List Entry) (m : Me
     in_range = λ i some most. elim (cases_lt i (b + 1)) [
       | inl earlier ↦ m.in_range i some (omega (arith, earlier))
       | inr last ↦ (let same : b + 1 ≡ i = omega (arith, last, most) in
-          subst (λ (k : ℕ). first_wide (made_at s t (number_in row k) (number_in other k)) ≡ None) same
-          (subst (λ (x : ℤ). first_wide (made_at s t x (number_in other (b + 1))) ≡ None) first_left (subst (λ (y : ℤ). first_wide (made_at s t (first_number left (b + 1)) y) ≡ None) first_right none)))
+          subst (λ (k : ℕ). first_wide (made_at s t (value_in_column row k) (value_in_column other k)) ≡ None) same
+          (subst (λ (x : ℤ). first_wide (made_at s t x (value_in_column other (b + 1))) ≡ None) first_left (subst (λ (y : ℤ). first_wide (made_at s t (first_number left (b + 1)) y) ≡ None) first_right none)))
     ];
     out_same = λ i some most. elim (cases_lt i (b + 1)) [
       | inl earlier ↦ before i some (omega (arith, earlier)) ∙ m.out_same i some (omega (arith, earlier))
       | inr last ↦ (let same : b + 1 ≡ i = omega (arith, last, most) in
-          subst (λ (k : ℕ). number_in now k ≡ s *ℤ number_in row k -ℤ t *ℤ number_in other k) same
-          (here ∙ value ∙ ap (λ x. s *ℤ x -ℤ t *ℤ first_number right (b + 1)) first_left ∙ ap (λ y. s *ℤ number_in row (b + 1) -ℤ t *ℤ y) first_right))
+          subst (λ (k : ℕ). value_in_column now k ≡ s *ℤ value_in_column row k -ℤ t *ℤ value_in_column other k) same
+          (here ∙ value ∙ ap (λ x. s *ℤ x -ℤ t *ℤ first_number right (b + 1)) first_left ∙ ap (λ y. s *ℤ value_in_column row (b + 1) -ℤ t *ℤ y) first_right))
     ];
   }
 
@@ -298,9 +298,9 @@ ended n c s t row other left right out e m =
     let r : rises_within n n (columns_of right) ≡ true = rw (none.1) refl in
     let all = skipped n c n s t row other left right out m.width (omega arith) l r m in
     record {
-      none = none_wide s t (number_in row) (number_in other) 1 n (λ k some most. all.in_range k (omega (arith, some)) (omega (arith, most)));
+      none = none_wide s t (value_in_column row) (value_in_column other) 1 n (λ k some most. all.in_range k (omega (arith, some)) (omega (arith, most)));
       entries = record { rise = all.out_rise; each = all.out_each };
-      value = mixed_along s t (number_in out) (number_in row) (number_in other) 1 n (λ k some most. all.out_same k (omega (arith, some)) (omega (arith, most)));
+      value = mixed_along s t (value_in_column out) (value_in_column row) (value_in_column other) 1 n (λ k some most. all.out_same k (omega (arith, some)) (omega (arith, most)));
     }
 
 -- at a result that is out of range
@@ -309,8 +309,8 @@ pub stopped : (n b : ℕ) (s t : ℤ) (row other left right out : List Entry) (w
     → first_wide (made_by s t (row_of n row) (row_of n other)) ≡ Some w
 stopped n b s t row other left right out w h m e =
     let one = subst (λ (x : ℤ). first_wide (made_at s t x (first_number right (b + 1))) ≡ Some w) (first_left n b s t row other left right out m) e in
-    let both = subst (λ (y : ℤ). first_wide (made_at s t (number_in row (b + 1)) y) ≡ Some w) (first_right n b s t row other left right out m) one in
-    some_wide s t (number_in row) (number_in other) 1 n (b + 1) w (omega arith) (omega (arith, h)) (λ k some most. m.in_range k (omega (arith, some)) (omega (arith, most))) both
+    let both = subst (λ (y : ℤ). first_wide (made_at s t (value_in_column row (b + 1)) y) ≡ Some w) (first_right n b s t row other left right out m) one in
+    some_wide s t (value_in_column row) (value_in_column other) 1 n (b + 1) w (omega arith) (omega (arith, h)) (λ k some most. m.in_range k (omega (arith, some)) (omega (arith, most))) both
 
 -- THE NEXT COLUMN
 

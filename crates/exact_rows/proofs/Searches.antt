@@ -9,7 +9,7 @@ use Rattle.std.specs.Ordering.{nat_cmp, ordering_index}
 use Rattle.lk_model.specs.Lists.{rises_within}
 use Rattle.lk_model.proofs.Rising.{rises}
 use Rattle.exact_rows.specs.declared.sparse.Entry.{Entry}
-use Rattle.exact_rows.specs.Sparse.{number_in}
+use Rattle.exact_rows.specs.Sparse.{value_in_column}
 use Rattle.exact_rows.proofs.Entries.{columns_of}
 
 column_above : (low high : ℕ) (es : List Entry) (i : ℕ) (d : Entry) → rises_within low high (columns_of es) ≡ true → i < length es → low < (get_or es i d).column
@@ -29,7 +29,7 @@ columns_rise low high (e ∷ es) (suc i) zero d r h k = absurd (omega (arith, h)
 columns_rise low high (e ∷ es) (suc i) (suc j) d r h k =
     columns_rise e.column high es i j d (rises low high e.column (columns_of es) r).more (omega (arith, h)) (omega (arith, k))
 
-number_at : (low high : ℕ) (es : List Entry) (i : ℕ) (d : Entry) → rises_within low high (columns_of es) ≡ true → i < length es → number_in es (get_or es i d).column ≡ (get_or es i d).value
+number_at : (low high : ℕ) (es : List Entry) (i : ℕ) (d : Entry) → rises_within low high (columns_of es) ≡ true → i < length es → value_in_column es (get_or es i d).column ≡ (get_or es i d).value
 number_at low high [] i d r h = absurd (omega (arith, h))
 number_at low high (e ∷ es) zero d r h = grind (arith, nat_tests)
 number_at low high (e ∷ es) (suc i) d r h =
@@ -38,7 +38,7 @@ number_at low high (e ∷ es) (suc i) d r h =
     let later = number_at e.column high es i d s.more (omega (arith, h)) in
     grind (arith, nat_tests, above, later)
 
-number_none : (es : List Entry) (k : ℕ) (d : Entry) → ((i : ℕ) → i < length es → (get_or es i d).column ≢ k) → number_in es k ≡ pos 0
+number_none : (es : List Entry) (k : ℕ) (d : Entry) → ((i : ℕ) → i < length es → (get_or es i d).column ≢ k) → value_in_column es k ≡ pos 0
 number_none [] k d h = refl
 number_none (e ∷ es) k d h =
     let first = h 0 (omega arith) in
@@ -47,14 +47,14 @@ number_none (e ∷ es) k d h =
 
 -- the entry that was found, at its place
 pub number_found : (n : ℕ) (es : List Entry) (k at : ℕ) (d : Entry) → rises_within 0 n (columns_of es) ≡ true → at < length es
-    → IsBinarySearchResult (λ (e : Entry). nat_cmp e.column k) es (Ok at) → (get_or es at d).value ≡ number_in es k
+    → IsBinarySearchResult (λ (e : Entry). nat_cmp e.column k) es (Ok at) → (get_or es at d).value ≡ value_in_column es k
 number_found n es k at d r h f =
     let same : (get_or es at d).column ≡ k = ranked (get_or es at d).column k _ (sym (f d)) in
     sym (number_at 0 n es at d r h) ∙ rw same refl
 
 -- none was found
 pub number_not_found : (n : ℕ) (es : List Entry) (k at : ℕ) (d : Entry) → rises_within 0 n (columns_of es) ≡ true
-    → IsSearchInRange (Err at) (length es) → IsBinarySearchResult (λ (e : Entry). nat_cmp e.column k) es (Err at) → pos 0 ≡ number_in es k
+    → IsSearchInRange (Err at) (length es) → IsBinarySearchResult (λ (e : Entry). nat_cmp e.column k) es (Err at) → pos 0 ≡ value_in_column es k
 number_not_found n es k at d r b f =
     let rise : IsNonDecreasingBy (λ (e : Entry). ordering_index (nat_cmp e.column k)) es = IsNonDecreasingBy-from_default (λ (e : Entry). ordering_index (nat_cmp e.column k)) es d (λ i j le h.
     let up = columns_rise 0 n es i j d r le h in grind (arith, nat_tests, up)) in

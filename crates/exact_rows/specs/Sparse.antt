@@ -10,13 +10,13 @@ use Rattle.exact_rows.specs.declared.sparse.SparseStop.{SparseStop}
 use Rattle.exact_rows.specs.declared.sparse.SparseStop.TheVariants.{Wide, OutOfMemory}
 
 -- the number in a column: that of the entry there, or 0
-abbrev pub number_in : List Entry → ℕ → ℤ
-number_in [] k = pos 0
-number_in (e ∷ es) k = if e.column == k then e.value else number_in es k
+abbrev pub value_in_column : List Entry → ℕ → ℤ
+value_in_column [] k = pos 0
+value_in_column (e ∷ es) k = if e.column == k then e.value else value_in_column es k
 
 -- the numbers in the columns from 1 to n
 abbrev pub row_of : ℕ → List Entry → List ℤ
-row_of n es = map (number_in es) (up_to n)
+row_of n es = map (value_in_column es) (up_to n)
 
 -- the numbers of a row that are not 0, with their columns
 abbrev pub entries_of : List ℤ → List Entry

@@ -6,9 +6,8 @@
 ghost use Rattle.std.specs.Prelude.{◌≡◌, ◌≢◌, ℕ, pos, ◌<ℤ◌, length, map, IsTrue, IfOk, OnOk, OnErr};
 ghost use Rattle.std.specs.List.{All};
 ghost use Rattle.lk_model.specs.Limits.{is_in_range};
-ghost use Rattle.lk_model.specs.Linear.Arithmetic.{primitive};
 ghost use Rattle.lk_model.specs.Linear.Pivot.{combined, made_in_row};
-ghost use Rattle.exact_rows.specs.Made.{AreInRange, made_by, mixed};
+ghost use Rattle.exact_rows.specs.Made.{made_by, mixed};
 ghost use Rattle.exact_rows.specs.Sparse.{AreEntries, EndsBy, IsEntry, row_of};
 ghost use Rattle.exact_rows.specs.Merged.{content_of, divided, first_number, next_column, past};
 
@@ -55,9 +54,12 @@ fn mixed_entries(
     scale: i128,
     share: i128,
 ) -> Result<Vec<Entry>, SparseStop>
-    ensures ends { (n : ℕ) → AreEntries n row.now → AreEntries n other.now → EndsBy (made_by scale share (row_of n row.now) (row_of n other.now)) result }
-    ensures entries { (n : ℕ) → AreEntries n row.now → AreEntries n other.now → IfOk result (λ es. AreEntries n es.items) }
-    ensures value { (n : ℕ) → AreEntries n row.now → AreEntries n other.now → IfOk result (λ es. row_of n es.items ≡ mixed scale share (row_of n row.now) (row_of n other.now)) }
+    ensures ends { (n : ℕ) → AreEntries n row.now → AreEntries n other.now →
+        EndsBy (made_by scale share (row_of n row.now) (row_of n other.now)) result }
+    ensures entries { (n : ℕ) → AreEntries n row.now → AreEntries n other.now →
+        IfOk result (λ es. AreEntries n es.items) }
+    ensures value { (n : ℕ) → AreEntries n row.now → AreEntries n other.now →
+        IfOk result (λ es. row_of n es.items ≡ mixed scale share (row_of n row.now) (row_of n other.now)) }
 {
     let (mut left, mut right) = (row, other);
     let mut mixed = Vec::with_capacity(alloc, row.len() + other.len())?;

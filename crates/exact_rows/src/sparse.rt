@@ -4,7 +4,7 @@ ghost use Rattle.std.specs.List.{All};
 ghost use Rattle.lk_model.specs.Limits.{is_in_range};
 ghost use Rattle.lk_model.specs.Linear.Rows.{entry};
 ghost use Rattle.exact_rows.specs.Made.{AreInRange};
-ghost use Rattle.exact_rows.specs.Sparse.{AreEntries, IsEntry, entries_of, number_in, row_of, turned};
+ghost use Rattle.exact_rows.specs.Sparse.{AreEntries, IsEntry, entries_of, value_in_column, row_of, turned};
 
 use lk_model::{OutOfMemory, Wide};
 use std::alloc::{AllocError, AllocFailed, Global};
@@ -121,7 +121,7 @@ impl SparseRow {
         ensures value { result ≡ entry self.now k }
         ensures range { IsTrue (is_in_range result) }
     {
-        number_in(self.kept.as_slice(), k as usize)
+        value_in_column(self.kept.as_slice(), k as usize)
     }
 
     /// Multiplies by -1. It takes no memory.
@@ -160,9 +160,9 @@ fn negative(x: i128) -> i128
 }
 
 // The number in a column, by binary search.
-fn number_in(entries: &[Entry], column: usize) -> i128
+fn value_in_column(entries: &[Entry], column: usize) -> i128
     requires { (n : ℕ) × AreEntries n entries.now }
-    ensures value { result ≡ number_in entries.now column }
+    ensures value { result ≡ value_in_column entries.now column }
     ensures range { IsTrue (is_in_range result) }
 {
     match entries.binary_search_by_key(&column, |e| e.column) {

@@ -1,2 +1,1 @@
-pub mod SizeForms
 pub mod ClauseForms

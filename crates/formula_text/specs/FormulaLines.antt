@@ -1,29 +1,10 @@
--- The lines of a formula inside a text: what its problem line says, and what a clause line leads to.
-use Rattle.std.specs.Prelude.{◌≡◌, ℕ, ◌+◌, Bool, true, false, ◌&&◌, ◌==◌, nat_lt, nat_le, if◌then◌else◌, List, [], ◌∷◌, length, ℤ, codes, Option, Some, None, option_and_then}
-use Rattle.std.specs.Option.{option_map_or}
-use Rattle.lk_model.specs.Limits.{max_vars, max_clauses, max_literals}
+-- The clause lines of a formula inside a text, and what one of them leads to.
+use Rattle.std.specs.Prelude.{◌≡◌, ℕ, ◌+◌, Bool, true, false, ◌&&◌, nat_lt, nat_le, if◌then◌else◌, List, [], length, ℤ, Option, Some, None, option_and_then}
+use Rattle.lk_model.specs.Limits.{max_literals}
 use Rattle.lk_model.specs.Formulas.Formula.{Cnf, literal_count, with_clause}
 use Rattle.lk_model.specs.Held.Growing.{Growing}
 use Rattle.lk_model.specs.Texts.Lines.{Word}
-use Rattle.lk_model.specs.Texts.PlainText.{number_words}
-use Rattle.line_text.specs.Fields.{after, two_within}
 use Rattle.line_text.specs.FieldLists.{clause_from}
-
--- SIZES
-
--- the words are two keywords and these numbers of variables and clauses
-abbrev pub has_sizes : Word → Word → ℕ → ℕ → List Word → Bool
-has_sizes first second n count words =
-    option_map_or (λ (h : ℕ × ℕ). h.0 == n && h.1 == count) (option_and_then (two_within max_vars max_clauses) (after first second words)) false
-
-abbrev pub problem_line : ℕ → ℕ → List Word
-problem_line n count = codes "p" ∷ codes "cnf" ∷ number_words (n ∷ count ∷ [])
-
--- the words are those of the problem line
-abbrev pub is_problem : ℕ → ℕ → List Word → Bool
-is_problem n count words = has_sizes (codes "p") (codes "cnf") n count words
-
--- CLAUSES
 
 -- fewer clauses than there are to be, and the limit leaves room for the literals
 abbrev pub has_room : ℕ → Cnf → List ℤ → Bool

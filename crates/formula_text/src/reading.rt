@@ -3,7 +3,8 @@ ghost use Rattle.std.specs.Prelude.{◌≤◌, ◌≡◌, IfOk};
 ghost use Rattle.lk_model.specs.Limits.{max_clauses};
 ghost use Rattle.line_text.specs.Fields.{fields};
 ghost use Rattle.line_text.specs.Taking.{IsTaken};
-ghost use Rattle.formula_text.specs.FormulaLines.{has_sizes, is_problem, next_clause, IsReady, IsReadyAgain};
+ghost use Rattle.line_text.specs.SizeLines.{has_sizes, is_problem};
+ghost use Rattle.formula_text.specs.FormulaLines.{next_clause, IsReady, IsReadyAgain};
 
 use line_text::{behind, read_clause, two_numbers};
 use lk_model::{Formula, FormulaError, MAX_CLAUSES, MAX_VARS, OpenClause, OutOfMemory};

@@ -1,7 +1,6 @@
 -- A refutation among short clauses as a round.
-use Rattle.std.proofs.Common.{◌≡◌, ◌∙◌, ℕ, ◌+◌, ◌<◌, ◌^◌, ◌||◌, Bool, true, false, List, [], ◌∷◌, ◌++◌, Option, Some, length, sym, ap, subst, arith, filter, refl}
+use Rattle.std.proofs.Common.{◌≡◌, ◌∙◌, ℕ, ◌+◌, ◌<◌, ◌^◌, ◌||◌, Bool, true, false, List, [], ◌∷◌, ◌++◌, Option, Some, length, ap, subst, filter, refl}
 use Rattle.std.specs.List.{list_all}
-use Rattle.std.proofs.lemmas.Bool.{and_from}
 use Rattle.lk_model.specs.Formulas.Formula.{Cnf, clause_at, variable_occurs}
 use Rattle.lk_model.specs.Formulas.Crossed.{Variables}
 use Rattle.lk_model.specs.Formulas.Lean.{are_positions}
@@ -15,17 +14,17 @@ use Rattle.general_kernel.specs.declared.short.ShortRefutation.{ShortRefutation}
 use Rattle.general_kernel.specs.ShortRounds.{IsShortRefutation, IsShortAnswer}
 use Rattle.general_kernel.proofs.Needed.{round_of}
 use Rattle.general_kernel.proofs.Results.{all_left}
-use Rattle.general_kernel.proofs.States.{IsAt, IsPut, goes_on}
+use Rattle.general_kernel.proofs.States.{IsAt, goes_on}
 
 -- what is answered
-pub short_answered : (over : Crossed) (next left : ℕ) (o : Option ShortRefutation) (r : ShortRefutation) → IsShortAnswer over next left o → o ≡ Some r
-    → IsShortRefutation over next left r
-short_answered over next left o r a is = subst (λ (x : Option ShortRefutation). IsShortAnswer over next left x) is a
+pub short_answered : (over : Crossed) (next budget : ℕ) (o : Option ShortRefutation) (r : ShortRefutation) → IsShortAnswer over next budget o → o ≡ Some r
+    → IsShortRefutation over next budget r
+short_answered over next budget o r a is = subst (λ (x : Option ShortRefutation). IsShortAnswer over next budget x) is a
 
 -- what it is over
-pub record IsShortTurn (F : Cnf) (part : List ℕ) (flags : List Bool) (next left : ℕ) (r : ShortRefutation) : Type 0 where
+pub record IsShortTurn (F : Cnf) (part : List ℕ) (flags : List Bool) (next budget : ℕ) (r : ShortRefutation) : Type 0 where
   pub over : Crossed
-  pub refuted : IsShortRefutation over next left r
+  pub refuted : IsShortRefutation over next budget r
   pub formula : over.formula.now ≡ F
   pub positions : over.part.now ≡ part
   pub blocked : over.blocked.now ≡ flags
@@ -35,12 +34,12 @@ pub record IsShortPut (F : Cnf) (s s' : Rounds) (r : ShortRefutation) : Type 0 w
   pub first : s'.first ≡ s.first
   pub whole : s'.whole ≡ s.whole ++ round_of r.round.steps ∷ []
   pub next : s'.next ≡ s.next + length r.round.steps
-  pub left : s'.left + length r.round.steps ≡ s.left + 1
+  pub budget : s'.budget + length r.round.steps ≡ s.budget + 1
   pub size : length s'.blocked ≡ length s.blocked
   pub blocked : (v : ℕ) → is_in s'.blocked v ≡ (is_in s.blocked v || variable_occurs F r.used v)
 
 -- the rounds go on
-pub short_turns : (F : Cnf) (part : List ℕ) (conflicts : ℕ) (s s' : Rounds) (r : ShortRefutation) → IsShortTurn F part s.blocked s.next s.left r
+pub short_turns : (F : Cnf) (part : List ℕ) (conflicts : ℕ) (s s' : Rounds) (r : ShortRefutation) → IsShortTurn F part s.blocked s.next s.budget r
     → conflicts < 2 ^ 63 → are_positions F part ≡ true → IsAt F part conflicts s → IsShortPut F s s' r
     → IsAt F part conflicts s' × (length (unblocked F.vars (is_in s'.blocked)) < length (unblocked F.vars (is_in s.blocked)))
 short_turns F part conflicts s s' r t most positions a p = at F part t.formula t.positions positions a p
@@ -54,7 +53,7 @@ short_turns F part conflicts s s' r t most positions a p = at F part t.formula t
           first = p.first;
           whole = p.whole;
           next = p.next;
-          left = p.left;
+          budget = p.budget;
           size = p.size;
           blocked = λ v. p.blocked v ∙ ap (λ (ps : List ℕ). is_in s.blocked v || variable_occurs t.over.formula.now ps v) t.refuted.used;
         })

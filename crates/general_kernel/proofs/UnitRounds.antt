@@ -1,5 +1,5 @@
 -- A refutation by unit propagation as a round.
-use Rattle.std.proofs.Common.{◌≡◌, ◌∙◌, ℕ, suc, ◌+◌, ◌<◌, ◌≤◌, ◌^◌, ◌==◌, ◌||◌, ◌&&◌, Bool, true, false, not, nat_lt, List, [], ◌∷◌, ◌++◌, Option, Some, ℤ, length, refl, sym, ap, subst, arith, inl, inr}
+use Rattle.std.proofs.Common.{◌≡◌, ◌∙◌, ℕ, suc, ◌+◌, ◌<◌, ◌≤◌, ◌^◌, ◌==◌, ◌||◌, Bool, true, false, not, nat_lt, List, [], ◌∷◌, ◌++◌, Option, Some, ℤ, length, refl, sym, ap, subst, arith, inl, inr}
 use Rattle.std.specs.List.{list_all}
 use Rattle.std.specs.Option.{option_map_or}
 use Rattle.std.proofs.lemmas.Bool.{eq-eqb, le-leb, and_from}
@@ -64,10 +64,10 @@ is_named_at over ns k crossed h there =
     let bounds = bounded 0 (length over.formula.now.clauses) over.part.now k crossed.part both.0 in
     record { within = both.0; filled = both.1; first = bounds.0; last = bounds.1 }
 
-pub unit_refuted : (over : Crossed) (next left : ℕ) (r : UnitRefutation) → IsCrossed over → length over.formula.now.clauses < next → IsUnitRefutation over next r
-    → IsRefutedOver over next left (record { first = next; steps = r.round.steps })
-unit_refuted over next left r crossed past u =
-    subst (λ (ss : List Step). IsRefutedOver over next left (record { first = next; steps = ss })) (sym u.steps) at_step
+pub unit_refuted : (over : Crossed) (next budget : ℕ) (r : UnitRefutation) → IsCrossed over → length over.formula.now.clauses < next → IsUnitRefutation over next r
+    → IsRefutedOver over next budget (record { first = next; steps = r.round.steps })
+unit_refuted over next budget r crossed past u =
+    subst (λ (ss : List Step). IsRefutedOver over next budget (record { first = next; steps = ss })) (sym u.steps) at_step
   where
     m : ℕ
     m = length over.formula.now.clauses
@@ -84,7 +84,7 @@ unit_refuted over next left r crossed past u =
     filled : (k : ℕ) → among (names_of s) k ≡ true → (nat_lt (length over.formula.now.clauses) k || not (is_empty (clause_over over k))) ≡ true
     filled k there = or_right (nat_lt (length over.formula.now.clauses) k) _ (is_named_at over (names_of s) k crossed all_filled there).filled
 
-    at_step : IsRefutedOver over next left (record { first = next; steps = s ∷ [] })
+    at_step : IsRefutedOver over next budget (record { first = next; steps = s ∷ [] })
     at_step = record {
       numbered = refl;
       round = record {
@@ -173,7 +173,7 @@ pub record IsUnitPut (F : Cnf) (s s' : Rounds) (r : UnitRefutation) : Type 0 whe
   pub first : s'.first ≡ s.first
   pub whole : s'.whole ≡ s.whole ++ round_of r.round.steps ∷ []
   pub next : s'.next ≡ s.next + length r.round.steps
-  pub left : s'.left + length r.round.steps ≡ s.left + 1
+  pub budget : s'.budget + length r.round.steps ≡ s.budget + 1
   pub size : length s'.blocked ≡ length s.blocked
   pub blocked : (v : ℕ) → is_in s'.blocked v ≡ (is_in s.blocked v || variable_occurs F r.used v)
 
@@ -189,11 +189,11 @@ unit_turns F part conflicts s s' r t most positions a p = at F part t.formula t.
     over_it positions a p =
         let crossed : IsCrossed t.over = record { part = positions; blocked = ap (λ (bs : List Bool). length bs) t.blocked ∙ a.size } in
         let past : length t.over.formula.now.clauses < s.next = let n = a.next in omega (arith, n) in
-        goes_on t.over conflicts s s' (record { first = s.next; steps = r.round.steps }) most crossed t.blocked a (unit_refuted t.over s.next s.left r crossed past t.refuted) (record {
+        goes_on t.over conflicts s s' (record { first = s.next; steps = r.round.steps }) most crossed t.blocked a (unit_refuted t.over s.next s.budget r crossed past t.refuted) (record {
           first = p.first;
           whole = p.whole;
           next = p.next;
-          left = p.left;
+          budget = p.budget;
           size = p.size;
           blocked = λ v. p.blocked v ∙ ap (λ (b : Bool). is_in s.blocked v || b) (unit_used t.over s.next r v crossed past t.refuted);
         })

@@ -1,21 +1,20 @@
 -- A refutation over some positions of a part is one over the part, where its clauses are new there.
-use Rattle.std.proofs.Common.{◌≡◌, ◌∙◌, ℕ, ◌+◌, ◌-◌, ◌*◌, ◌<◌, ◌≤◌, ◌^◌, Bool, true, false, not, cond, ◌||◌, ◌&&◌, nat_le, nat_lt, List, [], ◌∷◌, ◌++◌, ℤ, Option, Some, None, length, map, refl, sym, ap, subst, arith, inl, inr}
+use Rattle.std.proofs.Common.{◌≡◌, ◌∙◌, ℕ, ◌+◌, ◌-◌, ◌<◌, ◌≤◌, ◌^◌, Bool, true, false, not, cond, ◌||◌, ◌&&◌, nat_le, nat_lt, List, [], ◌∷◌, ◌++◌, ℤ, Option, Some, None, length, refl, sym, ap, subst, arith, inl, inr}
 use Rattle.std.specs.List.{list_all, list_any}
 use Rattle.std.proofs.lemmas.Bool.{and_from}
-use Rattle.lk_model.specs.Lists.{among, is_empty, is_between, rises_within, with_earlier}
-use Rattle.lk_model.specs.Formulas.Literal.{rank_of, is_literal, is_within, is_tautology}
+use Rattle.lk_model.specs.Lists.{among, is_empty, rises_within, with_earlier}
+use Rattle.lk_model.specs.Formulas.Literal.{is_literal, is_within, is_tautology}
 use Rattle.lk_model.specs.Formulas.Formula.{Cnf, clause_at, is_formula}
 use Rattle.lk_model.specs.Formulas.Crossed.{Variables, crossed_out}
 use Rattle.lk_model.specs.Held.VariableSets.{is_in, IsCrossed}
 use Rattle.lk_model.specs.Chains.Chain.{Premises, clause_named, names_of, after_turns, chain_clause, states_its_clause, is_learned}
 use Rattle.lk_model.specs.Chains.Rounds.{used_positions}
-use Rattle.lk_model.specs.Documents.Form.{is_step, is_turn}
 use Rattle.lk_model.specs.declared.crossed.Crossed.{Crossed}
 use Rattle.lk_model.specs.declared.document.Step.{Step}
 use Rattle.lk_model.specs.declared.document.Turn.{Turn}
 use Rattle.lk_model.proofs.Booleans.{and_true, or_true, or_left, or_right}
 use Rattle.lk_model.proofs.Rising.{rises}
-use Rattle.lk_model.proofs.Ranks.{ranked_literal as literal_ranked}
+use Rattle.lk_model.proofs.Rounds.{round_literals}
 use Rattle.kernel_laws.specs.General.CountLaw.{are_stated, are_learned}
 use Rattle.kernel_laws.proofs.General.Chains.{turned, chained, stated}
 use Rattle.kernel_laws.proofs.General.Numbering.{premises_in}
@@ -136,9 +135,9 @@ names_wide over short steps s h =
     subst (λ (bs : List Bool). are_filled over.formula.now bs steps ≡ true) s.blocked
     (subst (λ (G : Cnf). are_filled G short.blocked.now steps ≡ true) s.formula h)
 
-refuted_wide : (over short : Crossed) (next most left : ℕ) (log : Derivation) → IsPartOf over short → most ≤ left → are_new over log.steps ≡ true
-    → IsRefutedOver short next most log → IsRefutedOver over next left (record { first = next; steps = log.steps })
-refuted_wide over short next most left log s le new h = record {
+refuted_wide : (over short : Crossed) (next most budget : ℕ) (log : Derivation) → IsPartOf over short → most ≤ budget → are_new over log.steps ≡ true
+    → IsRefutedOver short next most log → IsRefutedOver over next budget (record { first = next; steps = log.steps })
+refuted_wide over short next most budget log s le new h = record {
   numbered = refl;
   round = record {
     past = (let past = h.round.past in let m = ap (λ (G : Cnf). length G.clauses) s.formula in let first = h.numbered in omega (arith, past, m, first));
@@ -152,12 +151,12 @@ refuted_wide over short next most left log s le new h = record {
   most = (let few = h.most in omega (arith, few, le));
 }
 
-pub short_refuted : (over short : Crossed) (next most left : ℕ) (d : Decided) (log : Derivation) (r : ShortRefutation) → IsPartOf over short → most ≤ left
+pub short_refuted : (over short : Crossed) (next most budget : ℕ) (d : Decided) (log : Derivation) (r : ShortRefutation) → IsPartOf over short → most ≤ budget
     → IsDecided short next most d → d ≡ Refuted log → r.round.steps ≡ log.steps → are_new over r.round.steps ≡ true
-    → r.used ≡ used_positions short.formula.now (record { steps = log.steps }) → IsShortRefutation over next left r
-short_refuted over short next most left d log r s le decided is steps new used = record {
-  refuted = subst (λ (us : List Step). IsRefutedOver over next left (record { first = next; steps = us })) (sym steps)
-      (refuted_wide over short next most left log s le (subst (λ (us : List Step). are_new over us ≡ true) steps new)
+    → r.used ≡ used_positions short.formula.now (record { steps = log.steps }) → IsShortRefutation over next budget r
+short_refuted over short next most budget d log r s le decided is steps new used = record {
+  refuted = subst (λ (us : List Step). IsRefutedOver over next budget (record { first = next; steps = us })) (sym steps)
+      (refuted_wide over short next most budget log s le (subst (λ (us : List Step). are_new over us ≡ true) steps new)
       (subst (λ (x : Decided). IsDecided short next most x) is decided));
   used = used ∙ ap (λ (G : Cnf). used_positions G (record { steps = log.steps })) s.formula
       ∙ ap (λ (us : List Step). used_positions over.formula.now (record { steps = us })) (sym steps);
@@ -165,31 +164,13 @@ short_refuted over short next most left d log r s le decided is steps new used =
 
 -- THE LITERALS OF STEPS
 
-ranked_literals : (n low : ℕ) (c : List ℤ) → 1 ≤ low → rises_within low (2 * n + 1) (map rank_of c) ≡ true → list_all (is_literal n) c ≡ true
-ranked_literals n low [] one h = refl
-ranked_literals n low (l ∷ c) one h =
-    let r = rises low (2 * n + 1) (rank_of l) (map rank_of c) h in
-    let above = r.above in
-    and_from (is_literal n l) (list_all (is_literal n) c) (literal_ranked n l (omega (arith, one, above)) r.within)
-    (ranked_literals n (rank_of l) c (omega (arith, one, above)) r.more)
-
-step_literals : (n : ℕ) (steps : List Step) → list_all (is_step n) steps ≡ true → list_all (λ (s : Step). list_all (is_literal n) s.clause) steps ≡ true
-step_literals n [] h = refl
-step_literals n (s ∷ steps) h =
-    let both = and_true (is_step n s) (list_all (is_step n) steps) h in
-    let a = and_true (nat_lt s.number (2 ^ 64) && rises_within 1 (2 * n + 1) (map rank_of s.clause) && is_between 1 (s.number - 1) s.first) (list_all (is_turn n s.number) s.turns) both.0 in
-    let b = and_true (nat_lt s.number (2 ^ 64) && rises_within 1 (2 * n + 1) (map rank_of s.clause)) (is_between 1 (s.number - 1) s.first) a.0 in
-    let c = and_true (nat_lt s.number (2 ^ 64)) (rises_within 1 (2 * n + 1) (map rank_of s.clause)) b.0 in
-    and_from (list_all (is_literal n) s.clause) (list_all (λ (s : Step). list_all (is_literal n) s.clause) steps)
-    (ranked_literals n 1 s.clause (omega arith) c.1) (step_literals n steps both.1)
-
-pub short_literals : (over short : Crossed) (next most left : ℕ) (d : Decided) (log : Derivation) (steps : List Step) → IsPartOf over short → IsCrossed over
-    → is_formula over.formula.now ≡ true → most ≤ left → next + left < 2 ^ 64 - 1 → IsDecided short next most d → d ≡ Refuted log → steps ≡ log.steps
+pub short_literals : (over short : Crossed) (next most budget : ℕ) (d : Decided) (log : Derivation) (steps : List Step) → IsPartOf over short → IsCrossed over
+    → is_formula over.formula.now ≡ true → most ≤ budget → next + budget < 2 ^ 64 - 1 → IsDecided short next most d → d ≡ Refuted log → steps ≡ log.steps
     → list_all (λ (s : Step). list_all (is_literal over.formula.now.vars) s.clause) steps ≡ true
-short_literals over short next most left d log steps s crossed form le room decided is e =
+short_literals over short next most budget d log steps s crossed form le room decided is e =
     subst (λ (us : List Step). list_all (λ (s : Step). list_all (is_literal over.formula.now.vars) s.clause) us ≡ true) (sym e)
     (subst (λ (G : Cnf). list_all (λ (s : Step). list_all (is_literal G.vars) s.clause) log.steps ≡ true) s.formula
-    (step_literals short.formula.now.vars log.steps
+    (round_literals short.formula.now.vars log.steps
     (form_law short log.first log.steps (short_crossed over short s crossed) (subst (λ (G : Cnf). is_formula G ≡ true) (sym s.formula) form)
     h.round.past (let first = h.numbered in let few = h.most in omega (arith, room, first, few, le)) h.round.form h.round.chains)))
   where

@@ -13,11 +13,11 @@ abbrev pub are_new : Crossed → List Step → Bool
 are_new over steps = list_all (λ (s : Step). contains_none over s.clause) steps
 
 -- a refutation over the part, and what it uses
-pub record IsShortRefutation (over : Crossed) (next left : ℕ) (r : ShortRefutation) : Type 0 where
-  pub refuted : IsRefutedOver over next left (record { first = next; steps = r.round.steps })
+pub record IsShortRefutation (over : Crossed) (next budget : ℕ) (r : ShortRefutation) : Type 0 where
+  pub refuted : IsRefutedOver over next budget (record { first = next; steps = r.round.steps })
   pub used : r.used ≡ used_positions over.formula.now (record { steps = r.round.steps })
 
 -- a refutation, or none, of which nothing is claimed
 abbrev pub IsShortAnswer : Crossed → ℕ → ℕ → Option ShortRefutation → Type 0
-IsShortAnswer over next left None = ⊤
-IsShortAnswer over next left (Some r) = IsShortRefutation over next left r
+IsShortAnswer over next budget None = ⊤
+IsShortAnswer over next budget (Some r) = IsShortRefutation over next budget r

@@ -1,12 +1,14 @@
 //! The kernel of the class general.
 //!
-//! A clause that a refutation uses has no variable that an autarky sets, and a model of the clauses without the variables
-//! of such clauses is an autarky that satisfies the rest (Kullmann, "Investigations on Autark Assignments", 2000). So
-//! refutations in turn, each over the clauses without the variables of those before, end at the largest lean part.
+//! A clause that a refutation uses has no variable that an autarky sets, and a model of the clauses without the
+//! variables of such clauses is an autarky that satisfies the rest (Kullmann, "Investigations on Autark Assignments",
+//! 2000). So refutations in turn, each over the clauses without the variables of those before, end at the largest lean
+//! part.
 //!
-//! What unit propagation alone refutes comes first in each round, and then what short clauses refute. Only where neither
-//! does, all clauses of the part are searched, by two orders of the variables that take turns; the one that answered begins
-//! in the next such search. A refutation is kept with what it uses of it, so that the kernel can be checked without a search.
+//! What unit propagation alone refutes comes first in each round, and then what short clauses refute. Only where
+//! neither does, all clauses of the part are searched, by two orders of the variables that take turns; the one that
+//! answered begins in the next such search. A refutation is kept with what it uses of it, so that the kernel can be
+//! checked without a search.
 ghost use Rattle.std.specs.Prelude.{◌≡◌, ◌<◌, ◌^◌, length, IfOk, IsTrue};
 ghost use Rattle.lk_model.specs.Formulas.Lean.{are_positions};
 ghost use Rattle.lk_model.specs.Formulas.Formula.{variable_occurs};
@@ -28,10 +30,9 @@ use partial_assign::Partial;
 use std::alloc::Global;
 use unit_refutations::{UnitRefutation, Units};
 
-/// Looks for the general kernel in the part of a formula at some positions, which ascend and count from 1, by at most so
-/// many learned clauses. The steps are numbered from the formula's number of clauses plus 1. It ends
-/// unfinished only where conflicts is below n * 3^n for the n variables of the formula. The error is that there is no
-/// memory.
+/// Looks for the general kernel in the part of a formula at some positions, which ascend and count from 1, by at most
+/// so many learned clauses. The steps are numbered from the formula's number of clauses plus 1. It ends unfinished only
+/// where conflicts is below n * 3^n for the n variables of the formula. The error is that there is no memory.
 pub fn general_kernel(
     alloc: Global,
     f: &Formula,
@@ -65,9 +66,9 @@ pub(crate) enum End {
 fn run(alloc: Global, f: &Formula, part: &[u32], rounds: &mut Rounds) -> Result<End, OutOfMemory>
     requires part { IsTrue (are_positions f.now part.now) }
     requires begun { IsBegun f.now rounds.old }
-    requires some { 0 < rounds.old.left }
-    requires most { rounds.old.left < 2 ^ 63 }
-    ensures { IfOk result (EndsRounds f.now part.now rounds.old.left rounds.new) }
+    requires some { 0 < rounds.old.budget }
+    requires most { rounds.old.budget < 2 ^ 63 }
+    ensures { IfOk result (EndsRounds f.now part.now rounds.old.budget rounds.new) }
 {
     let mut units = Units::new(alloc, f, part)?;
     round_after_round(alloc, f, part, &mut units, rounds)
@@ -83,11 +84,11 @@ fn round_after_round(
 ) -> Result<End, OutOfMemory>
     requires part { IsTrue (are_positions f.now part.now) }
     requires begun { IsBegun f.now rounds.old }
-    requires some { 0 < rounds.old.left }
-    requires most { rounds.old.left < 2 ^ 63 }
+    requires some { 0 < rounds.old.budget }
+    requires most { rounds.old.budget < 2 ^ 63 }
     requires kept { IsKept f.now rounds.old.blocked units.old }
     requires within { IsWithin part.now units.old }
-    ensures { IfOk result (EndsRounds f.now part.now rounds.old.left rounds.new) }
+    ensures { IfOk result (EndsRounds f.now part.now rounds.old.budget rounds.new) }
 {
     let mut turns = Turns::new();
     let mut again = 0;
@@ -107,7 +108,7 @@ fn round_after_round(
             let set = List::new(alloc);
             return Ok(End::Kernel { kept, set });
         }
-        if rounds.left == 0 {
+        if rounds.budget == 0 {
             let steps = List::new(alloc);
             return Ok(End::Open(Round { steps }));
         }
@@ -117,7 +118,7 @@ fn round_after_round(
             &over,
             units,
             rounds.next,
-            rounds.left,
+            rounds.budget,
             so_far,
             &mut again,
         )?;
@@ -126,7 +127,7 @@ fn round_after_round(
             units.block(f, used.as_slice(), &mut rounds.blocked)?;
             continue 'rounds;
         }
-        match decide_by_turns(alloc, &over, &mut turns, rounds.next, rounds.left)? {
+        match decide_by_turns(alloc, &over, &mut turns, rounds.next, rounds.budget)? {
             Decided::Sat(values) => {
                 let kept = covered(alloc, f, part, &rounds.blocked)?;
                 let set = set_of(alloc, f, part, &values)?;
@@ -151,7 +152,8 @@ pub fn set_of(
 ) -> Result<List<Lit>, OutOfMemory>
     requires part { IsTrue (are_positions f.now part.now) }
     requires vars { length values.now ≡ f.now.vars }
-    ensures { IfOk result (λ ls. ls ≡ literals_on (variable_occurs f.now part.now) (assignment_by values.now) f.now.vars) }
+    ensures { IfOk result
+        (λ ls. ls ≡ literals_on (variable_occurs f.now part.now) (assignment_by values.now) f.now.vars) }
 {
     let mut vars = VarSet::new(alloc, f.vars())?;
     add_variables(f, part, &mut vars);

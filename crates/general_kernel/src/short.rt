@@ -30,30 +30,30 @@ pub(crate) struct ShortRefutation {
     pub used: List<u32>,
 }
 
-/// Looks for a refutation among the short clauses of a part, with steps numbered from `next` and at most `left` learned
-/// clauses, once there are `again` rounds. After a search in vain the next one waits until there are twice as many as so
-/// far. No clause says that there is no refutation where it answers none.
+/// Looks for a refutation among the short clauses of a part, with steps numbered from `next` and at most `budget`
+/// learned clauses, once there are `again` rounds. After a search in vain the next one waits until there are twice as
+/// many as so far. No clause says that there is no refutation where it answers none.
 pub(crate) fn refute_short(
     alloc: Global,
     over: &Crossed,
     units: &Units,
     next: u64,
-    left: u64,
+    budget: u64,
     so_far: usize,
     again: &mut usize,
 ) -> Result<Option<ShortRefutation>, OutOfMemory>
     requires formula { IsTrue (is_formula over.now.formula.now) }
     requires crossed { IsCrossed over.now }
     requires kept { IsKept over.now.formula.now over.now.blocked.now units.now }
-    requires some { 0 < left }
+    requires some { 0 < budget }
     requires past { length over.now.formula.now.clauses < next }
-    requires room { next + left < 2 ^ 64 - 1 }
-    ensures { IfOk result (IsShortAnswer over.now next left) }
+    requires room { next + budget < 2 ^ 64 - 1 }
+    ensures { IfOk result (IsShortAnswer over.now next budget) }
 {
     if so_far < *again {
         return Ok(None);
     }
-    let found = search_short(alloc, over, units, next, left)?;
+    let found = search_short(alloc, over, units, next, budget)?;
     if found.is_none() {
         *again = so_far.saturating_mul(2).saturating_add(1);
     }
@@ -66,15 +66,15 @@ fn search_short(
     over: &Crossed,
     units: &Units,
     next: u64,
-    left: u64,
+    budget: u64,
 ) -> Result<Option<ShortRefutation>, OutOfMemory>
     requires formula { IsTrue (is_formula over.now.formula.now) }
     requires crossed { IsCrossed over.now }
     requires kept { IsKept over.now.formula.now over.now.blocked.now units.now }
-    requires some { 0 < left }
+    requires some { 0 < budget }
     requires past { length over.now.formula.now.clauses < next }
-    requires room { next + left < 2 ^ 64 - 1 }
-    ensures { IfOk result (IsShortAnswer over.now next left) }
+    requires room { next + budget < 2 ^ 64 - 1 }
+    ensures { IfOk result (IsShortAnswer over.now next budget) }
 {
     let positions = units.short(alloc, over)?;
     if positions.len() == 0 || positions.len() > over.part.len() / SHARE {
@@ -85,7 +85,7 @@ fn search_short(
         part: positions.as_slice(),
         blocked: over.blocked,
     };
-    match decide(alloc, &short, next, left.min(MOST_LEARNED))? {
+    match decide(alloc, &short, next, budget.min(MOST_LEARNED))? {
         Decided::Refuted(log) => {
             let used = log.used(&short)?;
             let round = log.into_round()?;
@@ -98,11 +98,13 @@ fn search_short(
     }
 }
 
-// Whether no step's clause contains a crossed clause of the part that is not empty. It may answer false where none does.
+// Whether no step's clause contains a crossed clause of the part that is not empty. It may answer false where none
+// does.
 fn are_new(units: &Units, over: &Crossed, steps: &[Step]) -> bool
     requires crossed { IsCrossed over.now }
     requires kept { IsKept over.now.formula.now over.now.blocked.now units.now }
-    requires literals { IsTrue (list_all (λ (s : Step). list_all (is_literal over.now.formula.now.vars) s.clause) steps.now) }
+    requires literals { IsTrue
+        (list_all (λ (s : Step). list_all (is_literal over.now.formula.now.vars) s.clause) steps.now) }
     ensures { IsTrue result → IsTrue (are_new over.now steps.now) }
 {
     for step in steps {

@@ -1,5 +1,5 @@
 -- Laws of the definitions alone.
-use Rattle.std.proofs.Common.{ℕ, List, [], ◌∷◌, ℤ, IsTrue}
+use Rattle.std.proofs.Common.{ℕ, not, ◌&&◌, List, [], ◌∷◌, ℤ, IsTrue}
 use Rattle.lk_model.specs.declared.class.Class.{Class}
 use Rattle.lk_model.specs.declared.class.Class.TheVariants.{Pure, Matching, Linear, General}
 use Rattle.lk_model.specs.Formulas.Formula.{Cnf, clause_at}
@@ -35,3 +35,7 @@ autarky-within General F S T φ w a = λ p t. a p (w p t)
 pub untouched_by : (class : Class) (F : Cnf) (S T : Positions) (φ : Assignment) → Within T S → IsClassAutarky class F S φ → IsLean class F T
     → (p : ℕ) → IsTrue (T p) → IsTrue (touches φ (clause_at F p)) → ⊥
 untouched_by class F S T φ w a lean = lean φ (autarky-within class F S T φ w a)
+
+-- the positions of S that an assignment does not touch
+unfoldable pub untouched_in : Cnf → Positions → Assignment → Positions
+untouched_in F S φ q = S q && not (touches φ (clause_at F q))

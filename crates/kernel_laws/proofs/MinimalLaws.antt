@@ -1,16 +1,17 @@
 -- What makes clauses minimally unsatisfiable, and that they are lean then.
-use Rattle.std.proofs.Common.{◌≡◌, ℕ, Bool, true, false, not, ◌&&◌, ◌==◌, List, [], ◌∷◌, refl, sym, ◌∙◌, subst, ℤ, None, inl, inr}
+use Rattle.std.proofs.Common.{◌≡◌, ℕ, Bool, true, false, not, ◌==◌, List, [], ◌∷◌, refl, sym, ◌∙◌, subst, ℤ, None, inl, inr}
 use Rattle.std.proofs.lemmas.Bool.{both_ways, cases_Bool, eqb-true, eq-eqb, false_from_ne_true, not_from_false, and_from}
 use Rattle.lk_model.specs.declared.class.Class.TheVariants as class
 use Rattle.lk_model.specs.Lists.{among}
 use Rattle.lk_model.specs.Formulas.Formula.{Cnf, clause_at}
-use Rattle.lk_model.specs.Formulas.Assignment.{Assignment, touches, satisfies, composed}
+use Rattle.lk_model.specs.Formulas.Assignment.{touches, satisfies, composed}
 use Rattle.lk_model.specs.Formulas.Autarky.{Positions, Within}
 use Rattle.lk_model.specs.Formulas.Lean.{Kernel, all_of, IsLean}
 use Rattle.lk_model.proofs.Booleans.{and_true, or_true}
 use Rattle.lk_model.proofs.Lists.{among_here}
 use Rattle.lk_model.specs.Formulas.Minimal.{IsSatisfiable, IsUnsatisfiable, IsMinimallyUnsatisfiable, all_but}
 use Rattle.kernel_laws.specs.MinimalLaw.{MinimalLaw}
+use Rattle.kernel_laws.proofs.Autarkies.{untouched_in}
 use Rattle.kernel_laws.proofs.Flips.{satisfied_first, satisfied_second}
 
 -- a set within S that lacks p lies in S without p
@@ -25,10 +26,6 @@ minimal F S none each = record {
   unsatisfiable = none;
   proper = λ T within p there lack. let w = each p there in (w.0, λ q m. w.1 q (lacks S T p within lack q m));
 }
-
--- the positions of S that an assignment does not touch
-untouched_in : Cnf → Positions → Assignment → Positions
-untouched_in F S φ q = S q && not (touches φ (clause_at F q))
 
 lean : (F : Cnf) (S : Positions) → IsMinimallyUnsatisfiable F S → IsLean class.General F S
 unfolding untouched_in

@@ -1,9 +1,8 @@
 -- What is gathered of answers, one after another.
-use Rattle.std.proofs.Common.{◌≡◌, ℕ, zero, suc, ◌<◌, ◌∙◌, List, [], ◌∷◌, ◌++◌, length, refl, sym, ap, subst, arith, ℤ, Option, Some, None, Ok, Contains}
+use Rattle.std.proofs.Common.{◌≡◌, ℕ, zero, suc, ◌∙◌, List, [], ◌∷◌, ◌++◌, length, refl, sym, subst, arith, ℤ, Option, Some, None, Ok, Contains}
 use Rattle.std.specs.Prelude.{unwrap_or}
 use Rattle.std.proofs.lemmas.List.{append_assoc, append-nil, map-append}
 use Rattle.lk_model.specs.declared.document.Round.{Round}
-use Rattle.part_formula.specs.declared.deciding.Decision.{Decision}
 use Rattle.part_formula.specs.declared.deciding.Decision.TheVariants.{Model, Refuted, Stopped}
 use Rattle.kernel_solve.specs.Answers.{Answer, IsGatheredSoFar, models}
 
@@ -46,9 +45,9 @@ refuted_among answers before rest a r is all =
 -- THE END
 
 -- all have come where none is left
-pub all_come : {X : Type 0} (all yielded rest : List X) (left : ℕ) → yielded ++ rest ≡ all → left ≡ length rest → left ≡ 0 → yielded ≡ all
-all_come all yielded [] left is long none = sym (append-nil yielded) ∙ is
-all_come all yielded (x ∷ rest) left is long none = absurd (omega (arith, long, none))
+pub all_come : {X : Type 0} (all yielded rest : List X) (remaining : ℕ) → yielded ++ rest ≡ all → remaining ≡ length rest → remaining ≡ 0 → yielded ≡ all
+all_come all yielded [] remaining is long none = sym (append-nil yielded) ∙ is
+all_come all yielded (x ∷ rest) remaining is long none = absurd (omega (arith, long, none))
 
 pub stopped_among : (answers yielded : List Answer) (sets : List (List ℤ)) (stopped : Option Round) (r : Round) → yielded ≡ answers → stopped ≡ Some r
     → IsGatheredSoFar yielded sets stopped → Contains answers (Ok (Stopped r))

@@ -1,5 +1,5 @@
 -- An empty clause is a refutation by itself.
-use Rattle.std.specs.Prelude.{ℕ, ◌+◌, List, [], ◌∷◌, length, find, Option}
+use Rattle.std.specs.Prelude.{ℕ, ◌+◌, [], ◌∷◌, length, find, Option}
 use Rattle.lk_model.specs.Lists.{is_empty}
 use Rattle.lk_model.specs.Formulas.Formula.{Cnf, clause_at, positions_of}
 use Rattle.lk_model.specs.declared.document.Round.{Round}

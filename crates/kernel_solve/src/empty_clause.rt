@@ -1,5 +1,5 @@
 //! Empty clauses, which refute by themselves.
-ghost use Rattle.std.specs.Prelude.{◌≡◌, ◌<◌, ◌≤◌, length, IfOk, IsTrue};
+ghost use Rattle.std.specs.Prelude.{◌≡◌, ◌<◌, IfOk, IsTrue};
 ghost use Rattle.lk_model.specs.Formulas.Formula.{IsWithinLimits, is_formula};
 ghost use Rattle.kernel_solve.specs.EmptyClause.{first_empty, empty_round};
 

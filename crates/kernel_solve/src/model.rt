@@ -1,5 +1,5 @@
 //! A model of a formula from models of the parts of its matching kernel.
-ghost use Rattle.std.specs.Prelude.{◌≡◌, map, IfOk};
+ghost use Rattle.std.specs.Prelude.{map, IfOk};
 ghost use Rattle.lk_model.specs.Formulas.Formula.{positions_of};
 ghost use Rattle.kernel_laws.specs.Matching.MatchingResults.{IsMatchingResult};
 ghost use Rattle.part_formula.specs.Decisions.{sets_only};

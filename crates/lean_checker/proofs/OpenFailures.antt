@@ -159,9 +159,9 @@ rounds_open (r ∷ q ∷ rounds) e =
 -- LEARNED STEPS
 
 -- where the rounds so far have more, the rounds have another number
-pub too_many : (rounds : List Round) (k learned left : ℕ) (r : Round) → k < length rounds → r ≡ get_or rounds k r → left + length (learned_steps (take k rounds)) ≡ learned
-    → left < length (filter (λ (s : Step). not (is_empty s.clause)) r.steps) → (length (learned_steps rounds) == learned) ≡ false
-too_many rounds k learned left r lt is sum more =
+pub too_many : (rounds : List Round) (k learned remaining : ℕ) (r : Round) → k < length rounds → r ≡ get_or rounds k r → remaining + length (learned_steps (take k rounds)) ≡ learned
+    → remaining < length (filter (λ (s : Step). not (is_empty s.clause)) r.steps) → (length (learned_steps rounds) == learned) ≡ false
+too_many rounds k learned remaining r lt is sum more =
     let open_step : Step → Bool = λ s. not (is_empty s.clause) in
     let parts : learned_steps rounds ≡ learned_steps (take k rounds) ++ (filter open_step r.steps ++ learned_steps (drop (k + 1) rounds)) =
     ap learned_steps (sym (take-append-drop k rounds) ∙ ap (λ (rs : List Round). take k rounds ++ rs) (drop_more rounds k r lt ∙ ap (λ (q : Round). q ∷ drop (k + 1) rounds) (sym is)))

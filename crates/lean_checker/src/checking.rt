@@ -1,7 +1,7 @@
 //! The whole check.
 //!
-//! The checks are made one after another: first those of every document, and then those of its class. The first one that
-//! fails is the answer.
+//! The checks are made one after another: first those of every document, and then those of its class. The first one
+//! that fails is the answer.
 ghost use Rattle.std.specs.Prelude.{◌≡◌, ◌<◌, ℕ, None, IfOk, IsTrue};
 ghost use Rattle.lk_model.specs.Formulas.Formula.{is_formula};
 ghost use Rattle.lk_model.specs.Formulas.Crossed.{no_variable, protected_by};
@@ -214,7 +214,8 @@ fn linear_failure<R: Threads + Sync, G: Gate>(
     requires form { IsTrue (is_done_in_form d.now) }
     requires body { d.now.body ≡ Linear stages.now dual.now units.now }
     requires sizes { HasSizes f.now d.now }
-    ensures { IfOk result (λ why. why ≡ first_of (class_checks no_variable f.now d.now (Linear stages.now dual.now units.now))) }
+    ensures { IfOk result
+        (λ why. why ≡ first_of (class_checks no_variable f.now d.now (Linear stages.now dual.now units.now))) }
 {
     if let Some(place) = bad_sign(workers, alloc, f, d, stages)? {
         return Ok(failure(Kind::BadSign, place));

@@ -39,7 +39,8 @@ pub fn check_extend(
     ensures extends { result ≡ Ok None
         → IsModel f.now (all_of f.now) (extended (assignment_of d.now.set) (assignment_by psi.now) f.now.vars) }
     ensures protected { result ≡ Ok None → (v : ℕ) → IsTrue (protected_by d.now.protect v)
-        → extended_value (assignment_of d.now.set) (assignment_by psi.now) v ≡ unwrap_or (assignment_by psi.now v) false }
+        → extended_value (assignment_of d.now.set) (assignment_by psi.now) v ≡ unwrap_or
+        (assignment_by psi.now v) false }
 {
     if let Some(why) = common_failure(alloc, f, d)? {
         return Ok(Some(why));

@@ -59,7 +59,9 @@ fn is_unsatisfied(f: &Formula, values: &Partial, p: u32) -> bool
     requires vars { length values.now ≡ f.now.vars }
     requires first { 0 < p }
     requires last { p ≤ length f.now.clauses }
-    ensures { result ≡ (touches (assignment_by values.now) (clause_at f.now p) && not (satisfies (assignment_by values.now) (clause_at f.now p))) }
+    ensures { result ≡
+        (touches (assignment_by values.now) (clause_at f.now p) && not
+        (satisfies (assignment_by values.now) (clause_at f.now p))) }
 {
     let clause = f.clause(p);
     values.touches(clause) && !values.satisfies(clause)

@@ -101,7 +101,9 @@ fn every_clause<R: Threads + Sync, G: Gate>(
     texts: &Formula,
 ) -> Result<Option<u32>, OutOfMemory>
     requires { length texts.now.clauses ≡ length f.now.clauses }
-    ensures { IfOk result (λ place. place ≡ find (λ p. not (is_same_list (clause_at texts.now p) (clause_at f.now p))) (positions_of f.now)) }
+    ensures { IfOk result
+        (λ place. place ≡ find (λ p. not (is_same_list (clause_at texts.now p) (clause_at f.now p)))
+        (positions_of f.now)) }
 {
     workers.least_place(f.len(), &|p| is_other_clause(f, texts, p))
 }
@@ -120,15 +122,15 @@ fn is_other_clause(f: &Formula, texts: &Formula, p: u32) -> bool
 fn has_learned(rounds: &[Round], learned: u64) -> bool
     ensures { result ≡ (length (learned_steps rounds.now) == learned) }
 {
-    let mut left = learned;
+    let mut remaining = learned;
     for k in 0..rounds.len() {
         let count = learned_count(rounds[k].steps.as_slice());
-        if count as u64 > left {
+        if count as u64 > remaining {
             return false;
         }
-        left -= count as u64;
+        remaining -= count as u64;
     }
-    left == 0
+    remaining == 0
 }
 
 /// How many steps have a clause that is not empty.

@@ -8,13 +8,14 @@ use Rattle.lk_model.specs.declared.document.Turn.{Turn}
 use Rattle.lk_model.proofs.Booleans.{and_true}
 use Rattle.lk_model.proofs.ListTests.{passes_each}
 use Rattle.lk_model.proofs.Founds.{all_literals}
+use Rattle.lk_model.proofs.LongerChains.{chain_begins, chain_more}
 use Rattle.watch_prop.specs.declared.entry.Entry.{Entry}
 use Rattle.watch_prop.specs.Trail.{literals_of, false_in, clause_numbered}
 use Rattle.watch_prop.specs.Propagation.{Propagation}
 use Rattle.learning_laws.specs.Learned.{are_false_in, names_held}
 use Rattle.learning_laws.specs.ChainLaw.{ChainLaw}
 use Rattle.learning_laws.proofs.Splits.{step_back, passed_by, none_present, forced_at_zero}
-use Rattle.learning_laws.proofs.Naming.{chain_begins, chain_more, held_named, next_fresh}
+use Rattle.learning_laws.proofs.Naming.{held_named, next_fresh}
 use Rattle.learning_laws.proofs.Conflicts.{held_false, conflict_clause, conflict_present, learned_for}
 
 -- what is false before all of the trail is empty

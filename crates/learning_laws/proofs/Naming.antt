@@ -1,20 +1,17 @@
--- Chains that go on, and what the numbers of held clauses stand for.
-use Rattle.std.proofs.Common.{◌≡◌, ◌∙◌, ℕ, ◌+◌, ◌<◌, ◌==◌, ◌++◌, ◌∷◌, [], Bool, true, false, not, cond, ◌||◌, List, ℤ, Option, Some, None, IsSome, option_map, filter, find, map, length, nat_le, nat_lt, refl, sym, ap, subst, arith}
+-- What the numbers of held clauses stand for.
+use Rattle.std.proofs.Common.{◌≡◌, ◌∙◌, ℕ, ◌+◌, ◌<◌, ◌==◌, ◌∷◌, [], Bool, true, false, not, cond, ◌||◌, List, ℤ, Option, Some, None, IsSome, option_map, filter, find, map, length, nat_le, nat_lt, refl, sym, ap, subst, arith}
 use Rattle.std.specs.Option.{option_or}
 use Rattle.std.proofs.lemmas.Bool.{eqb-true, le-leb, lt-ltb, false_from_ne_true}
 use Rattle.std.proofs.lemmas.List.Folds.{find-append}
 use Rattle.lk_model.specs.Lists.{among, is_empty}
-use Rattle.lk_model.specs.Formulas.Literal.{complement, contains}
 use Rattle.lk_model.specs.Formulas.Formula.{clause_at}
 use Rattle.lk_model.specs.Held.VariableSets.{IsCrossed, is_in, premises_of}
 use Rattle.lk_model.specs.Formulas.Crossed.{crossed_out}
-use Rattle.lk_model.specs.Chains.Chain.{Premises, clause_named, without, after_turns, chain_clause}
+use Rattle.lk_model.specs.Chains.Chain.{Premises}
 use Rattle.lk_model.specs.declared.crossed.Crossed.{Crossed}
 use Rattle.lk_model.specs.declared.document.Step.{Step}
-use Rattle.lk_model.specs.declared.document.Turn.{Turn}
 use Rattle.lk_model.proofs.Booleans.{or_left, or_right}
 use Rattle.lk_model.proofs.Rising.{bounded}
-use Rattle.kernel_laws.proofs.General.Chains.{turned, chained}
 use Rattle.refutation_log.specs.Derivation.{are_numbered, clause_of_step}
 use Rattle.refutation_log.proofs.Steps.{found_within}
 use Rattle.refutation_log.proofs.Chains.{step_named, named_below}
@@ -23,34 +20,6 @@ use Rattle.watch_prop.specs.Trail.{clause_numbered}
 use Rattle.watch_prop.specs.Propagation.{Propagation, numbers_of, crossed_clauses}
 use Rattle.learning_laws.specs.Learned.{HoldsAll, held_step}
 use Rattle.learning_laws.specs.ChainLaw.{IsHeldName}
-
--- ONE MORE TURN
-
--- a chain without a turn is its first clause
-pub chain_begins : (from : Premises) (k : ℕ) (c : List ℤ) → clause_named from k ≡ Some c → chain_clause from k [] ≡ Some c
-chain_begins from k c e = rw e refl
-
--- one more turn after some
-after_more : (from : Premises) (turns : List Turn) (t : Turn) (b c d : List ℤ) → after_turns from b turns ≡ Some c → clause_named from t.with ≡ Some d
-    → contains c t.lit ≡ true → contains d (complement t.lit) ≡ true → after_turns from b (turns ++ t ∷ []) ≡ Some (without c t.lit ++ without d (complement t.lit))
-after_more from [] t b c d h named held against =
-    let same : c ≡ b = cc in
-    let held_b : contains b t.lit ≡ true = subst (λ (x : List ℤ). contains x t.lit ≡ true) same held in
-    rw (named, held_b, against) (ap (λ (x : List ℤ). Some (without x t.lit ++ without d (complement t.lit))) (sym same))
-after_more from (u ∷ turns) t b c d h named held against =
-    let w = turned from b u turns c h in
-    rw (w.named, w.held, w.against)
-    (after_more from turns t (without b u.lit ++ without w.other (complement u.lit)) c d w.rest named held against)
-
--- and after a chain
-pub chain_more : (from : Premises) (first : ℕ) (turns : List Turn) (t : Turn) (c d : List ℤ) → chain_clause from first turns ≡ Some c → clause_named from t.with ≡ Some d
-    → contains c t.lit ≡ true → contains d (complement t.lit) ≡ true
-    → chain_clause from first (turns ++ t ∷ []) ≡ Some (without c t.lit ++ without d (complement t.lit))
-chain_more from first turns t c d h named held against =
-    let x = chained from first turns c h in
-    rw (x.named) (after_more from turns t x.start c d x.rest named held against)
-
--- NUMBERS
 
 -- a clause found among the crossed ones
 record IsCrossedAt (over : Crossed) (ps : List ℕ) (k : ℕ) (d : NumberedClause) : Type 0 where

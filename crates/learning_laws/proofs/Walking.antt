@@ -14,6 +14,7 @@ use Rattle.watch_prop.specs.Propagation.{Propagation, IsPropagation, IsAnswered,
 use Rattle.lk_model.specs.Formulas.Units.{is_false}
 use Rattle.watch_prop.proofs.Truths.{same_true}
 use Rattle.lk_model.proofs.Literals.{complement_twice, variable_complement}
+use Rattle.lk_model.proofs.LongerChains.{chain_begins, chain_more}
 use Rattle.learning_laws.specs.Learned.{stands_at, are_false_in, IsQuietBelow, IsLearnedFor}
 use Rattle.learning_laws.specs.ChainLaw.{AreNamed}
 use Rattle.learning_laws.specs.PlaceLaw.{IsPlace, count_at}
@@ -21,7 +22,6 @@ use Rattle.learning_laws.specs.WalkLaw.{IsWalk, turn_on, WalkLaw}
 use Rattle.learning_laws.proofs.Tests.{above_zero}
 use Rattle.learning_laws.proofs.Levels.{level_there}
 use Rattle.learning_laws.proofs.Splits.{step_back, passed_by, forced_at_zero}
-use Rattle.learning_laws.proofs.Naming.{chain_begins, chain_more}
 use Rattle.learning_laws.proofs.Conflicts.{conflict_clause, conflict_present, held_false, stands_there, learned_for}
 use Rattle.learning_laws.proofs.Backwards.{false_more, names_more, none_left}
 use Rattle.learning_laws.proofs.Places.{holds_complement, other_variable, resolvent_mentions}

@@ -128,7 +128,8 @@ fn take_line<R: LineReader + Drop>(
     requires few { R.count reader.old + 1 < 2 ^ 63 }
     requires open_line { IsTrue (is_one_line unended.old.items) }
     requires one_line { IsTrue (is_one_line rest.now) }
-    ensures taken { IfOk result (TakesLine (R.completes reader.old) (R.completes reader.new) (unended.old.items ++ rest.now)) }
+    ensures taken { IfOk result
+        (TakesLine (R.completes reader.old) (R.completes reader.new) (unended.old.items ++ rest.now)) }
     ensures fits { IfOk result (λ taken. IsTrue taken → R.fits reader.new) }
     ensures count { IfOk result (λ taken. IsTrue taken → R.count reader.new ≡ R.count reader.old + 1) }
     ensures unended { OnOk result (unended.new.items ≡ []) }

@@ -9,6 +9,7 @@ pub mod TwosSteps
 pub mod Takings
 pub mod Options
 pub mod Words
+pub mod SizeForms
 pub mod Spelled
 pub mod LineCuts
 pub mod CleanWords

@@ -1,4 +1,5 @@
 pub mod Fields
+pub mod SizeLines
 pub mod FieldLists
 pub mod LastVars
 pub mod Taking

@@ -1,8 +1,10 @@
 //! The words of a line between its spaces.
-ghost use Rattle.std.specs.Prelude.{◌≡◌, ◌≤◌, ◌+◌, ◌∷◌, [], ℕ, length, slice_index, slice_range, ◌<◌, IsTrue, IfSome, List, option_map};
+ghost use Rattle.std.specs.Prelude.{◌≡◌, ◌≤◌, ◌+◌, ◌∷◌, ℕ, length, slice_index, slice_range, ◌<◌, IsTrue, IfSome};
+ghost use Rattle.std.specs.Prelude.{List, option_map};
 ghost use Rattle.lk_model.specs.Texts.NumberWords.{plain_number};
 ghost use Rattle.std.specs.Borrow.{Bor};
-ghost use Rattle.line_text.specs.Fields.{fields, after, has_no_space, rest_fields, number_within, literal_within, two_within, one_within};
+ghost use Rattle.line_text.specs.Fields.{fields, after, has_no_space, rest_fields, number_within, literal_within};
+ghost use Rattle.line_text.specs.Fields.{two_within, one_within};
 
 use lk_model::Lit;
 use lk_text::read_plain;

@@ -1,5 +1,5 @@
 //! Lists that the word 0 closes.
-ghost use Rattle.std.specs.Prelude.{◌≡◌, ◌≤◌, ◌∷◌, [], ◌||◌, not, nat_lt, IfOk};
+ghost use Rattle.std.specs.Prelude.{◌≡◌, ◌≤◌, [], ◌||◌, not, nat_lt, IfOk};
 ghost use Rattle.lk_model.specs.Formulas.Literal.{variable};
 ghost use Rattle.line_text.specs.Fields.{fields};
 ghost use Rattle.line_text.specs.FieldLists.{rising_from, literals_from, clause_from, IsClauseOf};
@@ -76,7 +76,8 @@ fn may_follow(literal: Lit, last: u32, rising: bool) -> bool
 /// no literal stands twice. Where it is none, the clause may hold some. The error is want of memory.
 pub fn read_clause(clause: &mut OpenClause, line: &[u8]) -> Result<bool, OutOfMemory>
     requires { clause.old.literals ≡ [] }
-    ensures read { IfOk result (λ is. IsClauseOf (clause_from clause.old.vars [] (fields line.now)) is clause.new.literals) }
+    ensures read { IfOk result
+        (λ is. IsClauseOf (clause_from clause.old.vars [] (fields line.now)) is clause.new.literals) }
     ensures vars { clause.new.vars ≡ clause.old.vars }
 {
     let n = clause.vars();

@@ -29,7 +29,8 @@ pub(crate) fn stage_of(pivots: u64, rows: Tableau) -> Result<Stage, LinearStop>
 /// A dual for each clause and a unit for each variable, where the run ends lean.
 pub(crate) fn end_of(pivots: u64, rows: &Tableau) -> Result<(List<Dual>, List<Unit>), LinearStop>
     requires { next rows.now ≡ EndsLean }
-    ensures { GivesAfter pivots (made_in_dual rows.now ++ made_in_units rows.now) (dual_at_end rows.now, units_at_end rows.now) result }
+    ensures { GivesAfter pivots (made_in_dual rows.now ++ made_in_units rows.now)
+        (dual_at_end rows.now, units_at_end rows.now) result }
 {
     let dual = dual_of(pivots, rows)?;
     let units = units_of(pivots, rows)?;

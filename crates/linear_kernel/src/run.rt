@@ -2,7 +2,8 @@
 ghost use Rattle.std.specs.Prelude.{◌≡◌, ℕ, ◌<◌, ◌^◌, ◌-◌, ◌++◌, ◌∷◌, [], List, IfOk, OnOk, IsTrue};
 ghost use Rattle.lk_model.specs.Formulas.Formula.{positions_of};
 ghost use Rattle.lk_model.specs.Formulas.Lean.{are_positions};
-ghost use Rattle.lk_model.specs.Linear.Phases.{next, PivotOn, StageStands, EndsLean, stage_of, made_in_stage, unweighted};
+ghost use Rattle.lk_model.specs.Linear.Phases.{next, PivotOn, StageStands, EndsLean, stage_of, made_in_stage};
+ghost use Rattle.lk_model.specs.Linear.Phases.{unweighted};
 ghost use Rattle.lk_model.specs.Linear.LinearRun.{moved, after_pivot, after_stage, at_end};
 ghost use Rattle.exact_pivot.specs.Reached.{IsReached};
 ghost use Rattle.linear_laws.specs.MovesLaw.{first_moment, IsWithin};
@@ -150,11 +151,11 @@ fn push_stage(
     requires reached { (at : List ℕ) × IsReached f.now at rows }
     requires positions { IsTrue (are_positions f.now kept.now) }
     requires next { next rows ≡ StageStands }
-    ensures left { GivesAfter pivots (made_in_stage rows) (unweighted f.now (stage_of rows) kept.now) result }
+    ensures rest { GivesAfter pivots (made_in_stage rows) (unweighted f.now (stage_of rows) kept.now) result }
     ensures stages { OnOk result (stages.new ≡ stages.old ++ stage_of rows ∷ []) }
 {
     let stage = stage_of(pivots, rows)?;
-    let left = unweighted(alloc, f, &stage, kept)?;
+    let rest = unweighted(alloc, f, &stage, kept)?;
     stages.push(stage)?;
-    Ok(left)
+    Ok(rest)
 }

@@ -19,7 +19,7 @@ pub(crate) fn unweighted(
 ) -> Result<List<u32>, OutOfMemory>
     requires kept { IsTrue (are_positions f.now kept.now) }
     requires weights { All (IsWeight f.now.vars) stage.now.weights }
-    ensures { IfOk result (λ left. left ≡ unweighted f.now stage.now kept.now) }
+    ensures { IfOk result (λ rest. rest ≡ unweighted f.now stage.now kept.now) }
 {
     let weighted = weighted_variables(alloc, f.vars(), stage.weights.as_slice())?;
     left_by(alloc, f, &weighted, kept)
@@ -42,15 +42,15 @@ fn weighted_variables(alloc: Global, n: u32, weights: &[Weight]) -> Result<VarSe
 fn left_by(alloc: Global, f: &Formula, set: &VarSet, kept: &[u32]) -> Result<List<u32>, OutOfMemory>
     requires kept { IsTrue (are_positions f.now kept.now) }
     requires size { length set.now ≡ f.now.vars }
-    ensures { IfOk result (λ left. left ≡ left_by f.now set.now kept.now) }
+    ensures { IfOk result (λ rest. rest ≡ left_by f.now set.now kept.now) }
 {
-    let mut left = List::new(alloc);
+    let mut rest = List::new(alloc);
     for p in kept {
         if !touches(set, f.clause(*p)) {
-            left.push(*p)?;
+            rest.push(*p)?;
         }
     }
-    Ok(left)
+    Ok(rest)
 }
 
 // Whether a variable of the clause is in the set.

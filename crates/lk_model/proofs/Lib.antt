@@ -28,3 +28,4 @@ pub mod Places
 pub mod Pieces
 pub mod Spellings
 pub mod Rounds
+pub mod LongerChains

@@ -21,6 +21,11 @@ same_int a b e = (Decides-int_eq a b).0 e
 pub int_self : (a : ℤ) → int_eq a a ≡ true
 int_self a = (Decides-int_eq a a).1 refl
 
+-- a list that is not empty holds a literal
+pub some_literal : (c : List ℤ) → is_empty c ≡ false → (l : ℤ) × (contains c l ≡ true)
+some_literal [] e = absurd (let f : ⊥ = cc in f)
+some_literal (l ∷ c) e = (l, or_left (int_eq l l) (contains c l) (int_self l))
+
 -- COMPLEMENTS
 
 -- the complement of the complement is the literal

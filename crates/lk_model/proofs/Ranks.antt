@@ -49,3 +49,12 @@ rising_literals low n (l ∷ ls) up =
     and_from (is_literal n l) (list_all (is_literal n) ls)
     (and_from _ _ (le-leb 1 (variable l) (omega (arith, r.above))) (le-leb (variable l) n r.within))
     (rising_literals (variable l) n ls r.more)
+
+-- and so are those whose ranks rise
+pub ranked_literals : (n low : ℕ) (c : List ℤ) → 1 ≤ low → rises_within low (2 * n + 1) (map rank_of c) ≡ true → list_all (is_literal n) c ≡ true
+ranked_literals n low [] one h = refl
+ranked_literals n low (l ∷ c) one h =
+    let r = rises low (2 * n + 1) (rank_of l) (map rank_of c) h in
+    let above = r.above in
+    and_from (is_literal n l) (list_all (is_literal n) c) (ranked_literal n l (omega (arith, one, above)) r.within)
+    (ranked_literals n (rank_of l) c (omega (arith, one, above)) r.more)

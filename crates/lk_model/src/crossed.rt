@@ -1,5 +1,6 @@
 //! Sets of variables, and clauses without the literals of such a set.
-ghost use Rattle.std.specs.Prelude.{◌≡◌, ◌<◌, ◌≤◌, ◌||◌, ◌&&◌, ◌==◌, not, ℕ, IfOk, OnOk, IsTrue, replicate, false, length, []};
+ghost use Rattle.std.specs.Prelude.{◌≡◌, ◌<◌, ◌≤◌, ◌||◌, ◌&&◌, ◌==◌, not, ℕ, IfOk, OnOk, IsTrue, replicate, false};
+ghost use Rattle.std.specs.Prelude.{length, []};
 ghost use Rattle.std.specs.List.{list_all};
 ghost use Rattle.lk_model.specs.Lists.{among, rises_within};
 ghost use Rattle.lk_model.specs.Formulas.Literal.{is_clause, is_literal, mentions};
@@ -139,7 +140,8 @@ impl Crossed<'_> {
         requires crossed { IsCrossed self.now }
         requires first { 0 < position }
         requires last { position ≤ length self.now.formula.now.clauses }
-        ensures { IfOk result (λ c. c ≡ crossed_out (is_in self.now.blocked.now) (clause_at self.now.formula.now position)) }
+        ensures { IfOk result
+            (λ c. c ≡ crossed_out (is_in self.now.blocked.now) (clause_at self.now.formula.now position)) }
     {
         let mut lits = Vec::new(alloc);
         cross_out(self.formula.clause(position), self.blocked, &mut lits)?;

@@ -1,11 +1,13 @@
 //! Formulas.
-ghost use Rattle.std.specs.Prelude.{◌≡◌, ◌++◌, ◌∷◌, [], ◌+◌, ◌<◌, ◌≤◌, ◌↔◌, ◌⊎◌, length, OnOk, OnErr, IfOk, IsErrOf, IsTrue, IsFalse};
+ghost use Rattle.std.specs.Prelude.{◌≡◌, [], ◌+◌, ◌<◌, ◌≤◌, ◌↔◌, ◌⊎◌, length, OnOk, OnErr, IfOk, IsErrOf};
+ghost use Rattle.std.specs.Prelude.{IsTrue, IsFalse};
 ghost use Rattle.std.specs.Bool.{OnTrue};
 ghost use Rattle.std.specs.Prelude.{slice_index, slice_index_or};
 ghost use Rattle.lk_model.specs.Held.Flat.{cut, AreEnds, begin_of};
 ghost use Rattle.lk_model.specs.Limits.{max_vars, max_clauses, max_literals};
 ghost use Rattle.lk_model.specs.Formulas.Literal.{is_clause};
-ghost use Rattle.lk_model.specs.Formulas.Formula.{clause_at, clauses_at, is_formula, IsWithinLimits, literal_count, positions_of, with_clause, without_last};
+ghost use Rattle.lk_model.specs.Formulas.Formula.{clause_at, clauses_at, is_formula, IsWithinLimits, literal_count};
+ghost use Rattle.lk_model.specs.Formulas.Formula.{positions_of, with_clause, without_last};
 ghost use Rattle.lk_model.specs.Formulas.Lean.{are_positions};
 ghost use Rattle.lk_model.specs.Lists.{rises_within};
 
@@ -124,7 +126,8 @@ impl Formula {
     pub fn has_room(&self, literals: usize) -> bool
         ensures limit { IsFalse result
             ↔ ((max_clauses ≤ length self.now.clauses) ⊎ (max_literals < literal_count self.now + literals)) }
-        ensures room { OnTrue result ((length self.now.clauses < max_clauses) × (literal_count self.now + literals ≤ max_literals)) }
+        ensures room { OnTrue result ((length self.now.clauses < max_clauses) ×
+            (literal_count self.now + literals ≤ max_literals)) }
     {
         self.ends.len() < MAX_CLAUSES as usize
             && literals <= MAX_LITERALS as usize - self.literals.len()

@@ -1,7 +1,8 @@
 //! Literals.
-ghost use Rattle.std.specs.Prelude.{◌≡◌, ◌↔◌, ◌≤◌, ◌<◌, ◌&&◌, IsTrue, IsSome, IfSome, neg_ℤ};
+ghost use Rattle.std.specs.Prelude.{◌≡◌, ◌↔◌, ◌≤◌, ◌<◌, IsTrue, IsSome, IfSome};
 ghost use Rattle.lk_model.specs.Limits.{max_vars};
-ghost use Rattle.lk_model.specs.Formulas.Literal.{variable, complement, contains, is_clause, is_literal, is_positive, literal_of, rank_of};
+ghost use Rattle.lk_model.specs.Formulas.Literal.{variable, complement, contains, is_clause, is_literal, is_positive};
+ghost use Rattle.lk_model.specs.Formulas.Literal.{literal_of, rank_of};
 
 use std::marker::Model;
 

@@ -19,7 +19,6 @@ pub struct LitTable<T> {
 
 impl<T> Model for LitTable<T> {
     ghost use Rattle.std.specs.Prelude.{List};
-    ghost use Rattle.std.specs.Coded.{coded_list};
 
     ghost Value = { List T };
 

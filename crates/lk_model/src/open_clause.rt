@@ -1,6 +1,6 @@
 //! A clause that grows.
-ghost use Rattle.std.specs.Prelude.{◌≡◌, ◌++◌, ◌∷◌, [], ◌+◌, ◌*◌, ◌≤◌, ◌<◌, length, OnOk, OnErr, IfOk, IsTrue, false};
-ghost use Rattle.lk_model.specs.Formulas.Literal.{contains, is_clause, is_literal, variable};
+ghost use Rattle.std.specs.Prelude.{◌≡◌, ◌++◌, ◌∷◌, [], ◌+◌, ◌≤◌, ◌<◌, length, OnOk, OnErr, IfOk, IsTrue, false};
+ghost use Rattle.lk_model.specs.Formulas.Literal.{contains, is_clause, is_literal};
 ghost use Rattle.lk_model.specs.Limits.{max_vars};
 ghost use Rattle.lk_model.specs.Held.Growing.{AreFlagged, IsHeld};
 

@@ -14,7 +14,7 @@ pub record ShelfState : Type 0 where
   -- how many calls were made
   pub calls : ℕ
   -- the bytes of the started name that are not yet read, or none where nothing is started
-  pub left : Option (List ℕ)
+  pub unread : Option (List ℕ)
   -- the name of the last start
   pub current : Option (List ℕ)
   -- whether the last call failed
@@ -34,7 +34,7 @@ unread_shelf entries most told = record {
   chunk = most;
   fail = told;
   calls = 0;
-  left = None;
+  unread = None;
   current = None;
   ailing = false;
   faults = 0;
@@ -52,7 +52,7 @@ start_fails s name = read_fails s || is_none (bytes_under s.files name)
 abbrev pub after_call : ShelfState → Bool → Option (List ℕ) → ShelfState
 after_call s failed rest = record s {
   calls = one_more s.calls;
-  left = rest;
+  unread = rest;
   ailing = failed;
   faults = faults_after failed s.faults;
 }
@@ -66,7 +66,7 @@ after_start s name =
 
 -- the bytes that are not yet read
 abbrev pub bytes_left : ShelfState → List ℕ
-bytes_left s = unwrap_or s.left []
+bytes_left s = unwrap_or s.unread []
 
 -- how many bytes a read gives into a piece of that length
 abbrev pub read_count : ShelfState → ℕ → ℕ
@@ -76,7 +76,7 @@ read_count s room = min (min s.chunk room) (length (bytes_left s))
 abbrev pub after_read : ShelfState → ℕ → ShelfState
 after_read s room =
     let failed = read_fails s in
-    let rest = if failed then s.left else Some (drop (read_count s room) (bytes_left s)) in
+    let rest = if failed then s.unread else Some (drop (read_count s room) (bytes_left s)) in
     after_call s failed rest
 
 -- the piece after a read: the bytes it gave, then what stood behind them; a failed one leaves it

@@ -1,5 +1,6 @@
 //! Reading on in one of several texts in memory.
-ghost use Rattle.std.specs.Prelude.{◌≡◌, ℕ, ◌^◌, ◌<◌, [], List, ◌++◌, length, take, drop, min, None, Some, IfNone, IfSome};
+ghost use Rattle.std.specs.Prelude.{◌≡◌, ℕ, ◌^◌, ◌<◌, ◌++◌, length, take, drop, min, None, Some, IfNone};
+ghost use Rattle.std.specs.Prelude.{IfSome};
 ghost use Rattle.lk_outside.specs.Places.{IsIn, rest_from, text_at};
 ghost use Rattle.lk_outside.specs.ShelfState.{bytes_under};
 

@@ -1,8 +1,10 @@
 //! A shelf over texts in memory, of which calls fail where a test wants it.
-ghost use Rattle.std.specs.Prelude.{◌≡◌, ◌≢◌, ◌↔◌, ◌<◌, ◌≤◌, length, IsTrue, IsErr, IsErrOf, IfOk, OnOk, Some, Err, false, is_some};
+ghost use Rattle.std.specs.Prelude.{◌≡◌, ◌≢◌, ◌↔◌, ◌<◌, ◌≤◌, length, IsTrue, IsErr, IsErrOf, IfOk, OnOk, Some, Err};
+ghost use Rattle.std.specs.Prelude.{false, is_some};
 ghost use Rattle.lk_outside.specs.Causes.{HasCause, TellsTheSame};
 ghost use Rattle.lk_outside.specs.Reads.{ReadTakes};
-ghost use Rattle.lk_outside.specs.ShelfState.{unread_shelf, bytes_under, start_fails, read_fails, after_start, read_count, after_read, piece_after};
+ghost use Rattle.lk_outside.specs.ShelfState.{unread_shelf, bytes_under, start_fails, read_fails, after_start};
+ghost use Rattle.lk_outside.specs.ShelfState.{read_count, after_read, piece_after};
 
 use crate::files::{Place, place_of, read_on};
 use crate::shelf::{Failed, Shelf, StartStop};
@@ -41,7 +43,7 @@ impl Model for MemoryShelf {
       chunk = m.chunk;
       fail = m.fail;
       calls = m.tally.calls;
-      left = option_map (rest_from m.files) m.place;
+      unread = option_map (rest_from m.files) m.place;
       current = m.current;
       ailing = m.tally.ailing;
       faults = m.tally.faults;
@@ -72,9 +74,9 @@ impl MemoryShelf {
 impl Shelf for MemoryShelf {
     ghost told = { λ s name. bytes_under s.files name };
 
-    ghost left = { λ s. s.left };
+    ghost unread = { λ s. s.unread };
 
-    ghost started = { λ s. is_some s.left };
+    ghost started = { λ s. is_some s.unread };
 
     ghost current = { λ s. s.current };
 
@@ -91,9 +93,9 @@ impl Shelf for MemoryShelf {
             self.new ≡ after_start self.old name.now }
         ensures told { TellsTheSame (bytes_under self.old.files) (bytes_under self.new.files) }
         ensures ok { OnOk result
-            (IsTrue (is_some self.new.left) ×
-            (self.new.left ≡ bytes_under self.old.files name.now)) }
-        ensures failed { IsErrOf result StartStop.Failed → is_some self.new.left ≡ false }
+            (IsTrue (is_some self.new.unread) ×
+            (self.new.unread ≡ bytes_under self.old.files name.now)) }
+        ensures failed { IsErrOf result StartStop.Failed → is_some self.new.unread ≡ false }
         ensures memory { IsErrOf result StartStop.OutOfMemory → self.new ≡ self.old }
         ensures current { result ≢ Err StartStop.OutOfMemory →
             self.new.current ≡ Some name.now }
@@ -121,7 +123,7 @@ impl Shelf for MemoryShelf {
 
     /// Fails where it is told to; then what is left, and the piece, stay as they were.
     fn read(&mut self, piece: &mut [u8]) -> Result<usize, Failed>
-        requires started { IsTrue (is_some self.old.left) }
+        requires started { IsTrue (is_some self.old.unread) }
         requires room { 0 < length piece.old }
         ensures fails { IsErr result ↔ IsTrue (read_fails self.old) }
         ensures count { IfOk result (λ k. k ≡ read_count self.old (length piece.old)) }
@@ -129,8 +131,8 @@ impl Shelf for MemoryShelf {
         ensures piece { piece.new ≡ piece_after self.old piece.old }
         ensures told { TellsTheSame (bytes_under self.old.files) (bytes_under self.new.files) }
         ensures bound { IfOk result (λ k. k ≤ length piece.new) }
-        ensures bytes { IfOk result (λ k. ReadTakes self.old.left self.new.left k piece.new) }
-        ensures started { OnOk result (IsTrue (is_some self.new.left)) }
+        ensures bytes { IfOk result (λ k. ReadTakes self.old.unread self.new.unread k piece.new) }
+        ensures started { OnOk result (IsTrue (is_some self.new.unread)) }
         ensures current { self.new.current ≡ self.old.current }
         ensures cause { HasCause self.old.faults self.new.faults (IsErr result) }
         ensures ailing { IsTrue self.new.ailing ↔ IsErr result }

@@ -89,13 +89,13 @@ impl Sink for MemorySink {
         ensures kept { OnErr result (self.new.written ≡ self.old.written) }
         ensures cause { HasCause self.old.faults self.new.faults (IsErr result) }
     {
-        let left = self.room - self.held.len();
-        let refused = left == 0 || self.tally.next_fails(self.fail.as_slice());
+        let free = self.room - self.held.len();
+        let refused = free == 0 || self.tally.next_fails(self.fail.as_slice());
         self.tally.note(refused);
         if refused {
             return Err(Failed);
         }
-        let count = self.chunk.min(piece.len()).min(left);
+        let count = self.chunk.min(piece.len()).min(free);
         // There is memory for all its room, so this never fails.
         self.held.extend_from_slice(&piece[..count]).unwrap();
         Ok(count)

@@ -1,8 +1,9 @@
 //! Where inputs come from.
 //!
-//! The program is proved over any shelf: over texts in memory a contract says what was read, and over files, whose bytes no
-//! contract sees, the same contract still says which call failed.
-ghost use Rattle.std.specs.Prelude.{◌≡◌, ◌≢◌, ℕ, ◌<◌, ◌≤◌, ◌↔◌, List, Bool, true, false, length, OnOk, IfOk, IsOk, IsErr, IsErrOf, IsTrue};
+//! The program is proved over any shelf: over texts in memory a contract says what was read, and over files, whose
+//! bytes no contract sees, the same contract still says which call failed.
+ghost use Rattle.std.specs.Prelude.{◌≡◌, ◌≢◌, ℕ, ◌<◌, ◌≤◌, ◌↔◌, List, Bool, false, length, OnOk, IfOk};
+ghost use Rattle.std.specs.Prelude.{IsErr, IsErrOf, IsTrue};
 ghost use Rattle.std.specs.declared.option.Option.{Option};
 ghost use Rattle.lk_outside.specs.Causes.{HasCause, TellsTheSame};
 ghost use Rattle.lk_outside.specs.Reads.{ReadTakes};
@@ -40,7 +41,7 @@ pub trait Shelf {
     ghost told: { Self → List ℕ → Option (List ℕ) };
 
     /// The bytes of the started name that are not yet read, where the shelf tells them.
-    ghost left: { Self → Option (List ℕ) };
+    ghost unread: { Self → Option (List ℕ) };
 
     /// Whether a name is started.
     ghost started: { Self → Bool };
@@ -60,7 +61,7 @@ pub trait Shelf {
     fn start(&mut self, name: &str) -> Result<(), StartStop>
         ensures told { TellsTheSame (told self.old) (told self.new) }
         ensures ok { OnOk result
-            (IsTrue (started self.new) × (left self.new ≡ told self.old name.now)) }
+            (IsTrue (started self.new) × (unread self.new ≡ told self.old name.now)) }
         ensures failed { IsErrOf result StartStop.Failed → started self.new ≡ false }
         ensures memory { IsErrOf result StartStop.OutOfMemory → self.new ≡ self.old }
         ensures current { result ≢ Err StartStop.OutOfMemory →
@@ -78,7 +79,7 @@ pub trait Shelf {
         requires room { 0 < length piece.old }
         ensures told { TellsTheSame (told self.old) (told self.new) }
         ensures bound { IfOk result (λ k. k ≤ length piece.new) }
-        ensures bytes { IfOk result (λ k. ReadTakes (left self.old) (left self.new) k piece.new) }
+        ensures bytes { IfOk result (λ k. ReadTakes (unread self.old) (unread self.new) k piece.new) }
         ensures started { OnOk result (IsTrue (started self.new)) }
         ensures current { current self.new ≡ current self.old }
         ensures cause { HasCause (faults self.old) (faults self.new) (IsErr result) }

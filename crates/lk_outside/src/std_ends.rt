@@ -1,8 +1,11 @@
 //! The files and streams of the system as shelves and sinks.
 //!
-//! Contracts know nothing of their bytes. What is said of a run over them rests on the contracts of the library that calls
-//! the system.
-ghost use Rattle.std.specs.Prelude.{◌≡◌, ◌≢◌, ◌↔◌, ℕ, ◌<◌, ◌≤◌, length, IsTrue, IsErr, IsErrOf, IfOk, OnOk, None, Some, Err, false, is_some};
+//! What a shelf or sink tells has none of their bytes. Beside it `file` and `stream` say that the bytes that came are
+//! the next ones of the file, and that those that went are the first ones of the piece, where the library that calls
+//! the system knows them. What is said of a run over them rests on the contracts of that library.
+ghost use Rattle.std.specs.Prelude.{◌≡◌, ◌≢◌, ◌↔◌, ℕ, ◌<◌, ◌≤◌, length, IsTrue, IsErr, IsErrOf, IfOk, OnOk, false};
+ghost use Rattle.std.specs.Prelude.{IfSome, None, Some, Err, is_some};
+ghost use Rattle.std.specs.Io.KnownBytes.{ReadConsumes, WriteAppends};
 ghost use Rattle.std.specs.Result.{is_err};
 ghost use Rattle.lk_outside.specs.Causes.{HasCause, TellsTheSame};
 ghost use Rattle.lk_outside.specs.Reads.{ReadTakes};
@@ -51,7 +54,7 @@ impl<'a, R: Files> Shelf for FileShelf<'a, R> {
 
     ghost told = { λ s name. None };
 
-    ghost left = { λ s. None };
+    ghost unread = { λ s. None };
 
     ghost started = { λ s. is_some s.file };
 
@@ -68,7 +71,7 @@ impl<'a, R: Files> Shelf for FileShelf<'a, R> {
         ensures told { TellsTheSame
             (⟦<FileShelf<'a, R> as Shelf>⟧.told self.old) (⟦<FileShelf<'a, R> as Shelf>⟧.told self.new) }
         ensures ok { OnOk result (IsTrue (is_some self.new.file) ×
-            (⟦<FileShelf<'a, R> as Shelf>⟧.left self.new ≡ ⟦<FileShelf<'a, R> as Shelf>⟧.told self.old name.now)) }
+            (⟦<FileShelf<'a, R> as Shelf>⟧.unread self.new ≡ ⟦<FileShelf<'a, R> as Shelf>⟧.told self.old name.now)) }
         ensures failed { IsErrOf result StartStop.Failed → is_some self.new.file ≡ false }
         ensures memory { IsErrOf result StartStop.OutOfMemory → self.new ≡ self.old }
         ensures current { result ≢ Err StartStop.OutOfMemory →
@@ -105,7 +108,10 @@ impl<'a, R: Files> Shelf for FileShelf<'a, R> {
             (⟦<FileShelf<'a, R> as Shelf>⟧.told self.old) (⟦<FileShelf<'a, R> as Shelf>⟧.told self.new) }
         ensures bound { IfOk result (λ k. k ≤ length piece.new) }
         ensures bytes { IfOk result (λ k. ReadTakes
-            (⟦<FileShelf<'a, R> as Shelf>⟧.left self.old) (⟦<FileShelf<'a, R> as Shelf>⟧.left self.new) k piece.new) }
+            (⟦<FileShelf<'a, R> as Shelf>⟧.unread self.old)
+            (⟦<FileShelf<'a, R> as Shelf>⟧.unread self.new) k piece.new) }
+        ensures file { IfSome self.old.file (λ f. IfSome self.new.file (λ g. ReadConsumes
+            (⟦<R::File as Read>⟧.remaining f) (⟦<R::File as Read>⟧.remaining g) result piece.new)) }
         ensures started { OnOk result (IsTrue (is_some self.new.file)) }
         ensures current { self.new.current ≡ self.old.current }
         ensures cause { HasCause self.old.tally.faults self.new.tally.faults (IsErr result) }
@@ -161,6 +167,7 @@ impl<W: Write> Sink for StdSink<W> {
         ensures exact { self.new.tally.faults ≡
             faults_after (is_err result) self.old.tally.faults }
         ensures count { IfOk result (λ k. (0 < k) × (k ≤ length piece.now)) }
+        ensures stream { WriteAppends (W.contents self.old.stream) (W.contents self.new.stream) result piece.now }
         ensures cause { HasCause self.old.tally.faults self.new.tally.faults (IsErr result) }
     {
         match write_retrying(&mut self.stream, piece) {

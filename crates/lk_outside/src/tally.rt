@@ -1,5 +1,5 @@
 //! Counts of calls, of which a test may tell some to fail.
-ghost use Rattle.std.specs.Prelude.{◌≡◌, ℕ, List, IsTrue, false};
+ghost use Rattle.std.specs.Prelude.{◌≡◌, ℕ, IsTrue, false};
 ghost use Rattle.lk_outside.specs.Causes.{HasCause, one_more};
 ghost use Rattle.lk_outside.specs.Calls.{is_told_to_fail, faults_after};
 

@@ -1,6 +1,6 @@
 //! Lines and words.
-ghost use Rattle.std.specs.Prelude.{◌≡◌, ◌≤◌, ◌<◌, ◌↔◌, ℕ, length, slice_index, slice_range, true, false, IsNone, IfSome, IsTrue};
-ghost use Rattle.std.specs.List.{list_all};
+ghost use Rattle.std.specs.Prelude.{◌≡◌, ◌≤◌, ◌<◌, ◌↔◌, ℕ, length, slice_index, slice_range, true, false, IsNone};
+ghost use Rattle.std.specs.Prelude.{IfSome, IsTrue};
 ghost use Rattle.lk_model.specs.Texts.Lines.{is_blank};
 ghost use Rattle.lk_text.specs.Cutting.{is_one_line, are_blank, has_no_blank, IsNextLine, IsNextWord, HasNoWord};
 

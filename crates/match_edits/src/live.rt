@@ -1,9 +1,9 @@
 //! Live clauses and their matching kernel.
 //!
-//! A maximum matching of the live clauses is kept through all edits. After a clause is added, one search from it makes the
-//! matching maximum again; after a matched clause is removed, one search from its variable does (Berge, "Two Theorems in
-//! Graph Theory", 1957; here by the covers of König 1931). So an edit costs one search, and the kernel one more. Where a
-//! search has no memory, the edit is taken back.
+//! A maximum matching of the live clauses is kept through all edits. After a clause is added, one search from it makes
+//! the matching maximum again; after a matched clause is removed, one search from its variable does (Berge, "Two
+//! Theorems in Graph Theory", 1957; here by the covers of König 1931). So an edit costs one search, and the kernel one
+//! more. Where a search has no memory, the edit is taken back.
 ghost use Rattle.std.specs.Prelude.{◌≡◌, ◌+◌, ◌≤◌, ◌↔◌, length, OnOk, OnErr, IfOk, IsErrOf, IsTrue, IsFalse};
 ghost use Rattle.lk_model.specs.Lists.{among};
 ghost use Rattle.lk_model.specs.Formulas.Literal.{is_clause};
@@ -14,7 +14,9 @@ ghost use Rattle.edit_text.specs.Edits.{has_room};
 ghost use Rattle.match_edits.specs.LiveKernel.{IsLiveKernel};
 
 use crate::laws::edit_laws;
-use crate::parts::{go_unmatched, has_room, index_of, let_go, number_in, take_up, well_formed};
+use crate::parts::{
+    go_unmatched, has_room, index_of, let_go, number_at_index, take_up, well_formed,
+};
 use crate::stop::EditStop;
 use bipartite_match::{Matching, Steps, maximum, reach};
 use lk_model::{Formula, List, Lit, OutOfMemory};
@@ -22,8 +24,9 @@ use matching_kernel::reached_law;
 use std::alloc::Global;
 use std::marker::Model;
 
-/// Clauses over the variables from 1 to n, of which some are live. Each has a number for good: those of the formula that it
-/// began with 1 to M, in their order, added ones M + 1 and so on; the number of a removed one is not used again.
+/// Clauses over the variables from 1 to n, of which some are live. Each has a number for good: those of the formula
+/// that it began with 1 to M, in their order, added ones M + 1 and so on; the number of a removed one is not used
+/// again.
 #[derive(Drop)]
 pub struct Live {
     // all clauses that were ever held, each at the position that is its number
@@ -56,8 +59,8 @@ impl Live {
     }
 
     /// Adds a clause over the variables in which no literal stands twice, and answers its number. The error is `Limit`,
-    /// whatever memory there is, where the clauses ever held would be more than 4,000,000 with it, or their literals more
-    /// than 20,000,000. After an error all is as it was.
+    /// whatever memory there is, where the clauses ever held would be more than 4,000,000 with it, or their literals
+    /// more than 20,000,000. After an error all is as it was.
     pub fn add<L>(
         &mut self,
         alloc: Global,
@@ -92,7 +95,8 @@ impl Live {
         Ok(number)
     }
 
-    /// Removes the live clause of a number. The error is `NoClause` where there is none. After an error all is as it was.
+    /// Removes the live clause of a number. The error is `NoClause` where there is none. After an error all is as it
+    /// was.
     pub fn remove<L>(
         &mut self,
         alloc: Global,
@@ -110,7 +114,7 @@ impl Live {
         };
         well_formed(&self.held);
         edit_laws();
-        if number_in(self.m.of_clause.as_slice(), index) == 0 {
+        if number_at_index(self.m.of_clause.as_slice(), index) == 0 {
             go_unmatched(&mut self.live, &mut self.m, index, number);
             return Ok(());
         }

@@ -1,5 +1,6 @@
 //! The steps of an edit, over the parts of the live clauses.
-ghost use Rattle.std.specs.Prelude.{◌≡◌, ◌≢◌, ◌+◌, ◌-◌, ◌<◌, ◌≤◌, ◌++◌, ◌∷◌, [], ℕ, List, length, slice_index, OnOk, OnErr, IfOk, IfSome, IfNone, IsTrue, IsFalse, true};
+ghost use Rattle.std.specs.Prelude.{◌≡◌, ◌≢◌, ◌+◌, ◌-◌, ◌<◌, ◌≤◌, ◌++◌, ◌∷◌, [], ℕ, List, length, slice_index, OnOk};
+ghost use Rattle.std.specs.Prelude.{OnErr, IfOk, IfSome, IfNone, IsTrue, IsFalse, true};
 ghost use Rattle.std.specs.Bool.{OnTrue};
 ghost use Rattle.std.specs.List.{remove};
 ghost use Rattle.lk_model.specs.Lists.{among, rises_within};
@@ -26,7 +27,8 @@ pub fn well_formed(f: &Formula)
 /// Whether one more clause of these literals passes no limit.
 pub fn has_room(held: &Formula, lits: &[Lit]) -> bool
     ensures value { (live : List ℕ) → result ≡ has_room (record { held = held.now; live = live }) lits.now }
-    ensures room { OnTrue result ((length held.now.clauses < max_clauses) × (literal_count held.now + length lits.now ≤ max_literals)) }
+    ensures room { OnTrue result ((length held.now.clauses < max_clauses) ×
+        (literal_count held.now + length lits.now ≤ max_literals)) }
 {
     held.has_room(lits.len())
 }
@@ -116,7 +118,8 @@ pub fn go_unmatched(live: &mut List<u32>, m: &mut Matching, index: usize, number
     requires unmatched { IsTrue (among m.old.unmatched number) }
     requires rises { (high : ℕ) × (rises_within 0 high m.old.unmatched ≡ true) }
     ensures live { live.new ≡ remove live.old index }
-    ensures matching { (j : ℕ) × (j < length m.old.unmatched) × (slice_index m.old.unmatched j ≡ number) × (m.new ≡ without_unmatched m.old index j) }
+    ensures matching { (j : ℕ) × (j < length m.old.unmatched) × (slice_index m.old.unmatched j ≡ number) ×
+        (m.new ≡ without_unmatched m.old index j) }
 {
     let _ = live.remove(index);
     let _ = m.of_clause.remove(index);
@@ -137,7 +140,8 @@ pub fn let_go<L>(
     requires inside { index < length live.old }
     requires live { IsLive held.now live.old m.old }
     requires matched { slice_index m.old.of_clause index ≢ 0 }
-    requires restored { RestoredBy held.now (remove live.old index) (without_matched m.old index) (Variable (slice_index m.old.of_clause index)) }
+    requires restored { RestoredBy held.now (remove live.old index) (without_matched m.old index)
+        (Variable (slice_index m.old.of_clause index)) }
     ensures ok { OnOk result (live.new ≡ remove live.old index) }
     ensures live { OnOk result (IsLive held.now live.new m.new) }
     ensures live_err { OnErr result (live.new ≡ live.old) }
@@ -146,8 +150,8 @@ pub fn let_go<L>(
 {
     let fewer = without(alloc, live.as_slice(), index)?;
     let of_clause = without(alloc, m.of_clause.as_slice(), index)?;
-    let v = number_in(m.of_clause.as_slice(), index);
-    let number = number_in(live.as_slice(), index);
+    let v = number_at_index(m.of_clause.as_slice(), index);
+    let number = number_at_index(live.as_slice(), index);
     let before = mem::replace(&mut m.of_clause, of_clause);
     m.of_var.set(v as usize - 1, 0);
     if let Err(e) = restore(alloc, held, fewer.as_slice(), m, Start::Variable(v), steps) {
@@ -160,7 +164,7 @@ pub fn let_go<L>(
 }
 
 /// The number at an index.
-pub fn number_in(numbers: &[u32], index: usize) -> u32
+pub fn number_at_index(numbers: &[u32], index: usize) -> u32
     requires { index < length numbers.now }
     ensures { result ≡ slice_index numbers.now index }
 {

@@ -1,17 +1,17 @@
 -- Lines and words of a text.
-use Rattle.std.proofs.Common.{◌≡◌, ℕ, suc, ◌+◌, ◌-◌, ◌<◌, ◌≤◌, ◌∙◌, Bool, true, false, not, cond, List, [], ◌∷◌, ◌++◌, length, map, drop, get_or, refl, sym, ap, arith, inl, inr, length-drop, length-take}
+use Rattle.std.proofs.Common.{◌≡◌, ℕ, suc, ◌+◌, ◌-◌, ◌≤◌, ◌∙◌, Bool, true, false, not, cond, List, [], ◌∷◌, ◌++◌, length, map, drop, get_or, refl, sym, ap, arith, inl, inr, length-drop, length-take}
 use Rattle.std.specs.Prelude.{filter, slice_range}
 use Rattle.std.specs.List.{slice_split, list_all}
 use Rattle.std.proofs.lemmas.List.{append-nil}
 use Rattle.std.proofs.lemmas.List.Folds.{drop_split}
 use Rattle.std.proofs.Math.Seq.{drop-cons, drop-length}
-use Rattle.std.proofs.lemmas.List.Splits.{slice_split_at, slice_split_none, slice_split-cons_yes}
+use Rattle.std.proofs.lemmas.List.Splits.{slice_split_at, slice_split_none}
 use Rattle.lk_model.specs.Lists.{is_empty}
 use Rattle.lk_model.specs.Texts.Lines.{Piece, Word, is_newline, is_blank, placed_after, words_of, texts}
 use Rattle.lk_model.specs.Texts.ModelText.{word_lines}
 use Rattle.lk_model.proofs.Booleans.{and_true}
 use Rattle.lk_model.proofs.ListTests.{none_pass}
-use Rattle.lk_model.proofs.Pieces.{texts_filter, texts_placed}
+use Rattle.lk_model.proofs.Pieces.{words_by, blank_before}
 use Rattle.lk_model.proofs.Lists.{not_empty}
 use Rattle.lk_text.specs.Cutting.{has_no_blank, is_one_line, IsNextWord, HasNoWord}
 use Rattle.lk_text.specs.declared.cuts.Cut.{Cut}
@@ -19,13 +19,10 @@ use Rattle.model_text.specs.ModelTexts.{words_in}
 
 -- WORDS
 
--- a blank before the words does not matter
-blank_first : (b : ℕ) (bs : List ℕ) → is_blank b ≡ true → words_in (b ∷ bs) ≡ words_in bs
-blank_first b bs h = ap (filter (λ word. not (is_empty word))) (slice_split-cons_yes is_blank b bs h)
-
+-- blanks before the words do not matter
 blanks_first : (before bs : List ℕ) → list_all is_blank before ≡ true → words_in (before ++ bs) ≡ words_in bs
 blanks_first [] bs h = refl
-blanks_first (b ∷ before) bs h = let p = and_true _ _ h in blank_first b (before ++ bs) p.0 ∙ blanks_first before bs p.1
+blanks_first (b ∷ before) bs h = let p = and_true _ _ h in blank_before b (before ++ bs) p.0 ∙ blanks_first before bs p.1
 
 -- a line of blanks has no word
 pub words_none : (line : List ℕ) (at : ℕ) → HasNoWord line at → words_in (drop at line) ≡ []
@@ -59,7 +56,7 @@ words_next line at cut h =
           let tail : drop cut.end line ≡ get_or line cut.end 0 ∷ drop (suc cut.end) line = drop-cons line cut.end 0 e.0 in
           ap (λ (ys : List ℕ). words_in (word ++ ys)) tail
           ∙ word_then word (drop (suc cut.end) line) some h.word (get_or line cut.end 0) e.1
-          ∙ ap (λ (ws : List Word). word ∷ ws) (sym (blank_first (get_or line cut.end 0) (drop (suc cut.end) line) e.1) ∙ ap words_in (sym tail ∙ next))
+          ∙ ap (λ (ws : List Word). word ∷ ws) (sym (blank_before (get_or line cut.end 0) (drop (suc cut.end) line) e.1) ∙ ap words_in (sym tail ∙ next))
       | inr e ↦
           let tail : drop cut.end line ≡ [] = ap (λ (n : ℕ). drop n line) e ∙ drop-length line in
           ap (λ (ys : List ℕ). words_in (word ++ ys)) tail ∙ ap words_in (append-nil word) ∙ word_last word some h.word
@@ -69,16 +66,11 @@ words_next line at cut h =
 -- LINES
 
 -- the words of lines, wherever they stand
-texts_words : (line : Piece) → texts (words_of line) ≡ words_in line.bytes
-texts_words line =
-    let placed = placed_after (line.last - length line.bytes) (slice_split is_blank line.bytes) in
-    texts_filter (λ word. not (is_empty word)) placed ∙ ap (filter (λ word. not (is_empty word))) (texts_placed (line.last - length line.bytes) (slice_split is_blank line.bytes))
-
 words_placed : (n : ℕ) (parts : List (List ℕ)) → map (λ line. texts (words_of line)) (placed_after n parts) ≡ map words_in parts
 words_placed n [] = refl
 words_placed n (part ∷ parts) =
     let line : Piece = record { bytes = part; last = n + length part } in
-    ap (λ (ws : List Word). ws ∷ map (λ l. texts (words_of l)) (placed_after (n + length part + 1) parts)) (texts_words line)
+    ap (λ (ws : List Word). ws ∷ map (λ l. texts (words_of l)) (placed_after (n + length part + 1) parts)) (words_by line)
     ∙ ap (λ (ls : List (List Word)). words_in part ∷ ls) (words_placed (n + length part + 1) parts)
 
 -- what stands between the bytes 10

@@ -34,7 +34,7 @@ ends_before (x ∷ xs) ys h = elim (cases_Bool (is_zero x)) [
 ]
 
 -- behind numbers without a 0
-ends_open : (xs ys : List ℤ) → list_any is_zero xs ≡ false → ends_at_zero (xs ++ ys) ≡ ends_at_zero ys
+pub ends_open : (xs ys : List ℤ) → list_any is_zero xs ≡ false → ends_at_zero (xs ++ ys) ≡ ends_at_zero ys
 ends_open [] ys h = refl
 ends_open (x ∷ xs) ys h =
     let p = or_false (is_zero x) (list_any is_zero xs) h in

@@ -25,7 +25,7 @@ stands_first n unended d none values open_still = record {
 }
 
 -- one byte more, before what comes behind it
-behind_byte : (fed more : List ℕ) (b : ℕ) → (fed ++ b ∷ []) ++ more ≡ fed ++ b ∷ more
+pub behind_byte : (fed more : List ℕ) (b : ℕ) → (fed ++ b ∷ []) ++ more ≡ fed ++ b ∷ more
 behind_byte fed more b = append_assoc fed (b ∷ []) more
 
 -- the open line goes on

@@ -1,13 +1,13 @@
 -- The values that literals give.
-use Rattle.std.proofs.Common.{◌≡◌, ◌≢◌, ◌∙◌, ℕ, zero, suc, Bool, true, false, not, cond, ◌||◌, List, [], ◌∷◌, ◌++◌, refl, sym, ap, ℤ, pos, negsuc, Option, Some, None, inl, inr, get_or}
+use Rattle.std.proofs.Common.{◌≡◌, ◌≢◌, ◌∙◌, ℕ, zero, suc, Bool, true, false, not, cond, List, [], ◌∷◌, ◌++◌, refl, sym, ap, ℤ, pos, negsuc, Option, Some, None, inl, inr, get_or}
 use Rattle.std.specs.Prelude.{neg_ℤ, replicate}
 use Rattle.std.proofs.lemmas.Bool.{cases_Bool, cases_eq}
 use Rattle.lk_model.specs.Formulas.Literal.{variable, complement, contains, is_positive}
 use Rattle.lk_model.specs.Formulas.Assignment.{Assignment, assignment_of}
 use Rattle.lk_model.specs.Held.PartialValues.{assignment_by}
 use Rattle.lk_model.specs.Texts.ModelText.{is_consistent}
-use Rattle.lk_model.proofs.Flags.{contains-push, or_no, contains_here as contains_last, push_other}
-use Rattle.lk_model.proofs.Literals.{variable_negative}
+use Rattle.lk_model.proofs.Flags.{contains-push, or_no, contains_here as contains_last}
+use Rattle.partial_assign.proofs.SetValues.{assigned_other}
 use Rattle.model_text.specs.ModelTexts.{MakesTrue}
 use Rattle.model_text.proofs.Numbers.{apart}
 
@@ -60,13 +60,7 @@ not_false ls (negsuc k) c h = at (contains ls (pos (suc k))) (contains ls (negsu
     at true b g = absurd (g refl)
     at false b g = refl
 
-given_other : (ls : List ℤ) (l : ℤ) (v : ℕ) → v ≢ variable l → assignment_of (ls ++ l ∷ []) v ≡ assignment_of ls v
-given_other ls l v other =
-    let a = push_other ls l (pos v) other in
-    let b = push_other ls l (neg_ℤ (pos v)) (λ e. other (sym (variable_negative v) ∙ e)) in
-    rw (a, b) refl
-
--- and makes its own variable have its sign
+-- a literal that is put makes its own variable have its sign
 given_own : (ls : List ℤ) (l : ℤ) → contains ls (complement l) ≡ false → assignment_of (ls ++ l ∷ []) (variable l) ≡ Some (is_positive l)
 given_own ls (pos v) out = rw (contains_last ls (pos v)) refl
 given_own ls (negsuc k) out =
@@ -80,5 +74,5 @@ values_more ls l φ ψ c values h =
     let out = not_false ls l c (λ e. h.free (at (variable l) ∙ e)) in
     same_values ψ (assignment_of (ls ++ l ∷ [])) (λ v. elim (cases_eq v (variable l)) [
       | inl same ↦ ap ψ same ∙ h.own ∙ sym (given_own ls l out) ∙ ap (assignment_of (ls ++ l ∷ [])) (sym same)
-      | inr other ↦ h.others v other ∙ at v ∙ sym (given_other ls l v other)
+      | inr other ↦ h.others v other ∙ at v ∙ sym (assigned_other ls l v other)
     ])

@@ -53,8 +53,10 @@ pub(crate) fn nothing_read(alloc: Global, n: u32) -> Result<Progress, OutOfMemor
 pub(crate) fn take_all(progress: &mut Progress, piece: &[u8]) -> Result<(), ReadStop>
     requires { IsSound progress.old }
     ensures sound { OnOk result (IsSound progress.new) }
-    ensures taken { (n : ℕ) (fed : List ℕ) → HasTaken n fed progress.old → OnOk result (HasTaken n (fed ++ piece.now) progress.new) }
-    ensures stop { (n : ℕ) (fed : List ℕ) → HasTaken n fed progress.old → IfErr result (IsSettledAs n (fed ++ piece.now)) }
+    ensures taken { (n : ℕ) (fed : List ℕ) → HasTaken n fed progress.old →
+        OnOk result (HasTaken n (fed ++ piece.now) progress.new) }
+    ensures stop { (n : ℕ) (fed : List ℕ) → HasTaken n fed progress.old →
+        IfErr result (IsSettledAs n (fed ++ piece.now)) }
 {
     for byte in piece {
         if let Err(stop) = take(progress, *byte) {
@@ -68,8 +70,10 @@ pub(crate) fn take_all(progress: &mut Progress, piece: &[u8]) -> Result<(), Read
 fn take(progress: &mut Progress, byte: u8) -> Result<(), ReadStop>
     requires { IsSound progress.old }
     ensures sound { OnOk result (IsSound progress.new) }
-    ensures taken { (n : ℕ) (fed : List ℕ) → HasTaken n fed progress.old → OnOk result (HasTaken n (fed ++ byte ∷ []) progress.new) }
-    ensures stop { (n : ℕ) (fed : List ℕ) → HasTaken n fed progress.old → IfErr result (IsSettledAs n (fed ++ byte ∷ [])) }
+    ensures taken { (n : ℕ) (fed : List ℕ) → HasTaken n fed progress.old →
+        OnOk result (HasTaken n (fed ++ byte ∷ []) progress.new) }
+    ensures stop { (n : ℕ) (fed : List ℕ) → HasTaken n fed progress.old →
+        IfErr result (IsSettledAs n (fed ++ byte ∷ [])) }
 {
     if progress.bytes == MAX_BYTES {
         return Err(ReadStop::OutOfMemory);

@@ -46,9 +46,12 @@ impl ModelReader {
     /// want of memory, as which a text of 2^63 bytes is refused too. After a refusal the reader holds nothing
     /// but the refusal, which each later call answers.
     pub fn feed(&mut self, piece: &[u8]) -> Result<(), ReadStop>
-        ensures fed { (n : ℕ) (fed : List ℕ) → HasBeenFed n fed self.old → OnOk result (HasBeenFed n (fed ++ piece.now) self.new) }
-        ensures stop { (n : ℕ) (fed : List ℕ) → HasBeenFed n fed self.old → IfErr result (IsSettledAs n (fed ++ piece.now)) }
-        ensures limit { (n : ℕ) (fed : List ℕ) → HasBeenFed n fed self.old → OnOk result (length (fed ++ piece.now) < 2 ^ 63) }
+        ensures fed { (n : ℕ) (fed : List ℕ) → HasBeenFed n fed self.old →
+            OnOk result (HasBeenFed n (fed ++ piece.now) self.new) }
+        ensures stop { (n : ℕ) (fed : List ℕ) → HasBeenFed n fed self.old →
+            IfErr result (IsSettledAs n (fed ++ piece.now)) }
+        ensures limit { (n : ℕ) (fed : List ℕ) → HasBeenFed n fed self.old →
+            OnOk result (length (fed ++ piece.now) < 2 ^ 63) }
         ensures err { IfErr result (λ stop. self.new ≡ Stopped stop) }
         ensures same { (stop : StopOf) → self.old ≡ Stopped stop → result ≡ Err stop }
     {

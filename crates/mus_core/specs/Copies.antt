@@ -26,4 +26,4 @@ pub record IsRefutedWithin (c : Copied) (r : Refutation) : Type 0 where
 abbrev pub IsDecided : Copied → ℕ → Decided → Type 0
 IsDecided c conflicts (Model lits) = IsPartModel c.clauses.now (positions_of c.clauses.now) lits
 IsDecided c conflicts (Refuted r) = IsRefutedWithin c r
-IsDecided c conflicts (Stopped left) = IsStoppedAt c.formula.now conflicts c.part.now left.texts left.round
+IsDecided c conflicts (Stopped told) = IsStoppedAt c.formula.now conflicts c.part.now told.texts told.round

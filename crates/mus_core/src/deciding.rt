@@ -89,7 +89,7 @@ fn tell_open(alloc: Global, of: &Copied, round: Round) -> Result<Open, OutOfMemo
     requires copy { IsCopy of.now }
     requires steps { IsTrue (are_steps of.now.clauses.now.vars (length of.now.clauses.now.clauses) round.steps) }
     ensures { (conflicts : ℕ) → IsUnfinished of.now.clauses.now (positions_of of.now.clauses.now) conflicts (round ∷ [])
-        → IfOk result (λ left. IsStoppedAt of.now.formula.now conflicts of.now.part.now left.texts left.round) }
+        → IfOk result (λ told. IsStoppedAt of.now.formula.now conflicts of.now.part.now told.texts told.round) }
 {
     let texts = of.formula.clauses_at(alloc, of.part)?;
     let all = texts.positions(alloc)?;

@@ -1,5 +1,5 @@
 //! The positions that the chains of a round name.
-ghost use Rattle.std.specs.Prelude.{◌≡◌, ◌≤◌, ◌+◌, ◌-◌, ◌<◌, ◌^◌, ℕ, List, Bool, length, filter, IfOk, IsTrue};
+ghost use Rattle.std.specs.Prelude.{◌≡◌, ◌≤◌, ◌+◌, ◌-◌, ◌<◌, ◌^◌, ℕ, List, length, filter, IfOk, IsTrue};
 ghost use Rattle.std.specs.List.{list_all, range_with_len};
 ghost use Rattle.lk_model.specs.Lists.{among, rises_within};
 ghost use Rattle.mus_core.specs.Named.{flag_at, has_flag, has_flags, names_only};

@@ -1,14 +1,14 @@
 //! Model rotation.
 //!
-//! A witness leaves the clause at its place false and satisfies all others of the core. With a literal of that clause made
-//! true it satisfies it too, and where of the core just one other clause is false then, it is a witness for that one
-//! (Marques-Silva and Lynce, "On Improving MUS Extraction Algorithms", 2011; from there on again: Belov and Marques-Silva,
-//! "Accelerating MUS Extraction with Recursive Model Rotation", 2011; also through clauses that have a witness already:
-//! Wieringa, "Understanding, Improving and Parallelizing MUS Finding Using Model Rotation", 2012).
+//! A witness leaves the clause at its place false and satisfies all others of the core. With a literal of that clause
+//! made true it satisfies it too, and where of the core just one other clause is false then, it is a witness for that
+//! one (Marques-Silva and Lynce, "On Improving MUS Extraction Algorithms", 2011; from there on again: Belov and
+//! Marques-Silva, "Accelerating MUS Extraction with Recursive Model Rotation", 2011; also through clauses that have a
+//! witness already: Wieringa, "Understanding, Improving and Parallelizing MUS Finding Using Model Rotation", 2012).
 //!
-//! Here each place is visited at most once for each decision, whether or not it had a witness, and its witness is replaced:
-//! any witness is as good as another. Only clauses with the complement of the literal can become false, and lists of these
-//! are made once.
+//! Here each place is visited at most once for each decision, whether or not it had a witness, and its witness is
+//! replaced: any witness is as good as another. Only clauses with the complement of the literal can become false, and
+//! lists of these are made once.
 ghost use Rattle.std.specs.Prelude.{◌≡◌, ◌<◌, ◌≤◌, [], ℕ, Bool, is_some, length, IfOk, IfSome, OnOk, IsTrue};
 ghost use Rattle.std.specs.List.{list_all};
 ghost use Rattle.lk_model.specs.Lists.{among};
@@ -60,7 +60,8 @@ impl Walk {
 
     // Takes up a place, and tells whether it was not known.
     fn come_to(&mut self, p: u32) -> Result<bool, OutOfMemory>
-        ensures { (t : ℕ → Bool) → IsTrue (t p) → IsTrue (list_all t self.old.places.items) → IsTrue (list_all t self.new.places.items) }
+        ensures { (t : ℕ → Bool) → IsTrue (t p) → IsTrue (list_all t self.old.places.items) →
+            IsTrue (list_all t self.new.places.items) }
     {
         let place = p as usize;
         if place < self.known.len() && !self.known[place] {

@@ -10,15 +10,16 @@ use crate::empty_clause::{empty_core, first_empty};
 use crate::mus::Mus;
 use crate::named::named_positions;
 use crate::shrinking::shrink;
+use cdcl_core::Turns;
 use lk_model::{Budget, Formula, List, Lit, OutOfMemory, Round};
-use part_formula::{Decision, decide_part, dense_formula, names_of};
+use part_formula::{Decision, decide_part_by, dense_formula, names_of};
 use partial_assign::{Partial, assignment_of, extend_total};
 use std::alloc::Global;
 
 /// A minimally unsatisfiable core of a formula, or a model of it, where each single decision may learn so many clauses.
-/// It is unfinished only where these are fewer than 3^n, for the n variables of the formula. Where a clause is empty, the
-/// first such clause is the core. The error is that there is no memory; more steps than have numbers of 64 bits count as
-/// that.
+/// It is unfinished only where these are fewer than 3^n, for the n variables of the formula. Where a clause is empty,
+/// the first such clause is the core. The error is that there is no memory; more steps than have numbers of 64 bits
+/// count as that.
 pub fn minimal(alloc: Global, f: &Formula, conflicts: Budget) -> Result<Mus, OutOfMemory>
     ensures found { IfOk result (IsMus f.now conflicts) }
     ensures empty { IfOk result (TakesEmpty f.now) }
@@ -36,7 +37,8 @@ fn minimal_of_filled(alloc: Global, f: &Formula, conflicts: Budget) -> Result<Mu
     ensures { IfOk result (IsMus f.now conflicts) }
 {
     let part = f.positions(alloc)?;
-    match decide_part(alloc, f, part.as_slice(), conflicts)? {
+    let mut turns = Turns::of_all_orders();
+    match decide_part_by(alloc, f, part.as_slice(), &mut turns, conflicts)? {
         Decision::Model(set) => Ok(Mus::Model(whole_model(alloc, f, set.as_slice())?)),
         Decision::Refuted(round) => minimal_of_refuted(alloc, f, round, conflicts),
         Decision::Stopped(round) => {

@@ -1,13 +1,13 @@
 //! A minimally unsatisfiable core.
 //!
-//! From a core, which is what a refutation names, one clause after another is left out. Where the others have a model, the
-//! clause is needed, and the model is kept as its witness; where they have none, what their refutation names is the new core
-//! (deletion with refinement: Dershowitz, Hanna and Nadel, "A Scalable Algorithm for Minimal Unsatisfiable Core
-//! Extraction", 2006).
+//! From a core, which is what a refutation names, one clause after another is left out. Where the others have a model,
+//! the clause is needed, and the model is kept as its witness; where they have none, what their refutation names is the
+//! new core (deletion with refinement: Dershowitz, Hanna and Nadel, "A Scalable Algorithm for Minimal Unsatisfiable
+//! Core Extraction", 2006).
 //!
-//! Here the clauses of the first core are copied once under numbers of their own, so that no decision costs the formula. The
-//! last refutation is kept, in the formula's numbers, and its chains name positions of the core alone, since all later
-//! answers are models.
+//! Here the clauses of the first core are copied once under numbers of their own, so that no decision costs the
+//! formula. The last refutation is kept, in the formula's numbers, and its chains name positions of the core alone,
+//! since all later answers are models.
 ghost use Rattle.std.specs.Prelude.{◌≡◌, ◌==◌, filter, not, map, IfOk};
 ghost use Rattle.occurrence_lists.specs.Occurrences.{AreOccurrences};
 ghost use Rattle.renaming_laws.specs.Renaming.{nth};

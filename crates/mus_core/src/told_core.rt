@@ -46,7 +46,8 @@ fn lines(
 ) -> Result<List<Without>, OutOfMemory>
     requires copy { IsCopy core.now }
     requires places { IsTrue (are_positions core.now.clauses.now places.now) }
-    requires vars { (q : ℕ) → IfSome (witness_at witnesses.now q) (λ values. length values ≡ core.now.clauses.now.vars) }
+    requires vars { (q : ℕ) →
+        IfSome (witness_at witnesses.now q) (λ values. length values ≡ core.now.clauses.now.vars) }
     ensures { IfOk result (λ ws. ws ≡ map (line_at core.now places.now witnesses.now) places.now) }
 {
     let mut lines = List::new(alloc);
@@ -66,7 +67,8 @@ fn line(
 ) -> Result<Without, OutOfMemory>
     requires copy { IsCopy core.now }
     requires places { IsTrue (are_positions core.now.clauses.now places.now) }
-    requires vars { (q : ℕ) → IfSome (witness_at witnesses.now q) (λ values. length values ≡ core.now.clauses.now.vars) }
+    requires vars { (q : ℕ) →
+        IfSome (witness_at witnesses.now q) (λ values. length values ≡ core.now.clauses.now.vars) }
     ensures { IfOk result (λ w. w ≡ line_at core.now places.now witnesses.now p) }
 {
     let literals = witnesses.literals(alloc, core.clauses, places, p)?;

@@ -1,5 +1,6 @@
 //! Witnesses: for places of a core, values that satisfy all its clauses but the one there.
-ghost use Rattle.std.specs.Prelude.{◌≡◌, ◌≢◌, ◌<◌, ◌≤◌, ℕ, Some, None, find, not, is_some, length, replicate, IfOk, IfSome, IsTrue};
+ghost use Rattle.std.specs.Prelude.{◌≡◌, ◌≢◌, ◌<◌, ◌≤◌, ℕ, Some, None, find, not, is_some, length, replicate, IfOk};
+ghost use Rattle.std.specs.Prelude.{IfSome, IsTrue};
 ghost use Rattle.lk_model.specs.Formulas.Lean.{are_positions};
 ghost use Rattle.mus_core.specs.WitnessValues.{witness_at, literals_at, IsCopyOf};
 

@@ -1,5 +1,5 @@
 //! How many clauses hold each literal.
-ghost use Rattle.std.specs.Prelude.{◌≡◌, ◌<◌, ◌≤◌, ℕ, length, slice_index, sum, IfOk, IsTrue};
+ghost use Rattle.std.specs.Prelude.{◌<◌, ◌≤◌, ℕ, length, slice_index, sum, IfOk, IsTrue};
 ghost use Rattle.lk_model.specs.Limits.{max_clauses, max_literals};
 ghost use Rattle.lk_model.specs.Formulas.Literal.{is_distinct};
 ghost use Rattle.occurrence_lists.specs.Occurrences.{has_rank};

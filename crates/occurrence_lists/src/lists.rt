@@ -2,7 +2,8 @@
 //!
 //! The lists stand one after another in one vector, whose parts are found by counting first (as in sorting by
 //! counting; Knuth, "The Art of Computer Programming", volume 3, 1973): no list has a vector of its own.
-ghost use Rattle.std.specs.Prelude.{◌≡◌, ◌++◌, ◌+◌, ◌*◌, ◌<◌, ◌≤◌, [], ℕ, length, map, slice_index, slice_index_or, IfOk, IsTrue};
+ghost use Rattle.std.specs.Prelude.{◌≡◌, ◌++◌, ◌+◌, ◌*◌, ◌<◌, ◌≤◌, [], ℕ, length, map, slice_index, slice_index_or};
+ghost use Rattle.std.specs.Prelude.{IfOk, IsTrue};
 ghost use Rattle.lk_model.specs.Held.Flat.{AreEnds, begin_of};
 ghost use Rattle.lk_model.specs.Formulas.Literal.{rank_of, is_distinct};
 ghost use Rattle.occurrence_lists.specs.Occurrences.{AreOccurrences};
@@ -112,7 +113,8 @@ fn list_at<'a>(positions: &'a [u32], ends: &[u32], k: usize) -> &'a [u32]
 fn two_lists_at<'a>(positions: &'a [u32], ends: &[u32], k: usize) -> &'a [u32]
     requires ends { AreEnds 0 ends.now (length positions.now) }
     requires place { k + 1 < length ends.now }
-    ensures { result.now ≡ slice_index_or (cut 0 positions.now ends.now) k [] ++ slice_index_or (cut 0 positions.now ends.now) (k + 1) [] }
+    ensures { result.now ≡ slice_index_or (cut 0 positions.now ends.now) k [] ++ slice_index_or
+        (cut 0 positions.now ends.now) (k + 1) [] }
 {
     let begin = begin_at(ends, k, positions.len());
     let end = next_end(ends, k, positions.len());

@@ -1,7 +1,8 @@
 //! For each variable the positions whose clauses mention it.
-ghost use Rattle.std.specs.Prelude.{◌≡◌, ◌+◌, ◌<◌, ◌≤◌, ℕ, [], length, replicate, slice_index_or, nat_lt, IfOk, OnOk, IsTrue};
+ghost use Rattle.std.specs.Prelude.{◌≡◌, ◌+◌, ◌<◌, ℕ, [], length, replicate, nat_lt, IfOk, OnOk};
+ghost use Rattle.std.specs.Prelude.{IsTrue};
 ghost use Rattle.std.specs.List.{list_all};
-ghost use Rattle.lk_model.specs.Formulas.Literal.{variable, is_literal};
+ghost use Rattle.lk_model.specs.Formulas.Literal.{variable};
 ghost use Rattle.par_parts.specs.Positions.{HavePositions, IsEntered};
 
 use lk_model::{Formula, List, Lit, OutOfMemory};

@@ -1,11 +1,12 @@
 //! The search for parts.
-ghost use Rattle.std.specs.Prelude.{◌≡◌, ◌≢◌, ◌+◌, ◌<◌, ◌≤◌, ◌∷◌, ◌++◌, ℕ, [], length, slice_index, slice_index_or, nat_lt, IfOk, OnOk, IsTrue};
+ghost use Rattle.std.specs.Prelude.{◌≡◌, ◌+◌, ◌<◌, ◌≤◌, ℕ, [], length, slice_index_or};
+ghost use Rattle.std.specs.Prelude.{nat_lt, IfOk, OnOk, IsTrue};
 ghost use Rattle.std.specs.List.{list_all, All};
 ghost use Rattle.lk_model.specs.Limits.{max_clauses};
 ghost use Rattle.lk_model.specs.Formulas.Literal.{variable};
-ghost use Rattle.lk_model.specs.Formulas.Formula.{Cnf};
 ghost use Rattle.par_parts.specs.Positions.{HavePositions};
-ghost use Rattle.par_parts.specs.Numbering.{found_of, none_found, labelled, all_labelled, variable_passed, clause_passed, part_begun, AreLabels, IsSearching, IsSpread, IsUpTo};
+ghost use Rattle.par_parts.specs.Numbering.{found_of, none_found, labelled, all_labelled, variable_passed};
+ghost use Rattle.par_parts.specs.Numbering.{clause_passed, part_begun, AreLabels, IsSearching, IsSpread, IsUpTo};
 
 use crate::incidence::positions_by_variable;
 use lk_model::{Formula, List, Lit, OutOfMemory};

@@ -97,10 +97,10 @@ names_low F part conflicts d log h is =
     let m = ap (λ (G : Cnf). length G.clauses) h.turn.formula in
     names_below h.turn.over (length F.clauses + 1) log.first log.steps (omega (arith, m)) r.round.form.numbers r.round.chains
 
-refutation_over : (over : Crossed) (next left : ℕ) (log : Derivation) → IsCrossed over → is_formula over.formula.now ≡ true
-    → over.blocked.now ≡ replicate over.formula.now.vars false → next ≡ length over.formula.now.clauses + 1 → next + left < 2 ^ 64 - 1
-    → IsRefutedOver over next left log → IsPartRefuted over.formula.now over.part.now left (round_of (trimmed next log.steps))
-refutation_over over next left log crossed form blocked is room h =
+refutation_over : (over : Crossed) (next budget : ℕ) (log : Derivation) → IsCrossed over → is_formula over.formula.now ≡ true
+    → over.blocked.now ≡ replicate over.formula.now.vars false → next ≡ length over.formula.now.clauses + 1 → next + budget < 2 ^ 64 - 1
+    → IsRefutedOver over next budget log → IsPartRefuted over.formula.now over.part.now budget (round_of (trimmed next log.steps))
+refutation_over over next budget log crossed form blocked is room h =
     let F = over.formula.now in
     let part = over.part.now in
     let after = trimmed next log.steps in
@@ -116,7 +116,7 @@ refutation_over over next left log crossed form blocked is room h =
       derivation = trims.derivation;
       chains = trims.chains;
     } in
-    let t = trimmed_more over [] log next left next after g h trims (subst (λ (bs : List Bool). AreTrimmed F part (is_in bs) []) (sym blocked) (no_trimmed F part)) in
+    let t = trimmed_more over [] log next budget next after g h trims (subst (λ (bs : List Bool). AreTrimmed F part (is_in bs) []) (sym blocked) (no_trimmed F part)) in
     let learned = learned_more [] (round_of after) in
     let fewer = trims.fewer in
     record {
@@ -186,10 +186,10 @@ filled_list : (ps : List ℕ) (k : ℕ) → among ps k ≡ true → length ps �
 filled_list [] k m e = (let f : ⊥ = cc in f)
 filled_list (p ∷ ps) k m e = omega (arith, e)
 
-stopped_over : (over : Crossed) (next left : ℕ) (log : Derivation) → IsCrossed over → is_formula over.formula.now ≡ true
+stopped_over : (over : Crossed) (next budget : ℕ) (log : Derivation) → IsCrossed over → is_formula over.formula.now ≡ true
     → over.blocked.now ≡ replicate over.formula.now.vars false → are_filled over.formula.now over.part.now ≡ true → next ≡ length over.formula.now.clauses + 1
-    → next + left < 2 ^ 64 - 1 → 0 < left → IsStoppedOver over next left log → IsUnfinished over.formula.now over.part.now left (round_of log.steps ∷ [])
-stopped_over over next left log crossed form blocked filled is room some h =
+    → next + budget < 2 ^ 64 - 1 → 0 < budget → IsStoppedOver over next budget log → IsUnfinished over.formula.now over.part.now budget (round_of log.steps ∷ [])
+stopped_over over next budget log crossed form blocked filled is room some h =
     let F = over.formula.now in
     let part = over.part.now in
     let numbered = h.numbered in
@@ -205,7 +205,7 @@ stopped_over over next left log crossed form blocked filled is room some h =
       derivation = h.round.form;
       chains = h.round.chains;
     } in
-    unfinished F part left left (is_in over.blocked.now) [] (round_of log.steps ∷ []) log.steps form some none (record {
+    unfinished F part budget budget (is_in over.blocked.now) [] (round_of log.steps ∷ []) log.steps form some none (record {
       in_form = steps_go_on over [] log.first log.steps g refl;
       stated = stated_go_on over [] log.first log.steps g none.stated none.blocks;
       learned = learned_go_on over [] log.steps h.round.learned none.learned none.blocks;

@@ -9,7 +9,7 @@ use Rattle.lk_model.specs.Formulas.Literal.{variable, is_literal}
 use Rattle.lk_model.specs.Formulas.Formula.{Cnf, is_formula, clause_at, positions_of}
 use Rattle.lk_model.specs.Formulas.Crossed.{no_variable}
 use Rattle.lk_model.specs.Formulas.Lean.{are_positions}
-use Rattle.lk_model.specs.Chains.Rounds.{blocked_after, has_progress}
+use Rattle.lk_model.specs.Chains.Rounds.{blocked_after}
 use Rattle.lk_model.specs.Documents.Documents.{steps_of}
 use Rattle.lk_model.specs.Documents.Form.{are_steps}
 use Rattle.lk_model.specs.declared.document.Step.{Step}
@@ -17,6 +17,7 @@ use Rattle.lk_model.specs.declared.document.Round.{Round}
 use Rattle.lk_model.proofs.Booleans.{and_true}
 use Rattle.lk_model.proofs.Ranks.{rising_literals as set_within}
 use Rattle.kernel_laws.specs.General.Found.{has_only, covered, IsDone, IsUnfinished}
+use Rattle.general_kernel.proofs.States.{none_progress}
 use Rattle.renaming_laws.specs.Renaming.{IsDense, named, renamed_round}
 use Rattle.renaming_laws.proofs.RenamingLaws.{renaming_law}
 use Rattle.part_formula.specs.Named.{is_round_within}
@@ -96,10 +97,6 @@ none_covered F (p ∷ part) e =
     fails [] f = absurd (let g : ⊥ = cc in g)
     fails (l ∷ c) f = refl
 
-no_progress : (F : Cnf) → has_progress F no_variable [] ≡ true
-unfolding has_progress
-no_progress F = refl
-
 unblocked : (F : Cnf) (v : ℕ) → blocked_after F no_variable [] v ≡ false
 unfolding blocked_after
 unblocked F v = refl
@@ -112,7 +109,7 @@ model_told F part names G lits form rise few dense filled h =
       kept = sym (none_covered G (positions_of G) filled);
       unblocked = λ v m. unblocked G v;
       most = omega arith;
-      needed = record { trimmed = refl; progress = no_progress G };
+      needed = record { trimmed = refl; progress = none_progress G };
     } in
     (renaming_law.done F G part names 0 (sets_only lits) form rise dense (omega (arith, few)) done).result
 

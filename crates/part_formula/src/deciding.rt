@@ -2,13 +2,9 @@
 //!
 //! As for a kernel, the part is first copied into a formula of its own, so that the tables of the search are as
 //! long as the part.
-ghost use Rattle.std.specs.Prelude.{◌≡◌, ◌+◌, ◌<◌, ◌^◌, length, IfOk, IsTrue};
-ghost use Rattle.lk_model.specs.Limits.{max_vars};
-ghost use Rattle.lk_model.specs.Lists.{rises_within};
+ghost use Rattle.std.specs.Prelude.{◌+◌, ◌<◌, IfOk, IsTrue};
 ghost use Rattle.lk_model.specs.Formulas.Formula.{positions_of};
 ghost use Rattle.lk_model.specs.Formulas.Lean.{are_positions};
-ghost use Rattle.renaming_laws.specs.Renaming.{renamed_round};
-ghost use Rattle.part_formula.specs.Named.{is_round_within};
 ghost use Rattle.part_formula.specs.Decisions.{are_filled, IsDecision};
 
 use crate::dense::dense_formula;
@@ -44,6 +40,21 @@ pub fn decide_part(
     requires filled { IsTrue (are_filled f.now part.now) }
     ensures { IfOk result (IsDecision f.now part.now conflicts) }
 {
+    decide_part_by(alloc, f, part, &mut Turns::new(), conflicts)
+}
+
+/// The same by orders that take turns as told.
+pub fn decide_part_by(
+    alloc: Global,
+    f: &Formula,
+    part: &[u32],
+    turns: &mut Turns,
+    conflicts: Budget,
+) -> Result<Decision, OutOfMemory>
+    requires part { IsTrue (are_positions f.now part.now) }
+    requires filled { IsTrue (are_filled f.now part.now) }
+    ensures { IfOk result (IsDecision f.now part.now conflicts) }
+{
     let clauses = u64::from(f.len());
     let names = names_of(alloc, f, part)?;
     let dense = dense_formula(alloc, f, part, &names)?;
@@ -52,14 +63,14 @@ pub fn decide_part(
         part,
         names: &names,
     };
-    match decide_clauses(alloc, &dense, &mut Turns::new(), conflicts)? {
+    match decide_clauses(alloc, &dense, turns, conflicts)? {
         Decision::Model(set) => Ok(Decision::Model(renaming.literals(set))),
         Decision::Refuted(round) => Ok(Decision::Refuted(renaming.only(alloc, round)?)),
         Decision::Stopped(round) => Ok(Decision::Stopped(renaming.only(alloc, round)?)),
     }
 }
 
-/// The same of all clauses of a formula, in tables as long as it is, by two orders that take turns.
+/// The same of all clauses of a formula, in tables as long as it is.
 pub fn decide_clauses(
     alloc: Global,
     f: &Formula,

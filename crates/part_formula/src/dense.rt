@@ -1,9 +1,9 @@
 //! A part of a formula as a formula by itself, whose variables are numbered from 1 without a gap.
-ghost use Rattle.std.specs.Prelude.{◌≡◌, ◌<◌, ◌≤◌, ◌∷◌, [], length, map, IfOk, OnOk, IsTrue};
+ghost use Rattle.std.specs.Prelude.{◌≡◌, ◌<◌, ◌≤◌, [], length, map, IfOk, OnOk, IsTrue};
 ghost use Rattle.std.specs.List.{list_all};
 ghost use Rattle.lk_model.specs.Lists.{among, rises_within};
 ghost use Rattle.lk_model.specs.Limits.{max_vars};
-ghost use Rattle.lk_model.specs.Formulas.Literal.{is_literal, variable};
+ghost use Rattle.lk_model.specs.Formulas.Literal.{is_literal};
 ghost use Rattle.lk_model.specs.Formulas.Formula.{is_formula, IsWithinLimits};
 ghost use Rattle.lk_model.specs.Formulas.Lean.{are_positions};
 ghost use Rattle.kernel_laws.specs.General.Found.{has_only};

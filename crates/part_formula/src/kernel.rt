@@ -3,12 +3,9 @@
 //! A search over clauses makes tables as long as the formula's variables, so for each of many small parts it
 //! would cost the whole formula. Here the part is first copied into a formula of its own, whose size is the
 //! part's.
-ghost use Rattle.std.specs.Prelude.{◌≡◌, ◌<◌, ◌^◌, length, IfOk, IsTrue};
-ghost use Rattle.lk_model.specs.Formulas.Formula.{Cnf, is_formula, positions_of};
+ghost use Rattle.std.specs.Prelude.{◌<◌, IfOk, IsTrue};
 ghost use Rattle.lk_model.specs.Formulas.Lean.{are_positions};
 ghost use Rattle.kernel_laws.specs.General.Found.{IsFound};
-ghost use Rattle.renaming_laws.specs.Renaming.{IsDense};
-ghost use Rattle.part_formula.specs.Names.{AreNames};
 
 use crate::dense::dense_formula;
 use crate::names::names_of;

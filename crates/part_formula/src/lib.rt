@@ -7,7 +7,7 @@ mod kernel;
 mod names;
 mod renaming;
 
-pub use deciding::{Decision, decide_clauses, decide_part};
+pub use deciding::{Decision, decide_clauses, decide_part, decide_part_by};
 pub use dense::dense_formula;
 pub use kernel::kernel_of_part;
 pub use names::names_of;

@@ -5,7 +5,8 @@ ghost use Rattle.lk_model.specs.Lists.{rises_within};
 ghost use Rattle.lk_model.specs.Limits.{max_vars};
 ghost use Rattle.lk_model.specs.Formulas.Literal.{is_literal};
 ghost use Rattle.lk_model.specs.Documents.Documents.{steps_of};
-ghost use Rattle.renaming_laws.specs.Renaming.{named, nth, number_in, renamed_result, renamed_round, renamed_step, renamed_turn};
+ghost use Rattle.renaming_laws.specs.Renaming.{named, nth, number_in_whole, renamed_result, renamed_round};
+ghost use Rattle.renaming_laws.specs.Renaming.{renamed_step, renamed_turn};
 ghost use Rattle.part_formula.specs.Named.{is_round_within, is_step_within, is_turn_within};
 
 use lk_model::{GeneralResult, List, Lit, OutOfMemory, Round, Step, Turn};
@@ -37,7 +38,7 @@ impl<'a> Renaming<'a> {
     // The position of a clause, or the number of a step. It is to fit in 64 bits, as no machine holds so
     // many steps.
     fn number(&self, k: u64) -> Result<u64, OutOfMemory>
-        ensures { IfOk result (λ n. n ≡ number_in self.now.part.now self.now.clauses k) }
+        ensures { IfOk result (λ n. n ≡ number_in_whole self.now.part.now self.now.clauses k) }
     {
         let positions = self.part.len() as u64;
         if k <= positions {
@@ -73,7 +74,8 @@ impl<'a> Renaming<'a> {
     fn turns(&self, turns: List<Turn>) -> Result<List<Turn>, OutOfMemory>
         requires names { IsTrue (rises_within 0 max_vars self.now.names.now) }
         requires within { IsTrue (list_all (is_turn_within (length self.now.names.now)) turns) }
-        ensures { IfOk result (λ ts. ts ≡ map (renamed_turn self.now.clauses self.now.part.now self.now.names.now) turns) }
+        ensures { IfOk result
+            (λ ts. ts ≡ map (renamed_turn self.now.clauses self.now.part.now self.now.names.now) turns) }
     {
         let mut turns = turns.into_vec();
         for turn in turns.iter_mut() {
@@ -117,7 +119,8 @@ impl<'a> Renaming<'a> {
     pub fn only(&self, alloc: Global, round: Round) -> Result<Round, OutOfMemory>
         requires names { IsTrue (rises_within 0 max_vars self.now.names.now) }
         requires within { IsTrue (is_round_within (length self.now.names.now) round) }
-        ensures round { IfOk result (λ r. r ≡ renamed_round self.now.clauses self.now.part.now self.now.names.now round) }
+        ensures round { IfOk result
+            (λ r. r ≡ renamed_round self.now.clauses self.now.part.now self.now.names.now round) }
         ensures numbers { IfOk result (λ r. self.now.clauses + length round.steps < 2 ^ 64) }
     {
         let count = round.steps.len() as u64;
@@ -129,7 +132,8 @@ impl<'a> Renaming<'a> {
     pub fn rounds(&self, alloc: Global, rounds: List<Round>) -> Result<List<Round>, OutOfMemory>
         requires names { IsTrue (rises_within 0 max_vars self.now.names.now) }
         requires within { IsTrue (list_all (is_round_within (length self.now.names.now)) rounds) }
-        ensures rounds { IfOk result (λ rs. rs ≡ map (renamed_round self.now.clauses self.now.part.now self.now.names.now) rounds) }
+        ensures rounds { IfOk result
+            (λ rs. rs ≡ map (renamed_round self.now.clauses self.now.part.now self.now.names.now) rounds) }
         ensures numbers { IfOk result (λ rs. self.now.clauses + length (steps_of rounds) < 2 ^ 64) }
     {
         let mut renamed = List::new(alloc);

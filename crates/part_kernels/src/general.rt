@@ -2,10 +2,9 @@
 //!
 //! Parts share no variable, so each has its kernel by itself, and what rounds over one part show they show
 //! over the whole formula.
-ghost use Rattle.std.specs.Prelude.{◌≡◌, ◌<◌, ◌≤◌, ◌^◌, map, Ok, IfOk, IsTrue};
+ghost use Rattle.std.specs.Prelude.{◌≡◌, ◌<◌, ◌≤◌, map, Ok, IfOk};
 ghost use Rattle.std.specs.ControlFlow.{MatchControlFlow};
 ghost use Rattle.std.specs.List.{AllByRecursion};
-ghost use Rattle.lk_model.specs.Formulas.Lean.{are_positions};
 ghost use Rattle.lk_model.specs.Formulas.Parts.{IsPart};
 ghost use Rattle.kernel_laws.specs.General.Found.{IsFound};
 ghost use Rattle.part_kernels.specs.ByParts.{AreFound, done, IsFirstOf, IsFoundByParts};

@@ -1,2 +1,2 @@
 mod Extensions
-mod SetValues
+pub mod SetValues

@@ -49,7 +49,8 @@ pub still_unset : (n : ℕ) (ls : List ℤ) (i : ℕ) (l : ℤ) → rises_within
 still_unset n ls i l up lt is =
     rw (new_variable n ls i l (pos (variable l)) up lt is refl, new_variable n ls i l (neg_ℤ (pos (variable l))) up lt is (variable_negative (variable l))) refl
 
-assigned_other : (ls : List ℤ) (l : ℤ) (v : ℕ) → v ≢ variable l → assignment_of (ls ++ l ∷ []) v ≡ assignment_of ls v
+-- a literal that is put leaves the other variables as they were
+pub assigned_other : (ls : List ℤ) (l : ℤ) (v : ℕ) → v ≢ variable l → assignment_of (ls ++ l ∷ []) v ≡ assignment_of ls v
 assigned_other ls l v other =
     let a = push_other ls l (pos v) other in
     let b = push_other ls l (neg_ℤ (pos v)) (λ e. other (sym (variable_negative v) ∙ e)) in

@@ -12,7 +12,8 @@ use std::alloc::Global;
 pub fn compose(alloc: Global, first: &Partial, second: &Partial) -> Result<Partial, OutOfMemory>
     requires { length first.now ≡ length second.now }
     ensures vars { IfOk result (λ p. length p ≡ length first.now) }
-    ensures values { IfOk result (λ p. assignment_by p ≡ composed (assignment_by first.now) (assignment_by second.now)) }
+    ensures values { IfOk result
+        (λ p. assignment_by p ≡ composed (assignment_by first.now) (assignment_by second.now)) }
 {
     let mut whole = Partial::new(alloc, first.vars())?;
     for v in 0..first.vars() {
@@ -29,8 +30,10 @@ pub fn compose(alloc: Global, first: &Partial, second: &Partial) -> Result<Parti
 /// literals satisfy the whole formula. It takes the memory of the result alone.
 pub fn extend_total(alloc: Global, phi: &Partial, psi: &Partial) -> Result<List<Lit>, OutOfMemory>
     requires { length phi.now ≡ length psi.now }
-    ensures literals { IfOk result (λ ls. ls ≡ extended_literals (assignment_by phi.now) (assignment_by psi.now) (length phi.now)) }
-    ensures values { IfOk result (λ ls. assignment_of ls ≡ extended (assignment_by phi.now) (assignment_by psi.now) (length phi.now)) }
+    ensures literals { IfOk result
+        (λ ls. ls ≡ extended_literals (assignment_by phi.now) (assignment_by psi.now) (length phi.now)) }
+    ensures values { IfOk result
+        (λ ls. assignment_of ls ≡ extended (assignment_by phi.now) (assignment_by psi.now) (length phi.now)) }
 {
     let mut literals = Vec::with_capacity(alloc, phi.vars() as usize)?;
     for v in 0..phi.vars() {

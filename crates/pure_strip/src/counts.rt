@@ -1,7 +1,9 @@
 //! How many clauses hold each literal.
-ghost use Rattle.std.specs.Prelude.{◌≡◌, ◌+◌, ◌*◌, ◌<◌, ◌≤◌, ℕ, length, Contains, IfSome, IfNone, OnOk, OnErr, IsTrue, Some, None, false};
+ghost use Rattle.std.specs.Prelude.{◌≡◌, ◌+◌, ◌*◌, ◌<◌, ◌≤◌, ℕ, length, Contains, IfSome, IfNone, OnOk, OnErr, IsTrue};
+ghost use Rattle.std.specs.Prelude.{Some, None, false};
 ghost use Rattle.lk_model.specs.Formulas.Literal.{is_literal};
-ghost use Rattle.pure_strip.specs.Counted.{count_of, is_lone_variable, lone_of, lowered, least_lone, AreStill, IsFirstLone};
+ghost use Rattle.pure_strip.specs.Counted.{count_of, is_lone_variable, lone_of, lowered, least_lone, AreStill};
+ghost use Rattle.pure_strip.specs.Counted.{IsFirstLone};
 
 use crate::least_first::LeastFirst;
 use lk_model::{Lit, LitTable, OutOfMemory};
@@ -51,11 +53,11 @@ impl Counts {
         ensures ok { OnOk result (self.new ≡ lowered self.old l) }
         ensures err { OnErr result (self.new ≡ self.old) }
     {
-        let left = self.counts[l] - 1;
-        if left == 0 && l.var() < self.next && self.counts[l.negated()] != 0 {
+        let remaining = self.counts[l] - 1;
+        if remaining == 0 && l.var() < self.next && self.counts[l.negated()] != 0 {
             self.back.push(l.var())?;
         }
-        self.counts[l] = left;
+        self.counts[l] = remaining;
         Ok(())
     }
 

@@ -6,12 +6,13 @@
 //! Here the least variable is taken each time, so the order is determined. Each clause knows whether it was touched,
 //! each literal how many untouched clauses hold it. The variables are gone through once, and one that is left in one
 //! sign after it was passed waits in a heap (`counts`): no step goes through the formula.
-ghost use Rattle.std.specs.Prelude.{◌≡◌, ◌<◌, ◌≤◌, [], length, replicate, slice_set, true, false, IfOk, OnOk, IsTrue, All, ◌-◌, ◌+◌, ◌*◌};
+ghost use Rattle.std.specs.Prelude.{◌≡◌, ◌<◌, ◌≤◌, [], length, replicate, slice_set, true, false, IfOk, OnOk, IsTrue};
+ghost use Rattle.std.specs.Prelude.{All, ◌-◌, ◌+◌, ◌*◌};
 ghost use Rattle.lk_model.specs.Formulas.Literal.{is_clause};
 ghost use Rattle.lk_model.specs.Formulas.PureRun.{IsPureRun};
 ghost use Rattle.occurrence_lists.specs.Occurrences.{AreOccurrences};
 ghost use Rattle.pure_strip.specs.Counted.{AreHeld, LowersAll};
-ghost use Rattle.pure_strip.specs.Live.{is_live, AreCounted, AreUntouched, GoDown};
+ghost use Rattle.pure_strip.specs.Live.{AreCounted, AreUntouched, GoDown};
 
 use crate::counts::Counts;
 use lk_model::{Formula, List, Lit, OutOfMemory};

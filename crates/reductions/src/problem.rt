@@ -19,8 +19,8 @@ pub struct Problem {
 
 impl Problem {
     /// A formula, with those of the listed numbers protected that are variables of it. They may stand in any order, and
-    /// more than once. Its documents have a line of protected variables exactly if there is a list, be it empty. The error
-    /// is that there is no memory.
+    /// more than once. Its documents have a line of protected variables exactly if there is a list, be it empty. The
+    /// error is that there is no memory.
     pub fn new(
         alloc: Global,
         formula: Formula,

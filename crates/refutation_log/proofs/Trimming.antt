@@ -12,7 +12,7 @@ use Rattle.lk_model.specs.declared.document.Step.{Step}
 use Rattle.lk_model.proofs.ReachedLaws.{reached_law}
 use Rattle.refutation_log.specs.Derivation.{are_numbered, names_lower, IsDerivation}
 use Rattle.refutation_log.specs.Trimmed.{trimmed, new_number, with_numbers}
-use Rattle.refutation_log.specs.Numbers.{number_in, is_marked}
+use Rattle.refutation_log.specs.Numbers.{number_by_table, is_marked}
 use Rattle.refutation_log.proofs.Steps.{head_number}
 use Rattle.lk_model.proofs.Booleans.{and_true, or_true}
 use Rattle.lk_model.proofs.Lists.{name_lower}
@@ -185,7 +185,7 @@ marks_count K first (b ∷ marks) is (suc i) le =
 pub numbers_are : (K : ℕ → Bool) (first next bound : ℕ) (marks : List Bool) (numbers : List ℕ)
     → ((k : ℕ) → k < length marks → slice_index_or marks k false ≡ K (first + k))
     → ((i : ℕ) → i < length marks → slice_index numbers i ≡ next + count_by (λ b. b) (take i marks))
-    → bound ≤ first → (k : ℕ) → Valid K bound first (first + length marks) k → number_in first numbers k ≡ new_of K first next k
+    → bound ≤ first → (k : ℕ) → Valid K bound first (first + length marks) k → number_by_table first numbers k ≡ new_of K first next k
 numbers_are K first next bound marks numbers is each b k (a_position lt) = rw (le-leb (suc k) first (omega (arith, lt, b))) refl
 numbers_are K first next bound marks numbers is each b k (a_step le below kept) =
     rw (le-ltb k first le)
@@ -207,12 +207,12 @@ pub trims : (first next : ℕ) (steps kept : List Step) (marks : List Bool) (num
     → length marks ≡ length steps
     → ((k : ℕ) → k < length marks → slice_index_or marks k false ≡ among (reached steps) (first + k))
     → ((i : ℕ) → i < length marks → slice_index numbers i ≡ next + count_by (λ b. b) (take i marks))
-    → kept ≡ map (with_numbers (number_in first numbers)) (filter (is_marked first marks) steps)
+    → kept ≡ map (with_numbers (number_by_table first numbers)) (filter (is_marked first marks) steps)
     → kept ≡ trimmed next steps
 trims first next steps kept marks numbers d count is each e =
     let K : ℕ → Bool = among (reached steps) in
     let fits : EachFits K first first (first + length marks) steps = subst (λ n. EachFits K first first (first + n) steps) (sym count) (fits_below_first first steps d) in
-    e ∙ ap (map (with_numbers (number_in first numbers))) (marked_steps K first marks is first steps (omega arith) (omega (arith, count)) d.numbers)
-    ∙ same_numbers K first first (first + length marks) (number_in first numbers) (new_of K first next) steps fits
+    e ∙ ap (map (with_numbers (number_by_table first numbers))) (marked_steps K first marks is first steps (omega arith) (omega (arith, count)) d.numbers)
+    ∙ same_numbers K first first (first + length marks) (number_by_table first numbers) (new_of K first next) steps fits
     (numbers_are K first next first marks numbers is each (omega arith))
     ∙ sym (trimmed_is first next steps d)

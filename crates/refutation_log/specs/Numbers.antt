@@ -6,8 +6,8 @@ use Rattle.lk_model.specs.Chains.Chain.{names_of}
 use Rattle.lk_model.specs.declared.document.Step.{Step}
 
 -- the new number of a number, by a table for the steps from `first` on
-abbrev pub number_in : ℕ → List ℕ → ℕ → ℕ
-number_in first numbers k = if nat_lt k first then k else slice_index numbers (k - first)
+abbrev pub number_by_table : ℕ → List ℕ → ℕ → ℕ
+number_by_table first numbers k = if nat_lt k first then k else slice_index numbers (k - first)
 
 -- the step has a mark among those of the steps from `first` on
 abbrev pub is_marked : ℕ → List Bool → Step → Bool

@@ -48,7 +48,8 @@ pub(crate) fn positions_used<S: Chains>(
 fn marked_places(alloc: Global, marks: &[bool]) -> Result<List<u32>, OutOfMemory>
     requires some { 0 < length marks.now }
     requires few { length marks.now < 2 ^ 32 }
-    ensures { IfOk result (λ ps. ps ≡ filter (λ p. slice_index_or marks.now p false) (range_with_len 1 (length marks.now - 1))) }
+    ensures { IfOk result
+        (λ ps. ps ≡ filter (λ p. slice_index_or marks.now p false) (range_with_len 1 (length marks.now - 1))) }
 {
     let mut positions = List::new(alloc);
     for p in 1..marks.len() {

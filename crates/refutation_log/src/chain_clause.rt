@@ -1,8 +1,8 @@
 //! The clause that a chain has so far, by flags of literals.
 //!
-//! A turn takes one literal out and puts those of another clause in. With a flag for each literal that costs no more than
-//! to read the other clause, however long the clause of the chain has become; clauses that are kept in order would be
-//! merged at each turn. The literals that came are listed, so that the clause is found at the end, and the flags are
+//! A turn takes one literal out and puts those of another clause in. With a flag for each literal that costs no more
+//! than to read the other clause, however long the clause of the chain has become; clauses that are kept in order would
+//! be merged at each turn. The literals that came are listed, so that the clause is found at the end, and the flags are
 //! taken back, without a look at any other literal. The flags stay from one chain to the next.
 ghost use Rattle.std.specs.Prelude.{◌≡◌, ◌<◌, ℤ, ◌&&◌, ◌∷◌, ◌++◌, [], not, length, IfOk, OnOk, IsTrue};
 ghost use Rattle.std.specs.Ordering.{int_eq};
@@ -107,7 +107,8 @@ impl FlaggedClause {
         but: Lit,
     ) -> Result<(), OutOfMemory>
         requires { IsTrue (is_clause (length blocked.now) clause.now) }
-        ensures { OnOk result (HaveSame self.new (self.old ++ without (crossed_out (is_in blocked.now) clause.now) but)) }
+        ensures { OnOk result
+            (HaveSame self.new (self.old ++ without (crossed_out (is_in blocked.now) clause.now) but)) }
     {
         for l in clause {
             if *l != but && !blocked.has(l.var()) {
@@ -125,7 +126,9 @@ impl FlaggedClause {
         blocked: &VarSet,
     ) -> Result<(), OutOfMemory>
         requires { IsTrue (is_clause (length blocked.now) clause.now) }
-        ensures { OnOk result (IsTrue (is_same_set self.new (without self.old l ++ without (crossed_out (is_in blocked.now) clause.now) (complement l)))) }
+        ensures { OnOk result
+            (IsTrue (is_same_set self.new
+            (without self.old l ++ without (crossed_out (is_in blocked.now) clause.now) (complement l)))) }
     {
         self.take_out(l);
         self.put_others_crossed(clause, blocked, l.negated())

@@ -8,12 +8,14 @@
 //!
 //! Here each turn names the literal on which it resolves, so that nothing is searched; the clauses of a formula may
 //! have literals crossed out; and no step is ever deleted, so a step's place is its number less the first one.
-ghost use Rattle.std.specs.Prelude.{◌≡◌, ◌-◌, ◌<◌, ◌≤◌, ◌^◌, ◌∷◌, ◌↔◌, [], Some, length, IfOk, OnOk, OnErr, IsTrue, IsSome};
+ghost use Rattle.std.specs.Prelude.{◌≡◌, ◌-◌, ◌<◌, ◌≤◌, ◌^◌, ◌∷◌, ◌↔◌, [], Some, length, IfOk, OnOk, OnErr, IsTrue};
+ghost use Rattle.std.specs.Prelude.{IsSome};
 ghost use Rattle.lk_model.specs.Held.VariableSets.{IsCrossed};
 ghost use Rattle.lk_model.specs.Held.VariableSets.{premises_of};
 ghost use Rattle.lk_model.specs.Chains.Chain.{clause_named, after_turns, chain_clause};
 ghost use Rattle.lk_model.specs.Chains.Rounds.{is_refutation, used_positions};
-ghost use Rattle.refutation_log.specs.Derivation.{next_number, clause_of_step, last_clause_of, is_ascending, Extends, IsLog};
+ghost use Rattle.refutation_log.specs.Derivation.{next_number, clause_of_step, last_clause_of, is_ascending, Extends};
+ghost use Rattle.refutation_log.specs.Derivation.{IsLog};
 ghost use Rattle.refutation_log.specs.Trimmed.{trimmed, names_positions_below};
 ghost use Rattle.refutation_log.specs.SameClause.{IsSameClause};
 
@@ -196,7 +198,8 @@ impl Log {
         requires crossed { IsCrossed over.now }
         requires past { length over.now.formula.now.clauses < self.now.first }
         requires chain { IsSome (chain_clause (premises_of over.now self.now.steps) first turns.now) }
-        ensures { IfOk result (λ w. IsSameClause (Some w) (chain_clause (premises_of over.now self.now.steps) first turns.now)) }
+        ensures { IfOk result
+            (λ w. IsSameClause (Some w) (chain_clause (premises_of over.now self.now.steps) first turns.now)) }
     {
         flagged.clear();
         self.begin(over, first, flagged)?;
@@ -232,7 +235,9 @@ impl Log {
         requires crossed { IsCrossed over.now }
         requires past { length over.now.formula.now.clauses < self.now.first }
         requires goes { IsSome (after_turns (premises_of over.now self.now.steps) flagged.old (turn ∷ [])) }
-        ensures { OnOk result (IsSameClause (Some flagged.new) (after_turns (premises_of over.now self.now.steps) flagged.old (turn ∷ []))) }
+        ensures { OnOk result
+            (IsSameClause (Some flagged.new)
+            (after_turns (premises_of over.now self.now.steps) flagged.old (turn ∷ []))) }
     {
         if turn.with <= u64::from(over.formula.len()) {
             flagged.resolve_crossed(

@@ -4,7 +4,7 @@ ghost use Rattle.std.specs.List.{list_all};
 ghost use Rattle.lk_model.specs.Chains.Chain.{names_of};
 ghost use Rattle.lk_model.specs.declared.document.Turn.{Turn as ATurn};
 ghost use Rattle.refutation_log.specs.Trimmed.{with_numbers};
-ghost use Rattle.refutation_log.specs.Numbers.{number_in, is_marked, AreNewNumbers};
+ghost use Rattle.refutation_log.specs.Numbers.{number_by_table, is_marked, AreNewNumbers};
 ghost use Rattle.refutation_log.specs.Derivation.{are_numbered, names_lower};
 
 use crate::logged_step::LoggedStep;
@@ -40,7 +40,9 @@ pub(crate) fn kept_steps(
     requires names { IsTrue (list_all names_lower steps.items) }
     requires marks { length marks.now ≡ length steps.items }
     requires numbers { length numbers.now ≡ length steps.items }
-    ensures { IfOk result (λ kept. kept ≡ map (with_numbers (number_in first numbers.now)) (filter (is_marked first marks.now) steps.items)) }
+    ensures { IfOk result
+        (λ kept. kept ≡ map (with_numbers (number_by_table first numbers.now))
+        (filter (is_marked first marks.now) steps.items)) }
 {
     let mut kept = List::new(alloc);
     for step in steps {
@@ -55,7 +57,7 @@ pub(crate) fn kept_steps(
 // The step with the new numbers of the steps from `first` on.
 fn with_new_numbers(step: Step, first: u64, numbers: &[u64]) -> Step
     requires { IsTrue (list_all (λ k. nat_lt k (first + length numbers.now)) (step.number ∷ names_of step)) }
-    ensures { result ≡ with_numbers (number_in first numbers.now) step }
+    ensures { result ≡ with_numbers (number_by_table first numbers.now) step }
 {
     let mut turns = step.turns.into_vec();
     renumber(&mut turns, first, numbers);
@@ -70,7 +72,7 @@ fn with_new_numbers(step: Step, first: u64, numbers: &[u64]) -> Step
 // The new number of a number.
 fn new_number(k: u64, first: u64, numbers: &[u64]) -> u64
     requires { k < first + length numbers.now }
-    ensures { result ≡ number_in first numbers.now k }
+    ensures { result ≡ number_by_table first numbers.now k }
 {
     if k < first {
         k
@@ -82,7 +84,8 @@ fn new_number(k: u64, first: u64, numbers: &[u64]) -> u64
 // Gives each turn its new number.
 fn renumber(turns: &mut [Turn], first: u64, numbers: &[u64])
     requires { IsTrue (list_all (λ k. nat_lt k (first + length numbers.now)) (map (λ (t : ATurn). t.with) turns.old)) }
-    ensures { turns.new ≡ map (λ (t : ATurn). record { lit = t.lit; with = number_in first numbers.now t.with }) turns.old }
+    ensures { turns.new ≡ map
+        (λ (t : ATurn). record { lit = t.lit; with = number_by_table first numbers.now t.with }) turns.old }
 {
     for turn in turns.iter_mut() {
         turn.with = new_number(turn.with, first, numbers);

@@ -3,7 +3,8 @@
 //! One pass from the last step to the first, with a mark for each step and position, as proofs are trimmed from the
 //! empty clause backwards (Heule, Hunt and Wetzler, "Trimming while Checking Clausal Proofs", 2013). Here the chains
 //! are stated, so no propagation is needed to know what a step uses.
-ghost use Rattle.std.specs.Prelude.{◌≡◌, ℕ, ◌+◌, ◌-◌, ◌<◌, ◌≤◌, [], ◌∷◌, ◌++◌, nat_lt, List, length, drop, IfOk, IsTrue};
+ghost use Rattle.std.specs.Prelude.{◌≡◌, ℕ, ◌+◌, ◌-◌, ◌<◌, ◌≤◌, [], ◌∷◌, ◌++◌, nat_lt, List, length, drop, IfOk};
+ghost use Rattle.std.specs.Prelude.{IsTrue};
 ghost use Rattle.std.specs.List.{list_all};
 ghost use Rattle.lk_model.specs.Chains.Chain.{names_of};
 ghost use Rattle.lk_model.specs.Chains.Rounds.{reached};
@@ -62,7 +63,8 @@ impl Marks {
 
     // Marks the numbers that the chain of a step names.
     fn mark_names(&mut self, step: &Step)
-        requires { IsTrue (list_all (λ k. nat_lt k (self.old.first + length self.old.steps.items)) (names_of step.now)) }
+        requires { IsTrue
+            (list_all (λ k. nat_lt k (self.old.first + length self.old.steps.items)) (names_of step.now)) }
         ensures shape { HaveSameShape self.old self.new }
         ensures marks { (known : List ℕ) → AreMarks known self.old → AreMarks (names_of step.now ++ known) self.new }
     {
@@ -74,7 +76,8 @@ impl Marks {
 
     // Marks the numbers that the chain of a step of a log names.
     fn mark_logged(&mut self, step: &LoggedStep)
-        requires { IsTrue (list_all (λ k. nat_lt k (self.old.first + length self.old.steps.items)) (names_of step.now)) }
+        requires { IsTrue
+            (list_all (λ k. nat_lt k (self.old.first + length self.old.steps.items)) (names_of step.now)) }
         ensures shape { HaveSameShape self.old self.new }
         ensures marks { (known : List ℕ) → AreMarks known self.old → AreMarks (names_of step.now ++ known) self.new }
     {
@@ -97,9 +100,11 @@ pub(crate) trait Chains {
     /// Marks the numbers that the chain of the step at a place names.
     fn mark_names(&self, at: usize, marks: &mut Marks)
         requires within { at < length (steps self.now) }
-        requires names { IsTrue (list_all (λ k. nat_lt k (marks.old.first + length marks.old.steps.items)) (names_at (steps self.now) at)) }
+        requires names { IsTrue
+            (list_all (λ k. nat_lt k (marks.old.first + length marks.old.steps.items)) (names_at (steps self.now) at)) }
         ensures shape { HaveSameShape marks.old marks.new }
-        ensures marks { (known : List ℕ) → AreMarks known marks.old → AreMarks (names_at (steps self.now) at ++ known) marks.new };
+        ensures marks { (known : List ℕ) → AreMarks known marks.old →
+            AreMarks (names_at (steps self.now) at ++ known) marks.new };
 }
 
 impl Chains for Round {

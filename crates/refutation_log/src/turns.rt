@@ -1,7 +1,7 @@
 //! The turns of a logged chain.
 //!
-//! A turn of a document names a clause by 64 bits. Nearly all numbers fit 32 bits, and then a log holds a turn in half the
-//! room. A chain that names a greater number has all its turns as a document has them.
+//! A turn of a document names a clause by 64 bits. Nearly all numbers fit 32 bits, and then a log holds a turn in half
+//! the room. A chain that names a greater number has all its turns as a document has them.
 ghost use Rattle.std.specs.Prelude.{◌≡◌, ◌<◌, ◌^◌, length, slice_index_or, IfOk, IsTrue};
 ghost use Rattle.std.specs.List.{list_all};
 ghost use Rattle.refutation_log.specs.ShortTurns.{is_short};

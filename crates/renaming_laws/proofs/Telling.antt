@@ -12,7 +12,7 @@ use Rattle.lk_model.specs.declared.document.Step.{Step}
 use Rattle.lk_model.specs.declared.document.Round.{Round}
 use Rattle.lk_model.proofs.Booleans.{and_true}
 use Rattle.lk_model.proofs.ListTests.{all_weaker}
-use Rattle.renaming_laws.specs.Renaming.{nth, named, number_in, renamed_turn, renamed_step, renamed_round}
+use Rattle.renaming_laws.specs.Renaming.{nth, named, number_in_whole, renamed_turn, renamed_step, renamed_round}
 use Rattle.renaming_laws.proofs.Mapped.{map_agrees, rises_all, rising_all}
 use Rattle.renaming_laws.proofs.RenamedClauses.{literal_on}
 use Rattle.renaming_laws.proofs.RenamedChains.{turn_under, step_under, round_under}
@@ -51,7 +51,7 @@ kept_told part m kept e =
 
 -- STEPS
 
-before_told : (part : List ℕ) (m number k : ℕ) → is_between 1 (number - 1) k ≡ true → number_in part m k ≡ told part m k
+before_told : (part : List ℕ) (m number k : ℕ) → is_between 1 (number - 1) k ≡ true → number_in_whole part m k ≡ told part m k
 before_told part m number k e = number_told part m k (leb-true 1 k (and_true (nat_le 1 k) (nat_le k (number - 1)) e).0)
 
 turn_told : (part names : List ℕ) (top m number : ℕ) (t : Turn) → is_turn (length names) number t ≡ true → renamed_turn m part names t ≡ turn_under (literal_on (told names top)) (told part m) t

@@ -3,7 +3,7 @@ use Rattle.std.proofs.Common.{◌≡◌, ℕ, zero, suc, ◌+◌, ◌-◌, ◌<�
 use Rattle.std.proofs.lemmas.Bool.{cases_Bool, lt-ltb, le-ltb, ltb-true, ltb-false, leb-true, leb-false, cond-true, cond-false}
 use Rattle.lk_model.specs.Lists.{rises_within}
 use Rattle.lk_model.proofs.Rising.{rises, rising_bounds}
-use Rattle.renaming_laws.specs.Renaming.{nth, number_in}
+use Rattle.renaming_laws.specs.Renaming.{nth, number_in_whole}
 
 -- 0 stays, the numbers up to the length of the list are its elements, and those past it go on from m
 pub told : List ℕ → ℕ → ℕ → ℕ
@@ -72,7 +72,7 @@ nth_told ns m (suc k) least most =
     ap (λ (j : ℕ). get_or ns j 0) e ∙ sym (told_within ns m k (omega (arith, most)))
 
 -- a number in a chain
-pub number_told : (ns : List ℕ) (m k : ℕ) → 1 ≤ k → number_in ns m k ≡ told ns m k
+pub number_told : (ns : List ℕ) (m k : ℕ) → 1 ≤ k → number_in_whole ns m k ≡ told ns m k
 number_told ns m k least = elim (cases_Bool (nat_le k (length ns))) [
   | inl le ↦ cond-true (nat_le k (length ns)) _ _ le ∙ nth_told ns m k least (leb-true k (length ns) le)
   | inr gt ↦

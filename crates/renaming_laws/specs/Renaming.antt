@@ -33,17 +33,17 @@ pub record IsDense (F : Cnf) (part names : List ℕ) (G : Cnf) : Type 0 where
   pub clauses : map (map (named names)) G.clauses ≡ (clauses_at F part).clauses
 
 -- A number in a chain, told for a formula of m clauses: a position of the part, or a step, whose numbers count on from m.
-abbrev pub number_in : List ℕ → ℕ → ℕ → ℕ
-number_in part m k = if nat_le k (length part) then nth part k else (k - length part + m)
+abbrev pub number_in_whole : List ℕ → ℕ → ℕ → ℕ
+number_in_whole part m k = if nat_le k (length part) then nth part k else (k - length part + m)
 
 abbrev pub renamed_turn : ℕ → List ℕ → List ℕ → Turn → Turn
-renamed_turn m part names t = record { lit = named names t.lit; with = number_in part m t.with }
+renamed_turn m part names t = record { lit = named names t.lit; with = number_in_whole part m t.with }
 
 abbrev pub renamed_step : ℕ → List ℕ → List ℕ → Step → Step
 renamed_step m part names s = record {
-  number = number_in part m s.number;
+  number = number_in_whole part m s.number;
   clause = map (named names) s.clause;
-  first = number_in part m s.first;
+  first = number_in_whole part m s.first;
   turns = map (renamed_turn m part names) s.turns;
 }
 

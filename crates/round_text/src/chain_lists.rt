@@ -47,7 +47,8 @@ fn read_ranked<'a>(
 fn turn_in(word: &[u8], other: &[u8], n: u32, number: u64) -> Option<Turn>
     requires small { n ≤ max_vars }
     requires counted { 0 < number }
-    ensures { result ≡ turn_by (literal_within n (plain_number word.now)) (number_within 1 (number - 1) (plain_number other.now)) }
+    ensures { result ≡ turn_by (literal_within n (plain_number word.now))
+        (number_within 1 (number - 1) (plain_number other.now)) }
 {
     Some(Turn {
         lit: literal_in(word, n)?,

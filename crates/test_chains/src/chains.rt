@@ -1,8 +1,9 @@
 //! Clauses of chains, by their definitions alone.
-ghost use Rattle.std.specs.Prelude.{◌≡◌, ◌≤◌, IfOk, IsTrue};
+ghost use Rattle.std.specs.Prelude.{◌≡◌, IfOk, IsTrue};
 ghost use Rattle.lk_model.specs.Held.VariableSets.{IsCrossed};
 ghost use Rattle.lk_model.specs.Held.VariableSets.{premises_of};
-ghost use Rattle.lk_model.specs.Chains.Chain.{without, resolvent, clause_named, after_turns, chain_clause, states_its_clause};
+ghost use Rattle.lk_model.specs.Chains.Chain.{without, resolvent, clause_named, after_turns, chain_clause};
+ghost use Rattle.lk_model.specs.Chains.Chain.{states_its_clause};
 ghost use Rattle.lk_model.specs.Formulas.Literal.{is_within, is_same_set};
 ghost use Rattle.refutation_log.specs.Derivation.{are_chains, clause_of_step};
 

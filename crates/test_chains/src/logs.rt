@@ -306,8 +306,8 @@ fn has_clause(
     Ok(clause.is_some())
 }
 
-/// Pushes a chain, which must have a clause, on a log that has a number for its step. The steps leave the log before and
-/// are logged again.
+/// Pushes a chain, which must have a clause, on a log that has a number for its step. The steps leave the log before
+/// and are logged again.
 fn push(alloc: Global, over: &Crossed, log: Log, first: u64, turns: &[Turn]) -> Result<Log, Fail>
     requires { IsCrossed over.now }
 {

@@ -27,9 +27,9 @@ impl<'a> Model for NotedShelf<'a> {
 impl<'a> Shelf for NotedShelf<'a> {
     ghost told = { λ s name. bytes_under s.files name };
 
-    ghost left = { λ s. s.left };
+    ghost unread = { λ s. s.unread };
 
-    ghost started = { λ s. is_some s.left };
+    ghost started = { λ s. is_some s.unread };
 
     ghost current = { λ s. s.current };
 

@@ -9,7 +9,7 @@ use std::io::{ErrorKind, Read, Seek, SeekFrom, Write};
 pub(crate) struct Interrupted<F> {
     inner: F,
     times: u32,
-    left: u32,
+    remaining: u32,
     pub calls: u64,
 }
 
@@ -19,7 +19,7 @@ impl<F> Interrupted<F> {
         Interrupted {
             inner,
             times,
-            left: times,
+            remaining: times,
             calls: 0,
         }
     }
@@ -27,11 +27,11 @@ impl<F> Interrupted<F> {
     /// Counts a call, which is interrupted or is made.
     fn interrupt(&mut self) -> io::Result<()> {
         self.calls = self.calls.wrapping_add(1);
-        if self.left == 0 {
-            self.left = self.times;
+        if self.remaining == 0 {
+            self.remaining = self.times;
             return Ok(());
         }
-        self.left = self.left.wrapping_sub(1);
+        self.remaining = self.remaining.wrapping_sub(1);
         Err(io::Error::from(ErrorKind::Interrupted))
     }
 }

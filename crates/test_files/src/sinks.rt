@@ -1,5 +1,5 @@
 //! What a sink answers to pieces.
-ghost use Rattle.std.specs.Prelude.{ℕ, ◌<◌, length};
+ghost use Rattle.std.specs.Prelude.{ℕ, ◌<◌};
 
 use crate::interruptions::Interrupted;
 use lk_outside::{Failed, Sink, StdSink};

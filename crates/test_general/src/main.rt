@@ -7,9 +7,9 @@
 //!
 //! A command is `kernel N CONFLICTS; CLAUSES; PART`: the number of variables, how many clauses may be learned, from 1
 //! to 2^63 - 1, the clauses with commas between them, 0 for an empty one, and the positions of a part, or none for all.
-//! The answer has the kept positions and the literals that are set, or `unfinished`, and then each round with its steps:
-//! the number of a step, its clause, the first number of its chain, and for each turn a literal and a number. `short`
-//! in place of `kernel` leaves the rounds out, and tells how many clauses are learned.
+//! The answer has the kept positions and the literals that are set, or `unfinished`, and then each round with its
+//! steps: the number of a step, its clause, the first number of its chain, and for each turn a literal and a number.
+//! `short` in place of `kernel` leaves the rounds out, and tells how many clauses are learned.
 #![tactic(auto)]
 
 mod given;

@@ -1,5 +1,5 @@
 //! Literals, formulas, lists and sets of variables.
-ghost use Rattle.std.specs.Prelude.{◌≤◌, ◌≡◌, length, IfOk};
+ghost use Rattle.std.specs.Prelude.{◌≡◌, length, IfOk};
 
 use crate::parts::{Parts, number_of};
 use lk_model::{Formula, FormulaError, List, Lit, OutOfMemory, VarSet};

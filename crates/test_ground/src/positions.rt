@@ -1,5 +1,5 @@
 //! What a formula has at positions, and the set of listed variables.
-ghost use Rattle.std.specs.Prelude.{◌≡◌, length, IfOk, IsTrue};
+ghost use Rattle.std.specs.Prelude.{IsTrue};
 ghost use Rattle.lk_model.specs.Lists.{rises_within};
 
 use crate::model::{put_members, put_whole};

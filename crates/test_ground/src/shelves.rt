@@ -39,8 +39,8 @@ fn put_read(
     piece: &mut [u8; 4],
     out: &mut String,
 ) -> Result<(), AllocError>
-    requires { IsTrue (is_some shelf.old.left) }
-    ensures { IsTrue (is_some shelf.new.left) }
+    requires { IsTrue (is_some shelf.old.unread) }
+    ensures { IsTrue (is_some shelf.new.unread) }
 {
     let count = shelf.read(piece);
     write!(out, " {count:?}")?;
@@ -49,7 +49,7 @@ fn put_read(
 
 /// Starts the text of a name, and writes what is answered; whether it is started then.
 fn put_start(shelf: &mut MemoryShelf, name: &str, out: &mut String) -> Result<bool, AllocError>
-    ensures { IfOk result (λ s. IsTrue s → IsTrue (is_some shelf.new.left)) }
+    ensures { IfOk result (λ s. IsTrue s → IsTrue (is_some shelf.new.unread)) }
 {
     let answer = shelf.start(name);
     write!(out, " {answer:?}")?;
@@ -64,8 +64,8 @@ fn put_call(
     piece: &mut [u8; 4],
     out: &mut String,
 ) -> Result<bool, AllocError>
-    requires { IsTrue started → IsTrue (is_some shelf.old.left) }
-    ensures { IfOk result (λ s. IsTrue s → IsTrue (is_some shelf.new.left)) }
+    requires { IsTrue started → IsTrue (is_some shelf.old.unread) }
+    ensures { IfOk result (λ s. IsTrue s → IsTrue (is_some shelf.new.unread)) }
 {
     if call != "read" {
         return put_start(shelf, call, out);

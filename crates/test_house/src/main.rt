@@ -1,7 +1,7 @@
 //! Draws the crates as the floors of a house (SVG).
 //!
-//! Standard input is the file `crates.txt` at the top. A line `# NAME: WORDS` begins a floor, and a line `CRATE: ..` puts a
-//! crate on it. Floors come from the lowest one up, and the tests last. What is printed is `docs/house.svg`.
+//! Standard input is the file `crates.txt` at the top. A line `# NAME: WORDS` begins a floor, and a line `CRATE: ..`
+//! puts a crate on it. Floors come from the lowest one up, and the tests last. What is printed is `docs/house.svg`.
 #![tactic(auto)]
 
 mod floor;

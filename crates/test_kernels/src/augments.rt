@@ -24,7 +24,8 @@ fn clause_start(m: &Matching, position: u32) -> Option<Start>
 
 /// The variable of a number, if it is free.
 fn variable_start(m: &Matching, v: u32) -> Option<Start>
-    ensures { IfSome result (λ from. (from ≡ Start.Variable v) × (0 < v) × (v ≤ length m.now.of_var) × (slice_index m.now.of_var (v - 1) ≡ 0)) }
+    ensures { IfSome result (λ from. (from ≡ Start.Variable v) × (0 < v) × (v ≤ length m.now.of_var) ×
+        (slice_index m.now.of_var (v - 1) ≡ 0)) }
 {
     let of_var = m.of_var.as_slice();
     if v == 0 || v as usize > of_var.len() || of_var[v as usize - 1] != 0 {

@@ -17,8 +17,8 @@
 //! - `kernel`, for the matching kernel and its numbers of owners and rows, `owners` and `rows` for these.
 //! - `deficiency`, for the maximal deficiency of the formula, the kernel, and the variables of clauses.
 //! - `augment`, for single searches over the whole formula, where no clause has a variable at first. In place of a part it has
-//!   starts, each the position of a clause, or `v` and a variable. It tells of each whether there is one pair more, and how many
-//!   there are.
+//! starts, each the position of a clause, or `v` and a variable. It tells of each whether there is one pair more, and
+//! how many there are.
 //!
 //! `drawn N` compares the pure kernels of so many drawn formulas with those of the plain program, and `small`
 //! the matchings and kernels of all formulas of at most four clauses over three variables with a search

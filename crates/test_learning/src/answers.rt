@@ -105,12 +105,12 @@ pub(crate) fn put_answer(
     alloc: Global,
     asked: &Asked,
     next: u64,
-    left: u64,
+    budget: u64,
     out: &mut String,
 ) -> Result<(), Fail>
     requires { length asked.now.blocked.now ≡ asked.now.formula.now.vars }
 {
-    let decided = answer(alloc, asked, Way::Usual, next, left)?;
+    let decided = answer(alloc, asked, Way::Usual, next, budget)?;
     put_decided(alloc, asked, next, decided, out)
 }
 

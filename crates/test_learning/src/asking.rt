@@ -4,24 +4,38 @@ ghost use Rattle.lk_model.specs.Formulas.Lean.{are_positions};
 ghost use Rattle.lk_model.specs.Held.VariableSets.{IsCrossed};
 ghost use Rattle.variable_orders.specs.VariableOrders.{IsOrderOver};
 
-use cdcl_core::{Decided, Signs, Turns, decide, decide_by, decide_by_turns};
+use cdcl_core::{By, Decided, Signs, Turns, decide, decide_by, decide_by_turns};
 use lk_model::{Crossed, Formula, OutOfMemory, VarSet};
 use lk_samples::has_part;
 use std::alloc::Global;
 use std::test::Fail;
-use variable_orders::{ascending, by_connection};
+use variable_orders::{ascending, by_connection, by_occurrences};
 
 /// By which orders variables are decided.
 #[derive(Clone, Copy)]
 pub(crate) enum Way {
     /// As `decide` does: by the numbers, true first.
     Usual,
-    /// By the connection or the numbers, with the last values or true first.
-    One { connected: bool, last: bool },
-    /// By both in turns: so many clauses are learned at first, and so many more in each further turn.
+    /// By one order, with the last values or true first.
+    One { by: By, last: bool },
+    /// By the usual two in turns: so many clauses are learned at first, and so many more in each further turn.
     Turns { first: u64, further: u64 },
-    /// By both in turns that keep values, and then again with these: the second answer.
+    /// By all three in turns.
+    All { first: u64, further: u64 },
+    /// By all three in turns that keep values, and then again with these: the second answer.
     Twice { first: u64, further: u64 },
+}
+
+impl Way {
+    /// How many clauses are learned in the first turn, and how many more in each further one.
+    pub(crate) fn lengths(self) -> (u64, u64) {
+        match self {
+            Way::Usual | Way::One { .. } => (0, 0),
+            Way::Turns { first, further }
+            | Way::All { first, further }
+            | Way::Twice { first, further } => (first, further),
+        }
+    }
 }
 
 /// A part of a formula, and the variables whose literals are crossed out.
@@ -33,13 +47,19 @@ pub(crate) struct Asked<'a> {
 }
 
 /// Asks what may be asked.
-fn ask(alloc: Global, asked: &Asked, way: Way, next: u64, left: u64) -> Result<Decided, OutOfMemory>
+fn ask(
+    alloc: Global,
+    asked: &Asked,
+    way: Way,
+    next: u64,
+    budget: u64,
+) -> Result<Decided, OutOfMemory>
     requires part { IsTrue (are_positions asked.now.formula.now asked.now.part.now) }
     requires blocked { length asked.now.blocked.now ≡ asked.now.formula.now.vars }
-    requires some { 0 < left }
+    requires some { 0 < budget }
     requires past { length asked.now.formula.now.clauses < next }
     requires next { next < 2 ^ 40 }
-    requires left { left < 2 ^ 40 }
+    requires budget { budget < 2 ^ 40 }
 {
     let over = Crossed {
         formula: asked.formula,
@@ -47,35 +67,41 @@ fn ask(alloc: Global, asked: &Asked, way: Way, next: u64, left: u64) -> Result<D
         blocked: asked.blocked,
     };
     match way {
-        Way::Usual => decide(alloc, &over, next, left),
-        Way::One { connected, last } => {
-            let order = order_of(alloc, &over, connected)?;
+        Way::Usual => decide(alloc, &over, next, budget),
+        Way::One { by, last } => {
+            let order = order_of(alloc, &over, by)?;
             let mut signs = signs_of(alloc, over.formula.vars(), last)?;
-            decide_by(alloc, &over, order, &mut signs, next, left)
+            decide_by(alloc, &over, order, &mut signs, next, budget)
         }
         Way::Turns { first, further } => {
             let mut turns = Turns::new();
             turns.first = first;
             turns.further = further;
-            decide_by_turns(alloc, &over, &mut turns, next, left)
+            decide_by_turns(alloc, &over, &mut turns, next, budget)
+        }
+        Way::All { first, further } => {
+            let mut turns = Turns::of_all_orders();
+            turns.first = first;
+            turns.further = further;
+            decide_by_turns(alloc, &over, &mut turns, next, budget)
         }
         Way::Twice { first, further } => {
             let mut turns = Turns::keeping(alloc, over.formula.vars(), first, further)?;
-            decide_by_turns(alloc, &over, &mut turns, next, left)?;
-            decide_by_turns(alloc, &over, &mut turns, next, left)
+            decide_by_turns(alloc, &over, &mut turns, next, budget)?;
+            decide_by_turns(alloc, &over, &mut turns, next, budget)
         }
     }
 }
 
-/// The variables by their connection, or by their numbers.
-fn order_of(alloc: Global, over: &Crossed, connected: bool) -> Result<Vec<u32>, OutOfMemory>
+/// The variables in an order.
+fn order_of(alloc: Global, over: &Crossed, by: By) -> Result<Vec<u32>, OutOfMemory>
     requires { IsCrossed over.now }
     ensures { IfOk result (λ vars. IsOrderOver over.now vars.items) }
 {
-    if connected {
-        Ok(by_connection(alloc, over)?)
-    } else {
-        Ok(ascending(alloc, over)?)
+    match by {
+        By::Number => Ok(ascending(alloc, over)?),
+        By::Connection => Ok(by_connection(alloc, over)?),
+        By::Occurrences => Ok(by_occurrences(alloc, over)?),
     }
 }
 
@@ -89,14 +115,14 @@ fn signs_of(alloc: Global, n: u32, last: bool) -> Result<Signs, OutOfMemory> {
 }
 
 /// Refuses a question that may not be asked.
-fn check_question(asked: &Asked, next: u64, left: u64) -> Result<(), Fail>
+fn check_question(asked: &Asked, next: u64, budget: u64) -> Result<(), Fail>
     ensures part { OnOk result (IsTrue (are_positions asked.now.formula.now asked.now.part.now)) }
-    ensures some { OnOk result (0 < left) }
+    ensures some { OnOk result (0 < budget) }
     ensures past { OnOk result (length asked.now.formula.now.clauses < next) }
     ensures next { OnOk result (next < 2 ^ 40) }
-    ensures left { OnOk result (left < 2 ^ 40) }
+    ensures budget { OnOk result (budget < 2 ^ 40) }
 {
-    if !has_part(asked.formula, asked.part) || left == 0 || left > 1_000_000_000 {
+    if !has_part(asked.formula, asked.part) || budget == 0 || budget > 1_000_000_000 {
         return Err(Fail::from("no part, or no budget"));
     }
     if next <= u64::from(asked.formula.len()) || next > 1_000_000_000 {
@@ -111,12 +137,12 @@ pub(crate) fn answer(
     asked: &Asked,
     way: Way,
     next: u64,
-    left: u64,
+    budget: u64,
 ) -> Result<Decided, Fail>
     requires blocked { length asked.now.blocked.now ≡ asked.now.formula.now.vars }
 {
-    check_question(asked, next, left)?;
-    Ok(ask(alloc, asked, way, next, left)?)
+    check_question(asked, next, budget)?;
+    Ok(ask(alloc, asked, way, next, budget)?)
 }
 
 /// The answer by turns that may have kept values of earlier questions, where the question may be asked.
@@ -125,20 +151,20 @@ pub(crate) fn answer_by_turns(
     asked: &Asked,
     turns: &mut Turns,
     next: u64,
-    left: u64,
+    budget: u64,
 ) -> Result<Decided, Fail>
     requires blocked { length asked.now.blocked.now ≡ asked.now.formula.now.vars }
 {
-    check_question(asked, next, left)?;
+    check_question(asked, next, budget)?;
     let over = Crossed {
         formula: asked.formula,
         part: asked.part,
         blocked: asked.blocked,
     };
-    Ok(decide_by_turns(alloc, &over, turns, next, left)?)
+    Ok(decide_by_turns(alloc, &over, turns, next, budget)?)
 }
 
-/// Prints the variables of the crossed clauses in both orders, where there are such clauses.
+/// Prints the variables of the crossed clauses in each order, where there are such clauses.
 pub(crate) fn put_orders(alloc: Global, asked: &Asked, out: &mut String) -> Result<(), Fail>
     requires blocked { length asked.now.blocked.now ≡ asked.now.formula.now.vars }
 {
@@ -155,6 +181,11 @@ pub(crate) fn put_orders(alloc: Global, asked: &Asked, out: &mut String) -> Resu
         out,
         "by connection: {:?}",
         by_connection(alloc, &over)?.as_slice()
+    )?;
+    writeln!(
+        out,
+        "by occurrences: {:?}",
+        by_occurrences(alloc, &over)?.as_slice()
     )?;
     Ok(())
 }

@@ -11,6 +11,7 @@ fn leading(turns: &Turns) -> &'static str {
     match turns.by {
         By::Number => "the numbers",
         By::Connection => "the connection",
+        By::Occurrences => "the occurrences",
     }
 }
 
@@ -19,7 +20,7 @@ fn put_formula(
     alloc: Global,
     n: u32,
     turns: &mut Turns,
-    left: u64,
+    budget: u64,
     clauses: &str,
     out: &mut String,
 ) -> Result<(), Fail> {
@@ -32,7 +33,7 @@ fn put_formula(
         blocked: &blocked,
     };
     let next = u64::from(f.len()) + 1;
-    let decided = answer_by_turns(alloc, &asked, turns, next, left)?;
+    let decided = answer_by_turns(alloc, &asked, turns, next, budget)?;
     put_decided(alloc, &asked, next, decided, out)?;
     writeln!(out, "next begin {}", leading(turns))?;
     Ok(())
@@ -43,12 +44,12 @@ pub(crate) fn put_formulas(
     alloc: Global,
     n: u32,
     turns: &mut Turns,
-    left: u64,
+    budget: u64,
     formulas: &str,
     out: &mut String,
 ) -> Result<(), Fail> {
     for clauses in formulas.split("|") {
-        put_formula(alloc, n, turns, left, clauses, out)?;
+        put_formula(alloc, n, turns, budget, clauses, out)?;
     }
     Ok(())
 }

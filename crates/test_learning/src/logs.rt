@@ -1,5 +1,5 @@
 //! Logs, gone through step by step.
-ghost use Rattle.std.specs.Prelude.{◌≡◌, ◌≤◌, length};
+ghost use Rattle.std.specs.Prelude.{◌≡◌, length};
 
 use crate::answers::{is_filled, is_left};
 use crate::asking::Asked;

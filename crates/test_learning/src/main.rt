@@ -4,21 +4,22 @@
 //!
 //! A line of the input is one of
 //!
-//!     case | NAME | VARS | CLAUSES | PART | BLOCKED | NEXT | LEFT
+//!     case | NAME | VARS | CLAUSES | PART | BLOCKED | NEXT | BUDGET
 //!     budgets | NAME | VARS | CLAUSES
-//!     pigeons | HOLES | LEFT
+//!     pigeons | HOLES | BUDGET
 //!     chain | LENGTH
 //!     drawn | SEED | COUNT | WAY
 //!     orders | NAME | VARS | CLAUSES | PART | BLOCKED
-//!     turns | HOLES | FIRST | FURTHER | MOST
-//!     kept | NAME | VARS | FIRST | FURTHER | LEFT | CLAUSES | CLAUSES ..
+//!     turns | HOLES | WAY | MOST
+//!     kept | NAME | VARS | FIRST | FURTHER | BUDGET | CLAUSES | CLAUSES ..
 //!
 //! Commas stand between clauses. Of `budgets` each budget from 1 on is tried until one is enough. A chain is one of
 //! implications that cannot all hold. Drawn formulas are compared with a search through all assignments (`drawn`), by
-//! `decide` where there is no WAY, and else by `numbers`, `connection`, with `last` behind it for the last values, or by
-//! `turns FIRST FURTHER` or `twice FIRST FURTHER`. Of `turns` each budget up to one is tried on pigeons (`edges`). The
-//! formulas of `kept` are decided one after another by turns that keep values (`kept`). Every log is gone through step by
-//! step (`logs`).
+//! `decide` where there is no WAY, and else by `numbers`, `connection` or `occurrences`, with `last` behind it for the
+//! last values, or by `turns FIRST FURTHER` for the usual two orders, `all FIRST FURTHER` for three, or
+//! `twice FIRST FURTHER`. Of `turns` each budget up to one is tried on pigeons (`edges`).
+//! The formulas of `kept` are decided one after another by turns that keep values (`kept`). Every log is gone through
+//! step by step (`logs`).
 #![tactic(auto)]
 
 mod answers;
@@ -33,9 +34,9 @@ use crate::answers::put_answer;
 use crate::asking::{Asked, Way, put_orders};
 use crate::built::{implications, pigeons};
 use crate::drawn::put_drawn;
-use crate::edges::right_budgets;
+use crate::edges::{ALL, USUAL, right_budgets};
 use crate::kept::put_formulas;
-use cdcl_core::Turns;
+use cdcl_core::{By, Turns};
 use lk_model::Formula;
 use lk_samples::{formula_of_text, numbers_of_text, positions, set_of};
 use std::alloc::Global;
@@ -52,7 +53,7 @@ fn number_of(text: &str) -> u32 {
 }
 
 /// Decides a whole formula, with steps numbered from behind its positions.
-fn put_whole(alloc: Global, f: &Formula, left: u32, out: &mut String) -> Result<(), Fail> {
+fn put_whole(alloc: Global, f: &Formula, budget: u32, out: &mut String) -> Result<(), Fail> {
     let part = positions(alloc, f)?;
     let blocked = set_of(alloc, f.vars(), &[])?;
     let asked = Asked {
@@ -60,15 +61,21 @@ fn put_whole(alloc: Global, f: &Formula, left: u32, out: &mut String) -> Result<
         part: part.as_slice(),
         blocked: &blocked,
     };
-    put_answer(alloc, &asked, u64::from(f.len()) + 1, u64::from(left), out)?;
+    put_answer(
+        alloc,
+        &asked,
+        u64::from(f.len()) + 1,
+        u64::from(budget),
+        out,
+    )?;
     Ok(())
 }
 
-/// Decides a part of a formula: `PART | BLOCKED | NEXT | LEFT`.
+/// Decides a part of a formula: `PART | BLOCKED | NEXT | BUDGET`.
 fn put_part(alloc: Global, f: &Formula, text: &str, out: &mut String) -> Result<(), Fail> {
     let (part, text) = part_of(text);
     let (blocked, text) = part_of(text);
-    let (next, left) = part_of(text);
+    let (next, budget) = part_of(text);
     let part = numbers_of_text(alloc, part)?;
     let blocked = numbers_of_text(alloc, blocked)?;
     let blocked = set_of(alloc, f.vars(), blocked.as_slice())?;
@@ -78,7 +85,7 @@ fn put_part(alloc: Global, f: &Formula, text: &str, out: &mut String) -> Result<
         blocked: &blocked,
     };
     let next = u64::from(number_of(next));
-    put_answer(alloc, &asked, next, u64::from(number_of(left)), out)?;
+    put_answer(alloc, &asked, next, u64::from(number_of(budget)), out)?;
     Ok(())
 }
 
@@ -98,18 +105,18 @@ fn put_budgets(alloc: Global, text: &str, out: &mut String) -> Result<(), Fail> 
     let (vars, clauses) = part_of(text);
     writeln!(out, "== {}", name.trim())?;
     let f = formula_of_text(alloc, number_of(vars), clauses)?;
-    for left in 1..10 {
-        put_whole(alloc, &f, left, out)?;
+    for budget in 1..10 {
+        put_whole(alloc, &f, budget, out)?;
     }
     Ok(())
 }
 
-/// Decides a formula of pigeons: `HOLES | LEFT`.
+/// Decides a formula of pigeons: `HOLES | BUDGET`.
 fn put_pigeons(alloc: Global, text: &str, out: &mut String) -> Result<(), Fail> {
-    let (holes, left) = part_of(text);
+    let (holes, budget) = part_of(text);
     writeln!(out, "== one pigeon more than {} holes", holes.trim())?;
     let f = pigeons(alloc, number_of(holes))?;
-    put_whole(alloc, &f, number_of(left), out)
+    put_whole(alloc, &f, number_of(budget), out)
 }
 
 /// Decides a chain of implications.
@@ -130,16 +137,24 @@ fn way_of(text: &str) -> Way {
     let (word, text) = text.split_once(" ").unwrap_or((text, ""));
     match word {
         "numbers" => Way::One {
-            connected: false,
+            by: By::Number,
             last: text == "last",
         },
         "connection" => Way::One {
-            connected: true,
+            by: By::Connection,
+            last: text == "last",
+        },
+        "occurrences" => Way::One {
+            by: By::Occurrences,
             last: text == "last",
         },
         "turns" => {
             let (first, further) = lengths_of(text);
             Way::Turns { first, further }
+        }
+        "all" => {
+            let (first, further) = lengths_of(text);
+            Way::All { first, further }
         }
         "twice" => {
             let (first, further) = lengths_of(text);
@@ -184,11 +199,10 @@ fn put_order(alloc: Global, text: &str, out: &mut String) -> Result<(), Fail> {
     put_orders(alloc, &asked, out)
 }
 
-/// Decides pigeons by turns with each budget: `HOLES | FIRST | FURTHER | MOST`.
+/// Decides pigeons by turns with each budget: `HOLES | WAY | MOST`.
 fn put_turns(alloc: Global, text: &str, out: &mut String) -> Result<(), Fail> {
     let (holes, text) = part_of(text);
-    let (first, text) = part_of(text);
-    let (further, most) = part_of(text);
+    let (way, most) = part_of(text);
     let f = pigeons(alloc, number_of(holes))?;
     let part = positions(alloc, &f)?;
     let blocked = set_of(alloc, f.vars(), &[])?;
@@ -197,31 +211,30 @@ fn put_turns(alloc: Global, text: &str, out: &mut String) -> Result<(), Fail> {
         part: part.as_slice(),
         blocked: &blocked,
     };
-    let turn = u64::from(number_of(first));
-    let further = u64::from(number_of(further));
     let most = number_of(most);
-    let right = right_budgets(alloc, &asked, turn, further, most)?;
-    writeln!(
-        out,
-        "== pigeons by turns of {turn} and {further} more: {right} of {most} budgets right"
-    )?;
+    let right = match way_of(way.trim()) {
+        all @ Way::All { .. } => right_budgets(alloc, &asked, &ALL, all, most)?,
+        other => right_budgets(alloc, &asked, &USUAL, other, most)?,
+    };
+    let way = way.trim();
+    writeln!(out, "== pigeons by {way}: {right} of {most} budgets right")?;
     Ok(())
 }
 
-/// Decides formulas by turns that keep values: `NAME | VARS | FIRST | FURTHER | LEFT | CLAUSES | CLAUSES ..`.
+/// Decides formulas by turns that keep values: `NAME | VARS | FIRST | FURTHER | BUDGET | CLAUSES | CLAUSES ..`.
 fn put_kept(alloc: Global, text: &str, out: &mut String) -> Result<(), Fail> {
     let (name, text) = part_of(text);
     let (vars, text) = part_of(text);
     let (first, text) = part_of(text);
     let (further, text) = part_of(text);
-    let (left, formulas) = part_of(text);
+    let (budget, formulas) = part_of(text);
     writeln!(out, "== {}", name.trim())?;
     let n = number_of(vars);
     let first = u64::from(number_of(first));
     let further = u64::from(number_of(further));
     let mut turns = Turns::keeping(alloc, n, first, further)?;
-    let left = u64::from(number_of(left));
-    put_formulas(alloc, n, &mut turns, left, formulas, out)
+    let budget = u64::from(number_of(budget));
+    put_formulas(alloc, n, &mut turns, budget, formulas, out)
 }
 
 /// Prints what a line asks for.

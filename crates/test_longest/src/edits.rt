@@ -1,4 +1,5 @@
-//! The reader of edits: comments behind a first line, and a byte more; and one clause after the other until there is no room.
+//! The reader of edits: comments behind a first line, and a byte more; and one clause after the other until there is no
+//! room.
 use crate::comments::MOST;
 use edit_text::{EditsReader, EditsRefused};
 use lk_model::Formula;

@@ -23,13 +23,13 @@ fn order_count(clauses: u32) -> u32 {
 /// clauses are left, choose one of these after the other.
 fn ordered(alloc: Global, f: &Formula, order: u32) -> Result<Formula, Fail> {
     let mut formula = f.empty(alloc);
-    let mut left = positions(alloc, f)?;
+    let mut unused = positions(alloc, f)?;
     let mut rest = order;
     for count in (1..f.len() + 1).rev() {
         let place = (rest % count) as usize;
         rest /= count;
-        if place < left.len() {
-            push(&mut formula, clause_at(f, left.remove(place)))?;
+        if place < unused.len() {
+            push(&mut formula, clause_at(f, unused.remove(place)))?;
         }
     }
     Ok(formula)

@@ -18,8 +18,8 @@
 //! - `endless N TEXT|MORE` feeds the text, and then more of it again and again, 1,000 times at most, up to the first
 //!   piece that is refused. The answer is that to a model, and how many pieces of more were taken.
 //!
-//! Each text of a document is also read in pieces of 1, 2, 3, 7 and 65,536 bytes. If the answer is another one then, it is
-//! `otherwise in pieces of` so many bytes.
+//! Each text of a document is also read in pieces of 1, 2, 3, 7 and 65,536 bytes. If the answer is another one then, it
+//! is `otherwise in pieces of` so many bytes.
 #![tactic(auto)]
 
 mod many;

@@ -59,22 +59,22 @@ fn print_answer<R: Files + AllocGlobal + Print>(
     file: &str,
 ) -> Result<(), Fail> {
     let text = fs::read(rt, file)?;
-    let left = budget.parse().unwrap_or(0);
-    match answer_in(rt.alloc(), way, text.as_slice(), left) {
+    let budget = budget.parse().unwrap_or(0);
+    match answer_in(rt.alloc(), way, text.as_slice(), budget) {
         Some(answer) => Ok(println!(rt; "{} {} {}", answer.word, answer.steps, answer.literals)?),
         None => Err(Fail::from("no answer")),
     }
 }
 
 /// The answer for the formula that a text spells.
-fn answer_in(alloc: Global, way: Way, text: &[u8], left: u32) -> Option<Answer> {
+fn answer_in(alloc: Global, way: Way, text: &[u8], budget: u32) -> Option<Answer> {
     let f = formula_of(alloc, text)?;
     let part = f.positions(alloc).ok()?;
     let blocked = VarSet::new(alloc, f.vars()).ok()?;
-    if left == 0 {
+    if budget == 0 {
         return None;
     }
-    let decided = decide_over(alloc, way, &f, part.as_slice(), &blocked, u64::from(left)).ok()?;
+    let decided = decide_over(alloc, way, &f, part.as_slice(), &blocked, u64::from(budget)).ok()?;
     Some(answer_of(&decided))
 }
 
@@ -92,12 +92,12 @@ fn decide_over(
     f: &Formula,
     part: &[u32],
     blocked: &VarSet,
-    left: u64,
+    budget: u64,
 ) -> Result<Decided, OutOfMemory>
     requires part { IsTrue (are_positions f.now part.now) }
     requires blocked { length blocked.now ≡ f.now.vars }
-    requires some { 0 < left }
-    requires few { left < 2 ^ 32 }
+    requires some { 0 < budget }
+    requires few { budget < 2 ^ 32 }
 {
     let over = Crossed {
         formula: f,
@@ -106,17 +106,17 @@ fn decide_over(
     };
     let next = u64::from(f.len()) + 1;
     match way {
-        Way::Number => decide(alloc, &over, next, left),
+        Way::Number => decide(alloc, &over, next, budget),
         Way::Connection => {
             let order = by_connection(alloc, &over)?;
             let mut signs = Signs::last(alloc, f.vars())?;
-            decide_by(alloc, &over, order, &mut signs, next, left)
+            decide_by(alloc, &over, order, &mut signs, next, budget)
         }
         Way::Turns(first, further) => {
             let mut turns = Turns::new();
             turns.first = first;
             turns.further = further;
-            decide_by_turns(alloc, &over, &mut turns, next, left)
+            decide_by_turns(alloc, &over, &mut turns, next, budget)
         }
     }
 }

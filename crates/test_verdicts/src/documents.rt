@@ -30,9 +30,12 @@ pub(crate) fn matching_document(
 /// Whether the lines are in form for a formula.
 fn are_in_form(alloc: Global, f: &Formula, lines: &MatchingLines) -> Result<bool, AllocError>
     ensures kept { IfOk result (λ test. IsTrue test → IsTrue (are_positions f.now lines.now.kept.items)) }
-    ensures set { IfOk result (λ test. IsTrue test → IsTrue (rises_within 0 f.now.vars (map variable lines.now.set.items))) }
-    ensures own { IfOk result (λ test. IsTrue test → IsTrue (are_own f.now.vars (length f.now.clauses) lines.now.own.items)) }
-    ensures rows { IfOk result (λ test. IsTrue test → IsTrue (are_rows f.now.vars (length f.now.clauses) lines.now.rows.items)) }
+    ensures set { IfOk result (λ test. IsTrue test →
+        IsTrue (rises_within 0 f.now.vars (map variable lines.now.set.items))) }
+    ensures own { IfOk result (λ test. IsTrue test →
+        IsTrue (are_own f.now.vars (length f.now.clauses) lines.now.own.items)) }
+    ensures rows { IfOk result (λ test. IsTrue test →
+        IsTrue (are_rows f.now.vars (length f.now.clauses) lines.now.rows.items)) }
 {
     let n = f.vars();
     let m = f.len();

@@ -1,5 +1,5 @@
 //! Propagators over given clauses, and what may be asked of them.
-ghost use Rattle.std.specs.Prelude.{◌≡◌, ◌<◌, ◌≤◌, ℕ, length, not, IfOk, IsTrue};
+ghost use Rattle.std.specs.Prelude.{◌≡◌, ◌<◌, ℕ, length, not, IfOk, IsTrue};
 ghost use Rattle.std.specs.List.{list_any};
 ghost use Rattle.lk_model.specs.Formulas.Literal.{complement, contains};
 ghost use Rattle.lk_model.specs.Formulas.Lean.{are_positions};
@@ -40,7 +40,8 @@ fn start(
     requires part { IsTrue (are_positions f.now part.now) }
     requires blocked { length blocked.now ≡ f.now.vars }
     ensures vars { IfOk result (λ p. p.vars ≡ f.now.vars) }
-    ensures free { IfOk result (λ p. (n : ℕ) → length f.now.clauses < n → IsTrue (not (among (numbers_of p.clauses) n))) }
+    ensures free { IfOk result (λ p. (n : ℕ) → length f.now.clauses < n →
+        IsTrue (not (among (numbers_of p.clauses) n))) }
 {
     let over = Crossed {
         formula: f,
@@ -53,7 +54,8 @@ fn start(
 /// The propagator of a whole formula.
 pub(crate) fn start_whole(alloc: Global, f: &Formula) -> Result<Propagator, Fail>
     ensures vars { IfOk result (λ p. p.vars ≡ f.now.vars) }
-    ensures free { IfOk result (λ p. (n : ℕ) → length f.now.clauses < n → IsTrue (not (among (numbers_of p.clauses) n))) }
+    ensures free { IfOk result (λ p. (n : ℕ) → length f.now.clauses < n →
+        IsTrue (not (among (numbers_of p.clauses) n))) }
 {
     let none = set_of(alloc, f.vars(), &[])?;
     let part = positions(alloc, f)?;
@@ -76,7 +78,8 @@ pub(crate) fn start_part(
     blocked: &str,
 ) -> Result<Propagator, Fail>
     ensures vars { IfOk result (λ p. p.vars ≡ f.now.vars) }
-    ensures free { IfOk result (λ p. (n : ℕ) → length f.now.clauses < n → IsTrue (not (among (numbers_of p.clauses) n))) }
+    ensures free { IfOk result (λ p. (n : ℕ) → length f.now.clauses < n →
+        IsTrue (not (among (numbers_of p.clauses) n))) }
 {
     let set = set_of_text(alloc, f.vars(), blocked)?;
     let part = numbers_of_text(alloc, part)?;

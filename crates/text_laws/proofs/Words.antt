@@ -1,14 +1,14 @@
 -- Words without a blank, and the words of a line that is made of them.
-use Rattle.std.proofs.Common.{◌≡◌, ℕ, ◌-◌, ◌∙◌, Bool, true, false, not, ◌&&◌, List, [], ◌∷◌, length, filter, All, refl, ap, arith, nat_lt}
+use Rattle.std.proofs.Common.{◌≡◌, ℕ, ◌∙◌, Bool, true, false, not, ◌&&◌, List, [], ◌∷◌, filter, All, refl, ap, arith, nat_lt}
 use Rattle.std.specs.List.{slice_split, list_all, join_with_byte}
 use Rattle.std.proofs.lemmas.Bool.{and_from, ltb-true, ne_eqb}
 use Rattle.std.proofs.lemmas.List.Folds.{list_all-append}
 use Rattle.std.proofs.lemmas.List.Splits.{slice_split_at, slice_split_none}
 use Rattle.lk_model.specs.Lists.{is_empty}
-use Rattle.lk_model.specs.Texts.Lines.{Piece, Word, is_newline, is_blank, placed_after, words_of, texts}
+use Rattle.lk_model.specs.Texts.Lines.{Piece, Word, is_newline, is_blank, words_of, texts}
 use Rattle.lk_model.proofs.Booleans.{and_true}
 use Rattle.lk_model.proofs.ListTests.{none_pass, all_weaker}
-use Rattle.lk_model.proofs.Pieces.{texts_placed, texts_filter}
+use Rattle.lk_model.proofs.Pieces.{words_by}
 
 -- no byte is a blank or a byte 10
 abbrev pub is_solid : List ℕ → Bool
@@ -38,15 +38,6 @@ no_blank word h =
     let solid = (and_true (not (is_empty word)) (is_solid word) h).1 in
     none_pass is_blank word (all_weaker (nat_lt 32) (λ b. not (is_blank b)) (λ b e. ap not (not_blank b e)) word solid)
 
--- PIECES BY THEIR BYTES
-
--- words without their places
-words_texts : (line : Piece) → texts (words_of line) ≡ filter (λ word. not (is_empty word)) (slice_split is_blank line.bytes)
-words_texts line =
-    let parts = slice_split is_blank line.bytes in
-    texts_filter (λ word. not (is_empty word)) (placed_after (line.last - length line.bytes) parts)
-    ∙ ap (filter (λ word. not (is_empty word))) (texts_placed (line.last - length line.bytes) parts)
-
 -- THE WORDS OF A LINE
 
 split_words : (word : Word) (words : List Word) → are_words (word ∷ words) ≡ true → slice_split is_blank (join_with_byte 32 (word ∷ words)) ≡ word ∷ words
@@ -65,7 +56,7 @@ all_some (word ∷ words) h =
 pub line_words : (word : Word) (words : List Word) (last : ℕ) → are_words (word ∷ words) ≡ true
     → texts (words_of (piece (join_with_byte 32 (word ∷ words)) last)) ≡ word ∷ words
 line_words word words last h =
-    words_texts (piece (join_with_byte 32 (word ∷ words)) last) ∙ ap (filter (λ w. not (is_empty w))) (split_words word words h) ∙ all_some (word ∷ words) h
+    words_by (piece (join_with_byte 32 (word ∷ words)) last) ∙ ap (filter (λ w. not (is_empty w))) (split_words word words h) ∙ all_some (word ∷ words) h
 
 -- and no byte 10
 abbrev is_one_line : List ℕ → Bool

@@ -1,20 +1,20 @@
 -- What is kept at the beginning, and where a variable is blocked.
-use Rattle.std.proofs.Common.{◌≡◌, ◌∙◌, ◌∷◌, ℕ, zero, suc, ◌+◌, ◌*◌, ◌<◌, ◌≤◌, ◌==◌, ◌||◌, Bool, true, false, List, [], ℤ, pos, negsuc, Option, Some, None, length, take, get_or, filter, replicate, refl, sym, ap, subst, arith, inl, inr}
+use Rattle.std.proofs.Common.{◌≡◌, ◌∙◌, ◌∷◌, ℕ, zero, suc, ◌+◌, ◌*◌, ◌<◌, ◌≤◌, ◌==◌, ◌||◌, Bool, true, false, List, [], ℤ, pos, negsuc, Option, None, length, take, get_or, replicate, refl, sym, ap, subst, arith}
 use Rattle.std.specs.Prelude.{slice_set, slice_index_or}
 use Rattle.std.specs.List.{list_all}
-use Rattle.std.proofs.lemmas.Bool.{cases_Bool, le-leb, leb-true, and_from, eqb-true}
+use Rattle.std.proofs.lemmas.Bool.{le-leb, leb-true, and_from, eqb-true}
 use Rattle.std.proofs.lemmas.List.{length-replicate, length-set}
 use Rattle.std.proofs.lemmas.List.Folds.{list_any_more}
-use Rattle.lk_model.specs.Lists.{among, is_between, rises_within}
+use Rattle.lk_model.specs.Lists.{is_between, rises_within}
 use Rattle.lk_model.specs.Formulas.Literal.{variable, mentions, contains, is_literal, rank_of}
-use Rattle.lk_model.specs.Formulas.Formula.{Cnf, clause_at, positions_of}
+use Rattle.lk_model.specs.Formulas.Formula.{Cnf, clause_at}
 use Rattle.lk_model.specs.Held.VariableSets.{is_in, with_variable}
 use Rattle.lk_model.proofs.Booleans.{and_true, or_right}
 use Rattle.lk_model.proofs.Founds.{filtered_rise}
 use Rattle.lk_model.proofs.VariableLists.{is_in_with}
 use Rattle.occurrence_lists.specs.Occurrences.{AreOccurrences}
-use Rattle.unit_refutations.specs.Trails.{Came, place_of, IsReasoned}
-use Rattle.unit_refutations.specs.Standing.{AreKept, AreRanges}
+use Rattle.unit_refutations.specs.Trails.{Came, place_of}
+use Rattle.unit_refutations.specs.Standing.{AreKept}
 use Rattle.unit_refutations.proofs.Keeping.{never, blocked_reasoned}
 
 of_rank : (n : ℕ) (l : ℤ) → 0 < variable l → rank_of l < 2 * n + 2 → is_literal n l ≡ true

@@ -1,5 +1,5 @@
 -- What is kept of a trail where a literal becomes true, and where a variable is blocked.
-use Rattle.std.proofs.Common.{◌≡◌, ◌∙◌, ◌≢◌, ℕ, zero, suc, ◌+◌, ◌*◌, ◌<◌, ◌≤◌, ◌==◌, ◌||◌, ◌&&◌, ◌++◌, ◌∷◌, [], Bool, true, false, not, List, ℤ, pos, negsuc, Option, Some, None, is_some, length, get_or, get_or-set_same, get_or-set_other, sum_by, refl, sym, ap, subst, arith, inl, inr}
+use Rattle.std.proofs.Common.{◌≡◌, ◌∙◌, ◌≢◌, ℕ, zero, suc, ◌+◌, ◌*◌, ◌<◌, ◌≤◌, ◌==◌, ◌||◌, ◌++◌, ◌∷◌, [], Bool, true, false, not, List, ℤ, pos, negsuc, Option, Some, None, is_some, length, get_or, get_or-set_same, get_or-set_other, sum_by, refl, sym, ap, subst, arith, inl, inr}
 use Rattle.std.specs.Prelude.{slice_set, slice_index, slice_index_or}
 use Rattle.std.specs.List.{list_all}
 use Rattle.std.specs.Ordering.{int_eq}
@@ -12,7 +12,7 @@ use Rattle.lk_model.specs.Formulas.Literal.{variable, complement, contains, is_l
 use Rattle.lk_model.specs.Formulas.Formula.{Cnf, clause_at}
 use Rattle.lk_model.specs.Formulas.Crossed.{crossed_out}
 use Rattle.lk_model.specs.Held.VariableSets.{is_in, with_variable}
-use Rattle.lk_model.proofs.Booleans.{and_true, or_true, or_left}
+use Rattle.lk_model.proofs.Booleans.{and_true, or_true}
 use Rattle.lk_model.proofs.Crossings.{contains_crossed}
 use Rattle.lk_model.proofs.ListTests.{passes_each}
 use Rattle.lk_model.proofs.Literals.{complement_twice, variable_complement}

@@ -1,8 +1,7 @@
 -- A clause contains no crossed clause where none that shares a literal with it is contained.
-use Rattle.std.proofs.Common.{◌≡◌, ◌∙◌, ℕ, ◌+◌, ◌==◌, ◌||◌, ◌&&◌, Bool, true, false, cond, not, List, [], ◌∷◌, ℤ, length, filter, refl, sym, ap, subst, arith, inl, inr}
+use Rattle.std.proofs.Common.{◌≡◌, ◌∙◌, ℕ, ◌&&◌, Bool, true, cond, not, List, [], ◌∷◌, ℤ, length, filter, refl, sym, ap, subst, arith, inl, inr}
 use Rattle.std.specs.Prelude.{slice_index_or}
 use Rattle.std.specs.List.{list_all}
-use Rattle.std.specs.Ordering.{int_eq}
 use Rattle.std.proofs.lemmas.Bool.{cases_Bool, both_ways, false_from_ne_true, not-true, le-leb}
 use Rattle.lk_model.specs.Lists.{among, is_empty, is_between, rises_within}
 use Rattle.lk_model.specs.Formulas.Literal.{variable, contains, is_literal, is_within, rank_of}
@@ -10,11 +9,11 @@ use Rattle.lk_model.specs.Formulas.Formula.{Cnf, clause_at, positions_of}
 use Rattle.lk_model.specs.Formulas.Crossed.{Variables, crossed_out}
 use Rattle.lk_model.specs.Held.VariableSets.{IsCrossed, is_in}
 use Rattle.lk_model.specs.declared.crossed.Crossed.{Crossed}
-use Rattle.lk_model.proofs.Booleans.{and_true, or_left}
+use Rattle.lk_model.proofs.Booleans.{and_true}
 use Rattle.lk_model.proofs.Counting.{in_filter, among-range}
 use Rattle.lk_model.proofs.Crossings.{contains_crossed}
 use Rattle.lk_model.proofs.ListTests.{passes_each, passing, one_number as each_number}
-use Rattle.lk_model.proofs.Literals.{int_self}
+use Rattle.lk_model.proofs.Literals.{some_literal}
 use Rattle.lk_model.proofs.Founds.{filtered_rise}
 use Rattle.lk_model.proofs.Rising.{rises, bounded}
 use Rattle.occurrence_lists.specs.Occurrences.{AreOccurrences}
@@ -34,11 +33,6 @@ crossed_within vars (l ∷ c) d h = elim (cases_Bool (vars (variable l))) [
       let both = and_true (contains d l) (is_within (crossed_out vars c) d) left in
       rw (n, both.0) (crossed_within vars c d both.1))
 ]
-
--- a list that is not empty holds a literal
-one_of : (c : List ℤ) → is_empty c ≡ false → (l : ℤ) × (contains c l ≡ true)
-one_of [] e = absurd (let f : ⊥ = cc in f)
-one_of (l ∷ c) e = (l, or_left (int_eq l l) (contains c l) (int_self l))
 
 -- the positions at which a literal stands are positions
 between : (low high : ℕ) (ps : List ℕ) → rises_within low high ps ≡ true → list_all (is_between 1 high) ps ≡ true
@@ -62,7 +56,7 @@ pub none_contained : (over : Crossed) (lists : List (List ℕ)) (c : List ℤ) �
 none_contained over lists c crossed occur literals none = ap not (false_from_ne_true _ (λ e.
     let w = passing contained over.part.now e in
     let both = and_true (not (is_empty (clause_over over w.0))) (is_within (clause_over over w.0) c) w.2 in
-    let l = one_of (clause_over over w.0) (not-true (is_empty (clause_over over w.0)) both.0) in
+    let l = some_literal (clause_over over w.0) (not-true (is_empty (clause_over over w.0)) both.0) in
     let in_c = passes_each (contains c) (clause_over over w.0) l.0 both.1 l.1 in
     let in_clause = (and_true (not (vars (variable l.0))) (contains (clause_at F w.0) l.0) (sym (contains_crossed vars (clause_at F w.0) l.0) ∙ l.1)).1 in
     let lit = passes_each (is_literal F.vars) c l.0 literals in_c in

@@ -1,5 +1,5 @@
 -- What waits is inside.
-use Rattle.std.proofs.Common.{◌≡◌, ◌∙◌, ◌||◌, ◌==◌, ℕ, ◌<◌, ◌≤◌, Bool, true, List, length}
+use Rattle.std.proofs.Common.{◌≡◌, ◌∙◌, ◌==◌, ℕ, ◌<◌, ◌≤◌, Bool, true, List, length}
 use Rattle.std.specs.List.{list_all}
 use Rattle.lk_model.specs.Held.VariableSets.{is_in, with_variable}
 use Rattle.lk_model.proofs.Booleans.{or_left}

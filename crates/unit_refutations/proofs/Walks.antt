@@ -1,5 +1,5 @@
 -- The way back along the trail, and how it ends.
-use Rattle.std.proofs.Common.{◌≡◌, ◌∙◌, ◌≢◌, ◌⊎◌, ℕ, ◌+◌, ◌-◌, ◌<◌, ◌≤◌, ◌==◌, ◌||◌, ◌&&◌, ◌++◌, ◌∷◌, [], true, false, not, List, ℤ, pos, Option, Some, None, option_and_then, length, get_or, map, refl, sym, ap, subst, arith, inl, inr}
+use Rattle.std.proofs.Common.{◌≡◌, ◌∙◌, ◌≢◌, ℕ, ◌+◌, ◌-◌, ◌<◌, ◌≤◌, ◌==◌, ◌&&◌, ◌++◌, ◌∷◌, [], true, false, not, List, ℤ, pos, Option, Some, None, option_and_then, length, get_or, map, refl, sym, ap, subst, arith, inl, inr}
 use Rattle.std.specs.Prelude.{slice_index}
 use Rattle.std.specs.List.{list_all}
 use Rattle.std.specs.Option.{option_map_or}
@@ -14,13 +14,14 @@ use Rattle.lk_model.specs.Formulas.Literal.{complement, contains, is_literal, is
 use Rattle.lk_model.specs.Formulas.Formula.{clause_at}
 use Rattle.lk_model.specs.Formulas.Crossed.{crossed_out}
 use Rattle.lk_model.specs.Held.VariableSets.{is_in, IsCrossed, premises_of}
-use Rattle.lk_model.specs.Chains.Chain.{Premises, clause_named, without, resolvent, after_turns, chain_clause}
+use Rattle.lk_model.specs.Chains.Chain.{clause_named, without, after_turns, chain_clause}
 use Rattle.lk_model.specs.declared.crossed.Crossed.{Crossed}
 use Rattle.lk_model.specs.declared.document.Turn.{Turn}
 use Rattle.lk_model.proofs.Booleans.{and_true, or_true, or_left, or_right}
 use Rattle.lk_model.proofs.Crossings.{clause_crossed}
 use Rattle.lk_model.proofs.ListTests.{passes_one, passes_each, all_more}
 use Rattle.lk_model.proofs.Literals.{complement_twice, variable_complement, filled as filled_with}
+use Rattle.lk_model.proofs.LongerChains.{chain_more}
 use Rattle.lk_model.proofs.Rising.{bounded}
 use Rattle.lk_model.proofs.Variables.{literal_passing}
 use Rattle.unit_refutations.specs.declared.chain.Chain.{Chain}
@@ -61,40 +62,6 @@ pub record IsOnTheWay (over : Crossed) (t : Came) (first : ℕ) (turns : List Tu
   pub owed : AreOwed over.formula.now.vars t places clause
 
 -- CHAINS
-
--- one turn more
-after_more : (from : Premises) (c : List ℤ) (turns : List Turn) (u : Turn) (d e : List ℤ) → after_turns from c turns ≡ Some d → clause_named from u.with ≡ Some e
-    → contains d u.lit ≡ true → contains e (complement u.lit) ≡ true
-    → after_turns from c (turns ++ u ∷ []) ≡ Some (without d u.lit ++ without e (complement u.lit))
-after_more from c [] u d e is named h k =
-    let same : d ≡ c = cc in
-    subst (λ (x : List ℤ). after_turns from x (u ∷ []) ≡ Some (without d u.lit ++ without e (complement u.lit))) same (rw (named, h, k) refl)
-after_more from c (v ∷ turns) u d e is named h k = at (clause_named from v.with) is (λ r f. after_more from r turns u d e f named h k)
-  where
-    wanted : Option (List ℤ)
-    wanted = Some (without d u.lit ++ without e (complement u.lit))
-
-    by : (o : Option (List ℤ)) → option_and_then (λ r. after_turns from r turns) o ≡ Some d
-        → ((r : List ℤ) → after_turns from r turns ≡ Some d → after_turns from r (turns ++ u ∷ []) ≡ Some (without d u.lit ++ without e (complement u.lit)))
-        → option_and_then (λ r. after_turns from r (turns ++ u ∷ [])) o ≡ Some (without d u.lit ++ without e (complement u.lit))
-    by None f rest = absurd (let z : ⊥ = cc in z)
-    by (Some r) f rest = rest r f
-
-    at : (o : Option (List ℤ)) → option_and_then (λ x. option_and_then (λ r. after_turns from r turns) (resolvent v.lit c x)) o ≡ Some d
-        → ((r : List ℤ) → after_turns from r turns ≡ Some d → after_turns from r (turns ++ u ∷ []) ≡ Some (without d u.lit ++ without e (complement u.lit)))
-        → option_and_then (λ x. option_and_then (λ r. after_turns from r (turns ++ u ∷ [])) (resolvent v.lit c x)) o ≡ Some (without d u.lit ++ without e (complement u.lit))
-    at None f rest = absurd (let z : ⊥ = cc in z)
-    at (Some x) f rest = by (resolvent v.lit c x) f rest
-
-chain_more : (from : Premises) (first : ℕ) (turns : List Turn) (u : Turn) (d e : List ℤ) → chain_clause from first turns ≡ Some d → clause_named from u.with ≡ Some e
-    → contains d u.lit ≡ true → contains e (complement u.lit) ≡ true
-    → chain_clause from first (turns ++ u ∷ []) ≡ Some (without d u.lit ++ without e (complement u.lit))
-chain_more from first turns u d e is named h k = at (clause_named from first) is
-  where
-    at : (o : Option (List ℤ)) → option_and_then (λ c. after_turns from c turns) o ≡ Some d
-        → option_and_then (λ c. after_turns from c (turns ++ u ∷ [])) o ≡ Some (without d u.lit ++ without e (complement u.lit))
-    at None f = absurd (let z : ⊥ = cc in z)
-    at (Some c) f = after_more from c turns u d e f named h k
 
 -- a position of the part stands for its crossed clause
 named_here : (over : Crossed) (k : ℕ) → IsCrossed over → among over.part.now k ≡ true → clause_named (premises_of over []) k ≡ Some (clause_over over k)

@@ -1,6 +1,6 @@
 -- What came to be true, and what is true of it.
 use Rattle.std.specs.Prelude.{◌≡◌, ◌≢◌, ℕ, ◌+◌, ◌*◌, ◌<◌, Bool, List, length, ℤ, Option, Some, None, is_some, sum_by, slice_index, slice_index_or, IsTrue}
-use Rattle.lk_model.specs.Formulas.Literal.{variable, complement, contains, is_literal, rank_of}
+use Rattle.lk_model.specs.Formulas.Literal.{complement, contains, is_literal, rank_of}
 use Rattle.lk_model.specs.Formulas.Formula.{Cnf, clause_at}
 use Rattle.lk_model.specs.Formulas.Crossed.{crossed_out}
 use Rattle.lk_model.specs.Held.VariableSets.{is_in}

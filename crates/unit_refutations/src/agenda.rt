@@ -1,10 +1,11 @@
 //! Which clauses wait to be looked at.
 //!
-//! A clause asks for nothing while it has a true literal or two that are unset. So each clause of a part has two counts, and
-//! waits only where these let it ask for something: then it is gone through a few times at most, however long it is. (Dowling
-//! and Gallier, "Linear-time Algorithms for Testing the Satisfiability of Propositional Horn Formulae", 1984.) The counts
-//! are a matter of speed: no contract rests on them.
-ghost use Rattle.std.specs.Prelude.{◌≡◌, ◌+◌, ◌-◌, ◌<◌, ◌≤◌, ◌||◌, ℕ, [], false, length, replicate, slice_set, true, IfOk, IfSome, OnOk, IsTrue};
+//! A clause asks for nothing while it has a true literal or two that are unset. So each clause of a part has two
+//! counts, and waits only where these let it ask for something: then it is gone through a few times at most, however
+//! long it is. (Dowling and Gallier, "Linear-time Algorithms for Testing the Satisfiability of Propositional Horn
+//! Formulae", 1984.) The counts are a matter of speed: no contract rests on them.
+ghost use Rattle.std.specs.Prelude.{◌≡◌, ◌+◌, ◌-◌, ◌<◌, ◌≤◌, ℕ, false, length, true};
+ghost use Rattle.std.specs.Prelude.{IfOk, IfSome, OnOk, IsTrue};
 ghost use Rattle.lk_model.specs.Lists.{among, rises_within};
 ghost use Rattle.lk_model.specs.Formulas.Lean.{are_positions};
 ghost use Rattle.lk_model.specs.Held.VariableSets.{is_in, with_variable};

@@ -1,8 +1,8 @@
 //! Back along the trail from a false clause.
 //!
-//! Its literals are resolved with the clauses that forced their complements, the last one first, until none is left. As in
-//! clause learning (Marques-Silva and Sakallah, "GRASP", 1996), but the trail is not walked along: the places that are still
-//! to be resolved are in a heap, so that a chain costs its own clauses, however long the trail is.
+//! Its literals are resolved with the clauses that forced their complements, the last one first, until none is left. As
+//! in clause learning (Marques-Silva and Sakallah, "GRASP", 1996), but the trail is not walked along: the places that
+//! are still to be resolved are in a heap, so that a chain costs its own clauses, however long the trail is.
 ghost use Rattle.std.specs.Prelude.{IfOk};
 ghost use Rattle.lk_model.specs.Lists.{among};
 ghost use Rattle.lk_model.specs.Held.VariableSets.{IsCrossed};

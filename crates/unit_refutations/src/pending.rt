@@ -1,5 +1,6 @@
 //! The places of true literals on which a chain is still to be resolved.
-ghost use Rattle.std.specs.Prelude.{◌≡◌, ◌+◌, ◌*◌, ◌<◌, ◌≤◌, ◌&&◌, not, ◌==◌, ◌||◌, ℕ, [], length, IfNone, IfSome, OnOk, IsTrue};
+ghost use Rattle.std.specs.Prelude.{◌≡◌, ◌+◌, ◌*◌, ◌<◌, ◌≤◌, ◌&&◌, not, ◌==◌, ◌||◌, ℕ, [], length, IfNone, IfSome};
+ghost use Rattle.std.specs.Prelude.{OnOk, IsTrue};
 ghost use Rattle.lk_model.specs.Lists.{among};
 ghost use Rattle.lk_model.specs.Formulas.Literal.{is_clause};
 ghost use Rattle.lk_model.specs.Formulas.Crossed.{crossed_out};

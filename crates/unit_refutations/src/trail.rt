@@ -1,7 +1,8 @@
 //! What is true, in the order in which it came.
-ghost use Rattle.std.specs.Prelude.{◌≡◌, ◌<◌, ◌≤◌, ◌+◌, ◌*◌, ◌-◌, ◌++◌, ◌∷◌, [], None, Some, ℤ, length, replicate, slice_index, slice_index_or, slice_set, IfOk, OnOk};
+ghost use Rattle.std.specs.Prelude.{◌≡◌, ◌<◌, ◌≤◌, ◌+◌, ◌*◌, ◌-◌, ◌++◌, ◌∷◌, [], None, Some, ℤ, length, replicate};
+ghost use Rattle.std.specs.Prelude.{slice_index, slice_index_or, slice_set, IfOk, OnOk};
 ghost use Rattle.lk_model.specs.Limits.{max_vars};
-ghost use Rattle.lk_model.specs.Formulas.Literal.{rank_of, variable};
+ghost use Rattle.lk_model.specs.Formulas.Literal.{rank_of};
 ghost use Rattle.unit_refutations.specs.Trails.{place_of, is_true_in};
 
 use lk_model::{Lit, LitTable, OutOfMemory};
@@ -81,7 +82,8 @@ impl Trail {
         requires { rank_of l < length self.old.places }
         ensures lits { OnOk result (self.new.lits ≡ self.old.lits ++ l ∷ []) }
         ensures reasons { OnOk result (self.new.reasons ≡ self.old.reasons ++ position ∷ []) }
-        ensures places { OnOk result (self.new.places ≡ slice_set self.old.places (rank_of l) (Some (length self.old.lits))) }
+        ensures places { OnOk result
+            (self.new.places ≡ slice_set self.old.places (rank_of l) (Some (length self.old.lits))) }
     {
         let place = self.lits.len();
         self.lits.push(l)?;

@@ -1,9 +1,11 @@
 //! Refutations by unit propagation.
 //!
-//! A clause whose literals but one are false forces this one (Davis and Putnam, 1960). What is forced is never decided, so
-//! it stays true where further variables are blocked: a clause that forced it holds it still, and its other literals are
-//! false or blocked. So one trail serves all refutations, and each of them costs what it uses and what is forced anew.
-ghost use Rattle.std.specs.Prelude.{◌≡◌, ◌+◌, ◌*◌, ◌<◌, ◌≤◌, ◌||◌, ◌++◌, ◌∷◌, [], ℕ, None, Some, false, length, replicate, slice_set, IfOk, OnOk, IsTrue};
+//! A clause whose literals but one are false forces this one (Davis and Putnam, 1960). What is forced is never decided,
+//! so it stays true where further variables are blocked: a clause that forced it holds it still, and its other literals
+//! are false or blocked. So one trail serves all refutations, and each of them costs what it uses and what is forced
+//! anew.
+ghost use Rattle.std.specs.Prelude.{◌≡◌, ◌+◌, ◌*◌, ◌<◌, ◌≤◌, ◌||◌, ◌++◌, ◌∷◌, [], ℕ, None, Some, false, length};
+ghost use Rattle.std.specs.Prelude.{replicate, slice_set, IfOk, OnOk, IsTrue};
 ghost use Rattle.std.specs.List.{list_all};
 ghost use Rattle.lk_model.specs.Limits.{max_vars};
 ghost use Rattle.lk_model.specs.Formulas.Literal.{complement, is_literal, mentions, rank_of};
@@ -12,7 +14,8 @@ ghost use Rattle.lk_model.specs.Formulas.Lean.{are_positions};
 ghost use Rattle.lk_model.specs.Held.VariableSets.{is_in, IsCrossed};
 ghost use Rattle.unit_refutations.specs.Agendas.{AreSomeOf};
 ghost use Rattle.unit_refutations.specs.Contained.{contains_none};
-ghost use Rattle.unit_refutations.specs.Standing.{AreRanges, IsKept, IsWithin, IsFalseAt, IsFoundAt, IsAnswer, are_between};
+ghost use Rattle.unit_refutations.specs.Standing.{AreRanges, IsKept, IsWithin, IsFalseAt, IsFoundAt, IsAnswer};
+ghost use Rattle.unit_refutations.specs.Standing.{are_between};
 
 use crate::agenda::{Agenda, Change};
 use crate::chain::{Chain, chain_from};
@@ -52,8 +55,8 @@ impl Units {
         })
     }
 
-    /// Propagates without the blocked variables, and answers the refutation by one step, numbered `next`, where a clause
-    /// that is not empty is false. No clause says that there is none where it answers none.
+    /// Propagates without the blocked variables, and answers the refutation by one step, numbered `next`, where a
+    /// clause that is not empty is false. No clause says that there is none where it answers none.
     pub fn refute(
         &mut self,
         alloc: Global,
@@ -76,8 +79,8 @@ impl Units {
         }
     }
 
-    /// Positions of the part, ascending: those at whose clauses propagation leaves two literals unset and makes no other one
-    /// true, and those that force a literal. No clause says which they are.
+    /// Positions of the part, ascending: those at whose clauses propagation leaves two literals unset and makes no
+    /// other one true, and those that force a literal. No clause says which they are.
     pub fn short(&self, alloc: Global, over: &Crossed) -> Result<List<u32>, OutOfMemory>
         requires crossed { IsCrossed over.now }
         requires kept { IsKept over.now.formula.now over.now.blocked.now self.now }
@@ -108,7 +111,8 @@ impl Units {
         requires size { length blocked.old ≡ f.now.vars }
         requires kept { IsKept f.now blocked.old self.old }
         ensures size { length blocked.new ≡ length blocked.old }
-        ensures vars { OnOk result ((v : ℕ) → is_in blocked.new v ≡ (is_in blocked.old v || variable_occurs f.now positions.now v)) }
+        ensures vars { OnOk result ((v : ℕ) →
+            is_in blocked.new v ≡ (is_in blocked.old v || variable_occurs f.now positions.now v)) }
         ensures kept { OnOk result (IsKept f.now blocked.new self.new) }
         ensures inside { self.new.agenda.inside ≡ self.old.agenda.inside }
     {
@@ -130,7 +134,8 @@ impl Units {
         requires size { length blocked.old ≡ f.now.vars }
         requires kept { IsKept f.now blocked.old self.old }
         ensures size { length blocked.new ≡ length blocked.old }
-        ensures vars { OnOk result ((v : ℕ) → is_in blocked.new v ≡ (is_in blocked.old v || mentions (clause_at f.now position) v)) }
+        ensures vars { OnOk result ((v : ℕ) →
+            is_in blocked.new v ≡ (is_in blocked.old v || mentions (clause_at f.now position) v)) }
         ensures kept { OnOk result (IsKept f.now blocked.new self.new) }
         ensures inside { self.new.agenda.inside ≡ self.old.agenda.inside }
     {
@@ -154,7 +159,8 @@ impl Units {
         ensures inside { self.new.agenda.inside ≡ self.old.agenda.inside }
         ensures lits { OnOk result (self.new.trail.lits ≡ self.old.trail.lits) }
         ensures reasons { OnOk result (self.new.trail.reasons ≡ self.old.trail.reasons) }
-        ensures places { OnOk result (self.new.trail.places ≡ slice_set (slice_set self.old.trail.places (2 * v) None) (2 * v + 1) None) }
+        ensures places { OnOk result
+            (self.new.trail.places ≡ slice_set (slice_set self.old.trail.places (2 * v) None) (2 * v + 1) None) }
     {
         self.close(Lit::from_var(v, true))?;
         self.close(Lit::from_var(v, false))?;
@@ -228,7 +234,8 @@ impl Units {
         ensures inside { self.new.agenda.inside ≡ self.old.agenda.inside }
         ensures lits { OnOk result (self.new.trail.lits ≡ self.old.trail.lits ++ l ∷ []) }
         ensures reasons { OnOk result (self.new.trail.reasons ≡ self.old.trail.reasons ++ position ∷ []) }
-        ensures places { OnOk result (self.new.trail.places ≡ slice_set self.old.trail.places (rank_of l) (Some (length self.old.trail.lits))) }
+        ensures places { OnOk result
+            (self.new.trail.places ≡ slice_set self.old.trail.places (rank_of l) (Some (length self.old.trail.lits))) }
     {
         self.trail.put(l, position)?;
         self.agenda
@@ -256,7 +263,8 @@ fn refutation_of(
     first: u32,
     chain: Chain,
 ) -> Result<UnitRefutation, OutOfMemory>
-    ensures steps { IfOk result (λ r. r.round.steps ≡ record { number = next; clause = []; first = first; turns = chain.turns.items } ∷ []) }
+    ensures steps { IfOk result
+        (λ r. r.round.steps ≡ record { number = next; clause = []; first = first; turns = chain.turns.items } ∷ []) }
     ensures used { IfOk result (λ r. r.used ≡ chain.used) }
 {
     let mut steps = List::new(alloc);

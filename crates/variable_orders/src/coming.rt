@@ -1,7 +1,6 @@
 //! Variables that come into an order, one after another.
-ghost use Rattle.std.specs.Prelude.{◌≡◌, ◌<◌, ◌≤◌, ◌==◌, ◌&&◌, not, ℕ, [], length, IfOk, OnOk, IsTrue};
+ghost use Rattle.std.specs.Prelude.{◌≡◌, ◌<◌, ◌≤◌, ◌==◌, ◌&&◌, not, ℕ, IfOk, OnOk, IsTrue};
 ghost use Rattle.lk_model.specs.Held.VariableSets.{is_in, IsCrossed};
-ghost use Rattle.variable_orders.specs.VariableOrders.{occurs_over};
 ghost use Rattle.variable_orders.specs.Arrivals.{IsComing};
 
 use crate::numbers::occurring;

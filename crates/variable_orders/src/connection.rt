@@ -1,10 +1,11 @@
 //! The variables that occur in crossed clauses, by their connection.
 //!
 //! Next comes again and again the variable that shares most with those before, as in a maximum cardinality search
-//! (Tarjan and Yannakakis, "Simple Linear-Time Algorithms to Test Chordality of Graphs", 1984; as an order of decisions:
-//! Amir and McIlraith, "Solving Satisfiability using Decomposition and the Most Constrained Subproblem", 2001). How
-//! much it shares is counted in points (`points`). Where none has any, the least variable comes that is ahead.
-ghost use Rattle.std.specs.Prelude.{◌≡◌, ◌<◌, ◌≤◌, ◌==◌, ◌&&◌, not, ℕ, false, length, IfOk, OnOk, IsTrue};
+//! (Tarjan and Yannakakis, "Simple Linear-Time Algorithms to Test Chordality of Graphs", 1984; as an order of
+//! decisions: Amir and McIlraith, "Solving Satisfiability using Decomposition and the Most Constrained Subproblem",
+//! 2001). How much it shares is counted in points (`points`). Where none has any, the least variable comes that is
+//! ahead.
+ghost use Rattle.std.specs.Prelude.{◌≡◌, ◌<◌, ◌≤◌, ◌==◌, ◌&&◌, not, ℕ, false, IfOk, OnOk, IsTrue};
 ghost use Rattle.lk_model.specs.Held.VariableSets.{is_in, IsCrossed};
 ghost use Rattle.occurrence_lists.specs.Occurrences.{AreOccurrences};
 ghost use Rattle.variable_orders.specs.VariableOrders.{IsOrderOver};
@@ -16,8 +17,8 @@ use lk_model::{Crossed, OutOfMemory};
 use occurrence_lists::OccurrenceLists;
 use std::alloc::Global;
 
-/// The variables that occur in the crossed clauses, each once, in an order in which each shares much with those before it.
-/// No clause says which order it is.
+/// The variables that occur in the crossed clauses, each once, in an order in which each shares much with those before
+/// it. No clause says which order it is.
 pub fn by_connection(alloc: Global, over: &Crossed) -> Result<Vec<u32>, OutOfMemory>
     requires { IsCrossed over.now }
     ensures { IfOk result (λ vars. IsOrderOver over.now vars.items) }

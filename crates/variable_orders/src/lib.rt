@@ -4,7 +4,9 @@
 mod coming;
 mod connection;
 mod numbers;
+mod occurrences;
 mod points;
 
 pub use connection::by_connection;
 pub use numbers::ascending;
+pub use occurrences::by_occurrences;

@@ -3,8 +3,8 @@
 //! A clause gives points to each of its variables that are ahead: one where the first of its variables comes, two where
 //! two are left, four where one is left. A heap has the variables with the points that they had at some time. When a
 //! variable gets more, its earlier entries stay, and are passed over once it has come. A clause makes no more entries
-//! than three times its literals, so that the work grows with the number of literals times its logarithm. No clause says
-//! how many points a variable has.
+//! than three times its literals, so that the work grows with the number of literals times its logarithm. No clause
+//! says how many points a variable has.
 ghost use Rattle.std.specs.Prelude.{◌≡◌, ◌<◌, ◌≤◌, ℕ, length, IfSome, IsTrue};
 ghost use Rattle.std.specs.List.{All};
 ghost use Rattle.lk_model.specs.Formulas.Literal.{is_clause};

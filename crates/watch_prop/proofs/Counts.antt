@@ -13,7 +13,7 @@ use Rattle.lk_model.proofs.Literals.{same_int}
 use Rattle.lk_model.proofs.Lists.{drop_read}
 use Rattle.watch_prop.specs.declared.watcher_lists.Watcher.{Watcher}
 use Rattle.watch_prop.specs.Watchers.{count_of, with_counted}
-use Rattle.watch_prop.specs.KeptWatchers.{HasRoom}
+use Rattle.watch_prop.specs.HeldWatchers.{HasRoom}
 use Rattle.watch_prop.proofs.Roomy.{HaveRooms}
 use Rattle.watch_prop.proofs.Truths.{same_true}
 

@@ -6,7 +6,7 @@ use Rattle.lk_model.proofs.Cuts.{start_le, slice_range-append, cut_push, ends_pu
 use Rattle.watch_prop.specs.declared.clauses.Clauses.TheInside.{Inside}
 use Rattle.watch_prop.specs.declared.entry.NumberedClause.{NumberedClause}
 use Rattle.watch_prop.specs.Linked.{clause_at_place}
-use Rattle.watch_prop.specs.KeptClauses.{numbered, clauses_seen, AreFlat}
+use Rattle.watch_prop.specs.HeldClauses.{numbered, clauses_seen, AreFlat}
 
 -- NUMBERS AND LITERALS
 
@@ -61,24 +61,24 @@ begin_within start (end ∷ ends) stop (suc (suc k)) e le = begin_within end end
 
 -- AS A LIST OF CLAUSES
 
-pub kept_length : (inside : Inside) (clauses : List NumberedClause) → clauses_seen inside ≡ clauses → AreFlat inside → length clauses ≡ length inside.ends.items
-kept_length inside clauses view flat =
+pub held_length : (inside : Inside) (clauses : List NumberedClause) → clauses_seen inside ≡ clauses → AreFlat inside → length clauses ≡ length inside.ends.items
+held_length inside clauses view flat =
     ap (λ (hs : List NumberedClause). length hs) (sym view)
     ∙ length-numbered inside.numbers.items (cut 0 inside.lits.items inside.ends.items) (flat.numbers ∙ sym (length-cut 0 inside.lits.items inside.ends.items)) ∙ flat.numbers
 
-pub kept_at : (inside : Inside) (clauses : List NumberedClause) (k : ℕ) → clauses_seen inside ≡ clauses → AreFlat inside → k < length clauses
+pub held_at : (inside : Inside) (clauses : List NumberedClause) (k : ℕ) → clauses_seen inside ≡ clauses → AreFlat inside → k < length clauses
     → clause_at_place clauses k ≡ record { number = get_or inside.numbers.items k 0; lits = get_or (cut 0 inside.lits.items inside.ends.items) k [] }
-kept_at inside clauses k view flat lt =
+held_at inside clauses k view flat lt =
     ap (λ (hs : List NumberedClause). clause_at_place hs k) (sym view)
     ∙ numbered_at inside.numbers.items (cut 0 inside.lits.items inside.ends.items) k (flat.numbers ∙ sym (length-cut 0 inside.lits.items inside.ends.items))
-    (let long = kept_length inside clauses view flat in omega (arith, lt, long, flat.numbers))
+    (let long = held_length inside clauses view flat in omega (arith, lt, long, flat.numbers))
 
 -- with one clause more
-pub kept_push : (inside inside' : Inside) (clauses : List NumberedClause) (number : ℕ) (c : List ℤ) → clauses_seen inside ≡ clauses → AreFlat inside
+pub held_push : (inside inside' : Inside) (clauses : List NumberedClause) (number : ℕ) (c : List ℤ) → clauses_seen inside ≡ clauses → AreFlat inside
     → inside'.numbers.items ≡ inside.numbers.items ++ number ∷ [] → inside'.lits.items ≡ inside.lits.items ++ c
     → inside'.ends.items ≡ inside.ends.items ++ (length inside.lits.items + length c) ∷ []
     → AreFlat inside' × (clauses_seen inside' ≡ clauses ++ record { number = number; lits = c } ∷ [])
-kept_push inside inside' clauses number c view flat numbers lits ends = (
+held_push inside inside' clauses number c view flat numbers lits ends = (
   record {
     cuts = rw (ends, lits, length-append inside.lits.items c) (ends_push 0 inside.ends.items (length inside.lits.items) (length c) flat.cuts);
     numbers = rw (numbers, ends, length-append inside.numbers.items (number ∷ []), length-append inside.ends.items ((length inside.lits.items + length c) ∷ []), flat.numbers) refl;
@@ -89,14 +89,14 @@ kept_push inside inside' clauses number c view flat numbers lits ends = (
 )
 
 -- the first clauses
-pub kept_take : (inside inside' : Inside) (clauses : List NumberedClause) (k : ℕ) → clauses_seen inside ≡ clauses → AreFlat inside → k ≤ length clauses
+pub held_take : (inside inside' : Inside) (clauses : List NumberedClause) (k : ℕ) → clauses_seen inside ≡ clauses → AreFlat inside → k ≤ length clauses
     → inside'.numbers.items ≡ take k inside.numbers.items → inside'.lits.items ≡ take (begin_of 0 inside.ends.items k) inside.lits.items → inside'.ends.items ≡ take k inside.ends.items
     → AreFlat inside' × (clauses_seen inside' ≡ take k clauses)
-kept_take inside inside' clauses k view flat le numbers lits ends =
+held_take inside inside' clauses k view flat le numbers lits ends =
     let xs = inside.lits.items in
     let es = inside.ends.items in
     let b = begin_of 0 es k in
-    let few : k ≤ length es = let long = kept_length inside clauses view flat in omega (arith, le, long) in
+    let few : k ≤ length es = let long = held_length inside clauses view flat in omega (arith, le, long) in
     let low = begin_within 0 es (length xs) k flat.cuts few in
     let long : length (take b xs) ≡ b = let t = length-take b xs in omega (arith, t, low) in
     let cuts : AreEnds 0 (take k es) (length (take b xs)) = subst (λ (n : ℕ). AreEnds 0 (take k es) n) (sym long) (ends_take 0 es (length xs) k flat.cuts few) in

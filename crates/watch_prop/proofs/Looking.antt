@@ -12,7 +12,7 @@ use Rattle.watch_prop.specs.declared.watch.Found.{Found}
 use Rattle.watch_prop.specs.declared.watch.Found.TheVariants.{One, Two}
 use Rattle.watch_prop.specs.declared.state.State.{State}
 use Rattle.watch_prop.specs.Trail.{Path, true_in}
-use Rattle.watch_prop.specs.Watch.{IsFound}
+use Rattle.watch_prop.specs.Watch.{IsWatchChoice}
 use Rattle.watch_prop.specs.declared.watcher_lists.Watcher.{Watcher}
 use Rattle.watch_prop.specs.Watchers.{with_row}
 use Rattle.watch_prop.specs.Linked.{AreBlocked, clause_at_place}
@@ -35,18 +35,18 @@ next_within clauses path s n = n.state.known.linked.within (next_waiting s) (amo
 pub record Seen (clauses : List NumberedClause) (path : Path) (s : State) (place : ℕ) (d : Found) : Type 0 where
   pub next : IsNext clauses path s
   pub place_is : place ≡ next_waiting s
-  pub found : IsFound path.entries (clause_at_place clauses (next_waiting s)).lits d
+  pub found : IsWatchChoice path.entries (clause_at_place clauses (next_waiting s)).lits d
 
 -- from what is read
 pub seen : (clauses : List NumberedClause) (path : Path) (s : State) (place : ℕ) (c : List ℤ) (d d' : Found) → IsNext clauses path s
-    → place ≡ get_or s.waiting.items s.satisfied place → c ≡ (clause_at_place clauses place).lits → IsFound path.entries c d → d ≡ d' → Seen clauses path s place d'
+    → place ≡ get_or s.waiting.items s.satisfied place → c ≡ (clause_at_place clauses place).lits → IsWatchChoice path.entries c d → d ≡ d' → Seen clauses path s place d'
 seen clauses path s place c d d' next read lits found same =
     let there = get_or_read s.waiting.items s.satisfied place next.more read 0 in
     record {
       next = next;
       place_is = there;
-      found = subst (λ (d : Found). IsFound path.entries (clause_at_place clauses (next_waiting s)).lits d) same
-          (subst (λ (c : List ℤ). IsFound path.entries c d) (lits ∙ ap (λ (n : ℕ). (clause_at_place clauses n).lits) there) found);
+      found = subst (λ (d : Found). IsWatchChoice path.entries (clause_at_place clauses (next_waiting s)).lits d) same
+          (subst (λ (c : List ℤ). IsWatchChoice path.entries c d) (lits ∙ ap (λ (n : ℕ). (clause_at_place clauses n).lits) there) found);
     }
 
 -- its literals are over the variables
@@ -55,7 +55,7 @@ next_literals clauses path s n = literals_of_clause path.vars (clause_at_place c
 
 -- TWO LITERALS THAT ARE NOT FALSE
 
-pub lists : (clauses : List NumberedClause) (path : Path) (s : State) (x : Watch) → IsNext clauses path s → IsFound path.entries (clause_at_place clauses (next_waiting s)).lits (Two x)
+pub lists : (clauses : List NumberedClause) (path : Path) (s : State) (x : Watch) → IsNext clauses path s → IsWatchChoice path.entries (clause_at_place clauses (next_waiting s)).lits (Two x)
     → IsListing path.vars clauses s.watches.items s.lists s.waiting.items (next_waiting s) s.satisfied x
 lists clauses path s x n f = record {
   linked = n.state.known.linked;
@@ -71,7 +71,7 @@ shorter : (s s' : State) (x : Watch) → ListsNext s s' x → s.satisfied < leng
 shorter s s' x m more = ap (λ (ps : List ℕ). length ps + 1) m.waiting ∙ length-swap_remove s.waiting.items s.satisfied (next_waiting s) more
 
 listed_blocked : (clauses : List NumberedClause) (path : Path) (s s' : State) (x : Watch) → IsNext clauses path s
-    → IsFound path.entries (clause_at_place clauses (next_waiting s)).lits (Two x) → ListsNext s s' x → AreBlocked clauses s'.lists.rows
+    → IsWatchChoice path.entries (clause_at_place clauses (next_waiting s)).lits (Two x) → ListsNext s s' x → AreBlocked clauses s'.lists.rows
 listed_blocked clauses path s s' x n f m =
     let first : Watcher = record { place = next_waiting s; blocker = x.second } in
     let second : Watcher = record { place = next_waiting s; blocker = x.first } in
@@ -79,7 +79,7 @@ listed_blocked clauses path s s' x n f m =
     (blocked_with clauses (with_row s.lists.rows x.first first) x.second second (blocked_with clauses s.lists.rows x.first first n.state.known.blocked f.1) f.0)
 
 pub listed_leads : (clauses : List NumberedClause) (path : Path) (s s' : State) (x : Watch) → IsNext clauses path s
-    → IsFound path.entries (clause_at_place clauses (next_waiting s)).lits (Two x) → ListsNext s s' x → Leads clauses path path s s'
+    → IsWatchChoice path.entries (clause_at_place clauses (next_waiting s)).lits (Two x) → ListsNext s s' x → Leads clauses path path s s'
 listed_leads clauses path s s' x n f m =
     let old = n.state.known in
     let less = shorter s s' x m n.more in
@@ -94,11 +94,11 @@ listed_leads clauses path s s' x n f m =
 
 -- JUST ONE
 
-pub only_one : (clauses : List NumberedClause) (path : Path) (s : State) (l : ℤ) → IsNext clauses path s → IsFound path.entries (clause_at_place clauses (next_waiting s)).lits (One l)
+pub only_one : (clauses : List NumberedClause) (path : Path) (s : State) (l : ℤ) → IsNext clauses path s → IsWatchChoice path.entries (clause_at_place clauses (next_waiting s)).lits (One l)
     → Forces clauses path (next_waiting s) l
 only_one clauses path s l n f = record { in_clauses = next_within clauses path s n; has_it = f.0; free = not-true _ f.1; others = f.2 }
 
-pub only_leads : (clauses : List NumberedClause) (path path' : Path) (s : State) (l : ℤ) → IsNext clauses path s → IsFound path.entries (clause_at_place clauses (next_waiting s)).lits (One l)
+pub only_leads : (clauses : List NumberedClause) (path path' : Path) (s : State) (l : ℤ) → IsNext clauses path s → IsWatchChoice path.entries (clause_at_place clauses (next_waiting s)).lits (One l)
     → IsForced clauses path path' s l → Leads clauses path path' s (record s { satisfied = s.satisfied + 1 })
 only_leads clauses path path' s l n f made = record {
   state = one_satisfied clauses path' s made.leads.state n.more (passes_one (true_in path'.entries) (clause_at_place clauses (next_waiting s)).lits l f.0 made.truth);

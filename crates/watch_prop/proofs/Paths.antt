@@ -11,7 +11,7 @@ use Rattle.lk_model.proofs.Booleans.{and_true}
 use Rattle.lk_model.proofs.ListTests.{all_weaker, all_more}
 use Rattle.watch_prop.specs.declared.entry.Entry.{Entry}
 use Rattle.std.proofs.lemmas.List.Sums.{sum_by-set}
-use Rattle.watch_prop.specs.KeptTrail.{unset_one}
+use Rattle.watch_prop.specs.HeldTrail.{unset_one}
 use Rattle.watch_prop.specs.Trail.{Path, literals_of, entry_of, present_level, up_to_level, is_level_after, may_come, is_path}
 
 pub with_earlier_more : {X : Type 0} (earlier xs : List X) (x : X) → with_earlier earlier (xs ++ x ∷ []) ≡ with_earlier earlier xs ++ (earlier ++ xs, x) ∷ []

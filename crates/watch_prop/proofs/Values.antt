@@ -11,7 +11,7 @@ use Rattle.lk_model.proofs.Ranks.{literal_bounds}
 use Rattle.watch_prop.specs.declared.entry.Entry.{Entry}
 use Rattle.watch_prop.specs.declared.trail.Trail.TheInside.{Inside}
 use Rattle.watch_prop.specs.Trail.{Path, entry_of, true_in}
-use Rattle.watch_prop.specs.KeptTrail.{AreValues, place_of, seen, IsKept}
+use Rattle.watch_prop.specs.HeldTrail.{AreValues, place_of, seen, IsHeldTrail}
 use Rattle.watch_prop.proofs.Truths.{same_true, false_apart}
 
 -- ONE MORE LITERAL
@@ -71,13 +71,13 @@ values_less vars trail values e long t lit none l on = elim (cases_Bool (int_eq 
 
 -- WHAT IS READ
 
-pub read_within : (inside : Inside) (path : Path) (l : ℤ) (at : ℕ) → seen inside ≡ path → IsKept inside → is_literal path.vars l ≡ true → at ≡ place_of path.vars l
+pub read_within : (inside : Inside) (path : Path) (l : ℤ) (at : ℕ) → seen inside ≡ path → IsHeldTrail inside → is_literal path.vars l ≡ true → at ≡ place_of path.vars l
     → at < length inside.values.items
 read_within inside path l at view kept lit is =
     let within = within_values path.vars inside.values.items l (kept.places ∙ ap (λ (p : Path). 2 * p.vars + 1) view) lit in
     omega (arith, within, is)
 
-pub read_value : (inside : Inside) (path : Path) (l : ℤ) (at : ℕ) (b : Bool) → seen inside ≡ path → IsKept inside → is_literal path.vars l ≡ true → at ≡ place_of path.vars l
+pub read_value : (inside : Inside) (path : Path) (l : ℤ) (at : ℕ) (b : Bool) → seen inside ≡ path → IsHeldTrail inside → is_literal path.vars l ≡ true → at ≡ place_of path.vars l
     → b ≡ get_or inside.values.items at b → b ≡ true_in path.entries l
 read_value inside path l at b view kept lit is read =
     let within = read_within inside path l at view kept lit is in

@@ -1,10 +1,10 @@
 pub mod Trail
-pub mod KeptTrail
+pub mod HeldTrail
 pub mod Watch
 pub mod Watchers
-pub mod KeptWatchers
+pub mod HeldWatchers
 pub mod Propagation
 pub mod Linked
 pub mod States
-pub mod KeptClauses
-pub mod KeptPropagator
+pub mod HeldClauses
+pub mod HeldPropagator

@@ -1,7 +1,7 @@
 -- What is known of clauses under a trail.
-use Rattle.std.specs.Prelude.{◌≡◌, ◌≢◌, ℕ, ◌+◌, ◌-◌, ◌<◌, ◌≤◌, not, false, List, length, take, drop, ℤ, pos, slice_index_or, vec_capacity, IsTrue, ⊤}
+use Rattle.std.specs.Prelude.{◌≡◌, ◌≢◌, ℕ, ◌+◌, ◌-◌, ◌<◌, ◌≤◌, not, false, List, length, take, drop, ℤ, pos, slice_index_or, slice_set, vec_capacity, IsTrue, ⊤}
 use Rattle.std.specs.Option.{option_map_or}
-use Rattle.std.specs.List.{list_all}
+use Rattle.std.specs.List.{list_all, swap_remove}
 use Rattle.std.specs.Ordering.{int_eq}
 use Rattle.lk_model.specs.Lists.{among}
 use Rattle.lk_model.specs.Formulas.Literal.{complement}
@@ -15,7 +15,7 @@ use Rattle.watch_prop.specs.declared.state.Settled.{Settled}
 use Rattle.watch_prop.specs.declared.state.Settled.TheVariants.{Stays, Moves, IsFalse}
 use Rattle.watch_prop.specs.Trail.{Path, literals_of, false_in, present_level, up_to_level, clause_numbered}
 use Rattle.watch_prop.specs.Watch.{other_of, has_true, is_upheld}
-use Rattle.watch_prop.specs.Watchers.{watchers}
+use Rattle.watch_prop.specs.Watchers.{watchers, with_watcher, with_row}
 use Rattle.watch_prop.specs.Linked.{IsLinked, AreBlocked, clause_at_place, watch_at}
 use Rattle.watch_prop.specs.Propagation.{Propagation, IsPropagation, GoesOn, assigned}
 use Rattle.lk_model.specs.Formulas.Units.{is_false}
@@ -98,6 +98,17 @@ pub record Settles (clauses : List NumberedClause) (path path' : Path) (s s' : S
   pub others : (p : ℕ) → p ≢ place → watch_at s'.watches.items p ≡ watch_at s.watches.items p
   pub settled : IsSettled clauses path.entries path'.entries (watch_at s.watches.items place) (watch_at s'.watches.items place) place l result
   pub list : IsListAfter result place at (watchers s.lists.lists l) (watchers s'.lists.lists l)
+
+-- the next clause that waits watches these two literals, and nothing else changes
+pub record ListsNext (s : State) (watch : Watch) (s' : State) : Type 0 where
+  pub watches : s'.watches.items ≡ slice_set s.watches.items (next_waiting s) watch
+  pub lists : s'.lists.lists ≡ with_watcher (with_watcher s.lists.lists watch.first (next_waiting s)) watch.second (next_waiting s)
+  pub rows : s'.lists.rows ≡ with_row (with_row s.lists.rows watch.first (record { place = next_waiting s; blocker = watch.second })) watch.second (record { place = next_waiting s; blocker = watch.first })
+  pub counts : s'.lists.counts ≡ s.lists.counts
+  pub waiting : s'.waiting.items ≡ swap_remove s.waiting.items s.satisfied (next_waiting s)
+  pub satisfied : s'.satisfied ≡ s.satisfied
+  pub head : s'.head ≡ s.head
+  pub marks : s'.marks ≡ s.marks
 
 -- how a pass ends: with a clause that is false, or with what is wanted
 abbrev pub Passes : List NumberedClause → Path → Propagated → Type 0 → Type 0

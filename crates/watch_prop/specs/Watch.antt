@@ -44,10 +44,10 @@ abbrev pub all_false_but : List Entry → List ℤ → ℤ → Bool
 all_false_but trail c l = list_all (λ k. int_eq k l || false_in trail k) c
 
 -- which literals of a clause are not false: none, just one, or two and perhaps others
-abbrev pub IsFound : List Entry → List ℤ → Found → Type 0
-IsFound trail c AllFalse = IsTrue (list_all (false_in trail) c)
-IsFound trail c (One l) = IsTrue (contains c l) × IsTrue (not (false_in trail l)) × IsTrue (all_false_but trail c l)
-IsFound trail c (Two w) = IsTrue (contains c w.first) × IsTrue (contains c w.second) × IsTrue (not (int_eq w.second w.first))
+abbrev pub IsWatchChoice : List Entry → List ℤ → Found → Type 0
+IsWatchChoice trail c AllFalse = IsTrue (list_all (false_in trail) c)
+IsWatchChoice trail c (One l) = IsTrue (contains c l) × IsTrue (not (false_in trail l)) × IsTrue (all_false_but trail c l)
+IsWatchChoice trail c (Two w) = IsTrue (contains c w.first) × IsTrue (contains c w.second) × IsTrue (not (int_eq w.second w.first))
     × IsTrue (not (false_in trail w.first)) × IsTrue (not (false_in trail w.second))
 
 -- What a clause asks for of which one watched literal is false, and the other one, b, is not true: to watch a literal that is

@@ -1,5 +1,6 @@
 //! Clauses with their numbers, one after another.
-ghost use Rattle.std.specs.Prelude.{◌≡◌, ◌<◌, ◌≤◌, ◌++◌, ◌∷◌, [], length, take, slice_index, slice_index_or, OnOk, OnErr};
+ghost use Rattle.std.specs.Prelude.{◌≡◌, ◌<◌, ◌≤◌, ◌++◌, ◌∷◌, [], length, take, slice_index, slice_index_or, OnOk};
+ghost use Rattle.std.specs.Prelude.{OnErr};
 ghost use Rattle.lk_model.specs.Held.Flat.{cut, AreEnds, begin_of};
 ghost use Rattle.watch_prop.specs.Linked.{clause_at_place};
 
@@ -22,7 +23,7 @@ impl Model for Clauses {
 
     ghost Value = { List NumberedClause };
 
-    ghost use Rattle.watch_prop.specs.KeptClauses.{clauses_seen, AreFlat};
+    ghost use Rattle.watch_prop.specs.HeldClauses.{clauses_seen, AreFlat};
 
     ghost view = { clauses_seen };
 

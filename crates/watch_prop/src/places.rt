@@ -1,12 +1,13 @@
 //! Clauses by their numbers.
-ghost use Rattle.std.specs.Prelude.{◌≡◌, ◌<◌, ◌≤◌, length, IsSome, IsTrue};
+ghost use Rattle.std.specs.Prelude.{◌≡◌, ◌<◌, length, IsSome, IsTrue};
 ghost use Rattle.watch_prop.specs.Trail.{clause_numbered};
 ghost use Rattle.watch_prop.specs.Linked.{clause_at_place};
 
 use crate::clauses::Clauses;
 
 /// The place of the clause of a number. It is counted back from the last clause, which finds those that came under
-/// numbers one after another. Bisection finds it where the numbers ascend; if it does not, all clauses are gone through.
+/// numbers one after another. Bisection finds it where the numbers ascend; if it does not, all clauses are gone
+/// through.
 pub(crate) fn place_of(clauses: &Clauses, number: u64) -> usize
     requires { IsSome (clause_numbered clauses.now number) }
     ensures within { result < length clauses.now }

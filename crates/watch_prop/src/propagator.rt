@@ -1,10 +1,13 @@
 //! Propagators.
-ghost use Rattle.std.specs.Prelude.{◌≡◌, ◌<◌, ◌≤◌, [], length, not, ◌&&◌, Some, IfOk, OnOk, OnErr, IsTrue, IfSome, IsNone, IsSome};
+ghost use Rattle.std.specs.Prelude.{◌≡◌, ◌<◌, ◌≤◌, [], not, ◌&&◌, Some, IfOk, OnOk, OnErr, IsTrue, IfSome};
+ghost use Rattle.std.specs.Prelude.{IsNone, IsSome};
 ghost use Rattle.lk_model.specs.Lists.{among, is_empty};
 ghost use Rattle.lk_model.specs.Formulas.Literal.{variable, is_literal, is_clause};
 ghost use Rattle.lk_model.specs.Held.VariableSets.{IsCrossed};
 ghost use Rattle.watch_prop.specs.Trail.{literals_of, level_of, reason_of, present_level, clause_numbered};
-ghost use Rattle.watch_prop.specs.Propagation.{Propagation, IsPropagation, assigned, numbers_of, crossed_clauses, is_quiet, IsAnswered, GoesOn, with_held, with_assigned, back_at, may_be_held};
+ghost use Rattle.watch_prop.specs.Propagation.{Propagation, IsPropagation, assigned, numbers_of, crossed_clauses};
+ghost use Rattle.watch_prop.specs.Propagation.{is_quiet, IsAnswered, GoesOn, with_held, with_assigned, back_at};
+ghost use Rattle.watch_prop.specs.Propagation.{may_be_held};
 
 use crate::clauses::Clauses;
 use crate::entry::{NumberedClause, Propagated};
@@ -33,11 +36,11 @@ impl Model for Propagator {
 
     ghost Value = { Propagation };
 
-    ghost use Rattle.watch_prop.specs.KeptPropagator.{propagator_seen, IsKeptWhole};
+    ghost use Rattle.watch_prop.specs.HeldPropagator.{propagator_seen, IsHeldPropagator};
 
     ghost view = { propagator_seen };
 
-    ghost invariant = { IsKeptWhole };
+    ghost invariant = { IsHeldPropagator };
 }
 
 impl Propagator {
@@ -193,8 +196,8 @@ impl Propagator {
         Ok(())
     }
 
-    // Holds one more clause. Where there is no room for it in the lists, it is taken back; and there is none for a clause
-    // whose place needs more than 32 bits.
+    // Holds one more clause. Where there is no room for it in the lists, it is taken back; and there is none for a
+    // clause whose place needs more than 32 bits.
     fn hold(&mut self, number: u64, lits: &[Lit]) -> Result<(), OutOfMemory>
         requires clause { IsTrue (not (is_empty lits.now) && is_clause self.old.vars lits.now) }
         requires fresh { IsTrue (not (among (numbers_of self.old.clauses) number)) }

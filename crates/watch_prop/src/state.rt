@@ -5,18 +5,19 @@
 //! is false. Nothing has to be undone when the trail gets shorter (Moskewicz, Madigan, Zhao, Zhang and Malik, "Chaff:
 //! Engineering an Efficient SAT Solver", 2001).
 //!
-//! Here a clause watches nothing, and waits, until two literals of it are found that are not false. A waiting clause that
-//! was looked at has a true literal, and is looked at again where the level of that look is taken back. So clauses may be
-//! added whatever is true, one literal is no special case, and no list is ever searched for a clause: one that comes
-//! goes to the end, and one that leaves is at hand, since the list is being walked.
-ghost use Rattle.std.specs.Prelude.{◌≡◌, ◌≢◌, ℕ, ◌+◌, ◌-◌, ◌<◌, length, slice_index_or, slice_set, IsTrue};
+//! Here a clause watches nothing, and waits, until two literals of it are found that are not false. A waiting clause
+//! that was looked at has a true literal, and is looked at again where the level of that look is taken back. So clauses
+//! may be added whatever is true, one literal is no special case, and no list is ever searched for a clause: one that
+//! comes goes to the end, and one that leaves is at hand, since the list is being walked.
+ghost use Rattle.std.specs.Prelude.{◌≡◌, ◌≢◌, ℕ, ◌+◌, ◌-◌, ◌<◌, length, slice_index_or, IsTrue};
 ghost use Rattle.std.specs.List.{swap_remove};
 ghost use Rattle.lk_model.specs.Formulas.Literal.{contains, rank_of, is_literal};
 ghost use Rattle.watch_prop.specs.Propagation.{IsAnswered};
-ghost use Rattle.watch_prop.specs.Watchers.{places, row_of, watchers, count_of, with_watcher, with_row};
+ghost use Rattle.watch_prop.specs.Watchers.{places, row_of, watchers, count_of};
 ghost use Rattle.watch_prop.specs.Linked.{clause_at_place, watch_at};
 ghost use Rattle.watch_prop.specs.Watch.{other_of};
-ghost use Rattle.watch_prop.specs.States.{propagation_of, unseen, next_waiting, IsState, Leads, IsAtHead, Settles, Passes};
+ghost use Rattle.watch_prop.specs.States.{propagation_of, unseen, next_waiting, IsState, Leads, IsAtHead, Settles};
+ghost use Rattle.watch_prop.specs.States.{ListsNext, Passes};
 
 use crate::clauses::Clauses;
 use crate::entry::Propagated;
@@ -33,8 +34,8 @@ const LONG: usize = 32;
 pub(crate) struct State {
     /// For each clause that does not wait the literals that it watches.
     pub watches: Vec<Watch>,
-    /// For each clause the place in it of the literal that came to be watched last, if the clause is long: there the next
-    /// search begins. It is a matter of speed alone where that is.
+    /// For each clause the place in it of the literal that came to be watched last, if the clause is long: there the
+    /// next search begins. It is a matter of speed alone where that is.
     pub saved: Vec<u32>,
     /// For each literal its watchers.
     pub lists: WatcherLists,
@@ -87,16 +88,11 @@ impl State {
         requires first { rank_of watch.first < length self.old.lists.lists }
         requires second { rank_of watch.second < length self.old.lists.lists }
         requires apart { watch.second ≢ watch.first }
-        requires first_room { length (watchers self.old.lists.lists watch.first) < count_of self.old.lists.counts watch.first }
-        requires second_room { length (watchers self.old.lists.lists watch.second) < count_of self.old.lists.counts watch.second }
-        ensures watches { self.new.watches.items ≡ slice_set self.old.watches.items (next_waiting self.old) watch }
-        ensures lists { self.new.lists.lists ≡ with_watcher (with_watcher self.old.lists.lists watch.first (next_waiting self.old)) watch.second (next_waiting self.old) }
-        ensures rows { self.new.lists.rows ≡ with_row (with_row self.old.lists.rows watch.first (record { place = next_waiting self.old; blocker = watch.second })) watch.second (record { place = next_waiting self.old; blocker = watch.first }) }
-        ensures counts { self.new.lists.counts ≡ self.old.lists.counts }
-        ensures waiting { self.new.waiting.items ≡ swap_remove self.old.waiting.items self.old.satisfied (next_waiting self.old) }
-        ensures satisfied { self.new.satisfied ≡ self.old.satisfied }
-        ensures head { self.new.head ≡ self.old.head }
-        ensures marks { self.new.marks ≡ self.old.marks }
+        requires first_room { length
+            (watchers self.old.lists.lists watch.first) < count_of self.old.lists.counts watch.first }
+        requires second_room { length
+            (watchers self.old.lists.lists watch.second) < count_of self.old.lists.counts watch.second }
+        ensures { ListsNext self.old watch self.new }
     {
         let place = self.waiting.swap_remove(self.satisfied);
         let Watch { first, second } = watch;
@@ -119,7 +115,8 @@ pub(crate) fn propagate(clauses: &Clauses, trail: &mut Trail, state: &mut State)
     requires { IsState clauses.now trail.old state.old }
     ensures leads { Leads clauses.now trail.old trail.new state.old state.new }
     ensures answer { IsAnswered (propagation_of clauses.now trail.new) result }
-    ensures done { Passes clauses.now trail.new result ((unseen state.new ≡ 0) × (state.new.head ≡ length trail.new.entries)) }
+    ensures done { Passes clauses.now trail.new result ((unseen state.new ≡ 0) ×
+        (state.new.head ≡ length trail.new.entries)) }
 {
     match look_at_waiting(clauses, trail, state) {
         Propagated::Quiet => follow_trail(clauses, trail, state),
@@ -203,7 +200,8 @@ fn pass_on(clauses: &Clauses, trail: &mut Trail, state: &mut State) -> Propagate
     Propagated::Quiet
 }
 
-// Gives a clause what it asks for when a literal that it watches is false. Where its blocker is true it asks for nothing.
+// Gives a clause what it asks for when a literal that it watches is false. Where its blocker is true it asks for
+// nothing.
 fn settle(
     clauses: &Clauses,
     trail: &mut Trail,

@@ -1,8 +1,9 @@
 //! The literals that are true, in the order in which they came.
 ghost use Rattle.std.specs.Prelude.{◌≡◌, ◌||◌, ℕ, ◌+◌, ◌-◌, ◌<◌, ◌≤◌, ◌++◌, ◌∷◌, [], length, take, IfOk, IsTrue};
-ghost use Rattle.lk_model.specs.Formulas.Literal.{variable, is_literal};
-ghost use Rattle.watch_prop.specs.KeptTrail.{place_of};
-ghost use Rattle.watch_prop.specs.Trail.{Path, literals_of, entry_of, true_in, false_in, present_level, up_to_level, may_come, is_path, forced_entry, with_forced};
+ghost use Rattle.lk_model.specs.Formulas.Literal.{is_literal};
+ghost use Rattle.watch_prop.specs.HeldTrail.{place_of};
+ghost use Rattle.watch_prop.specs.Trail.{Path, literals_of, entry_of, true_in, false_in, present_level, up_to_level};
+ghost use Rattle.watch_prop.specs.Trail.{may_come, is_path, forced_entry, with_forced};
 
 use crate::entry::Entry;
 use lk_model::{Lit, OutOfMemory};
@@ -10,7 +11,8 @@ use std::alloc::Global;
 use std::marker::Model;
 
 /// Entries in order, their literals, the entry of each variable, and a flag for each number from -n to n that tells
-/// whether that literal is true. There is room for an entry of every variable, so that no literal that comes takes memory.
+/// whether that literal is true. There is room for an entry of every variable, so that no literal that comes takes
+/// memory.
 #[derive(Drop)]
 pub(crate) struct Trail {
     entries: Vec<Entry>,
@@ -24,11 +26,11 @@ impl Model for Trail {
 
     ghost Value = { Path };
 
-    ghost use Rattle.watch_prop.specs.KeptTrail.{seen, IsKept};
+    ghost use Rattle.watch_prop.specs.HeldTrail.{seen, IsHeldTrail};
 
     ghost view = { seen };
 
-    ghost invariant = { IsKept };
+    ghost invariant = { IsHeldTrail };
 }
 
 impl Trail {
@@ -106,8 +108,12 @@ impl Trail {
 
     /// Appends an entry.
     pub fn put(&mut self, lit: Lit, level: u32, reason: Option<u64>)
-        requires { IsTrue (may_come self.old.vars self.old.entries (record { lit = lit; level = level; reason = reason })) }
-        ensures value { self.new ≡ record self.old { entries = self.old.entries ++ (record { lit = lit; level = level; reason = reason }) ∷ [] } }
+        requires { IsTrue
+            (may_come self.old.vars self.old.entries (record { lit = lit; level = level; reason = reason })) }
+        ensures value { self.new ≡ record self.old {
+          entries = self.old.entries ++
+              (record { lit = lit; level = level; reason = reason }) ∷ [];
+        } }
         ensures room { length self.new.entries ≤ self.new.vars }
     {
         let at = self.place(lit);
@@ -121,7 +127,9 @@ impl Trail {
     /// Makes a literal true at the present level that the clause of a number forces, if it is not true yet.
     pub fn force(&mut self, l: Lit, number: u64)
         requires literal { IsTrue (is_literal self.old.vars l) }
-        requires comes { IsTrue (true_in self.old.entries l || may_come self.old.vars self.old.entries (forced_entry self.old.entries l number)) }
+        requires comes { IsTrue
+            (true_in self.old.entries l || may_come self.old.vars self.old.entries
+            (forced_entry self.old.entries l number)) }
         ensures { self.new ≡ with_forced self.old l number }
     {
         if !self.is_true(l) {

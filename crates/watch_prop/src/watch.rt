@@ -1,13 +1,14 @@
 //! The two literals that a clause watches, and what a clause asks for.
 //!
-//! Another literal is searched from the front of a short clause. Where variables are decided in their order, and the literals
-//! of clauses ascend, those at the front seldom change, and what is found there is not false for long. A long clause whose
-//! literals become false one after another would be gone through from its front each time, so it is searched on from where the
-//! last search ended, and around (Gent, "Optimal Implementation of Watched Literals and More General Techniques", 2013).
+//! Another literal is searched from the front of a short clause. Where variables are decided in their order, and the
+//! literals of clauses ascend, those at the front seldom change, and what is found there is not false for long. A long
+//! clause whose literals become false one after another would be gone through from its front each time, so it is
+//! searched on from where the last search ended, and around (Gent, "Optimal Implementation of Watched Literals and More
+//! General Techniques", 2013).
 ghost use Rattle.std.specs.Prelude.{◌≡◌, ◌≤◌, length, IsTrue};
 ghost use Rattle.std.specs.List.{list_all};
 ghost use Rattle.lk_model.specs.Formulas.Literal.{is_literal};
-ghost use Rattle.watch_prop.specs.Watch.{other_of, IsDemand, IsFound, IsFirstNotFalse, IsPlaceOfAnother};
+ghost use Rattle.watch_prop.specs.Watch.{other_of, IsDemand, IsWatchChoice, IsFirstNotFalse, IsPlaceOfAnother};
 
 use crate::trail::Trail;
 use lk_model::Lit;
@@ -43,7 +44,7 @@ pub(crate) enum Found {
 /// Which literals of a clause are not false.
 pub(crate) fn find(trail: &Trail, lits: &[Lit]) -> Found
     requires { IsTrue (list_all (is_literal trail.now.vars) lits.now) }
-    ensures { IsFound trail.now.entries lits.now result }
+    ensures { IsWatchChoice trail.now.entries lits.now result }
 {
     let Some(one) = first_not_false(trail, lits) else {
         return Found::AllFalse
@@ -69,8 +70,8 @@ pub(crate) enum Demand {
     Conflict,
 }
 
-/// What a clause asks for of which one watched literal is false and the other one is not true. Another literal is searched
-/// from a place on.
+/// What a clause asks for of which one watched literal is false and the other one is not true. Another literal is
+/// searched from a place on.
 pub(crate) fn demand_of(trail: &Trail, lits: &[Lit], other: Lit, begin: usize) -> Demand
     requires lits { IsTrue (list_all (is_literal trail.now.vars) lits.now) }
     requires other { IsTrue (is_literal trail.now.vars other) }
@@ -83,8 +84,8 @@ pub(crate) fn demand_of(trail: &Trail, lits: &[Lit], other: Lit, begin: usize) -
     }
 }
 
-// A place of a literal that is not false, but not that of a given one, searched from one place to the end, and then from
-// the front to that place.
+// A place of a literal that is not false, but not that of a given one, searched from one place to the end, and then
+// from the front to that place.
 fn place_around(trail: &Trail, lits: &[Lit], but: Lit, begin: usize) -> Option<usize>
     requires { IsTrue (list_all (is_literal trail.now.vars) lits.now) }
     ensures { IsPlaceOfAnother trail.now.entries lits.now but 0 (length lits.now) result }

@@ -1,18 +1,19 @@
 //! The watchers of a literal: the clauses that watch it, each with a literal to look at first.
-ghost use Rattle.std.specs.Prelude.{◌≡◌, ◌≢◌, ℕ, ◌+◌, ◌*◌, ◌^◌, ◌<◌, ◌≤◌, [], length, replicate, slice_index_or, nat_lt, ℤ, Vec, vec_len, vec_capacity, IfOk, OnOk, OnErr, IsTrue};
+ghost use Rattle.std.specs.Prelude.{◌≡◌, ◌≢◌, ℕ, ◌+◌, ◌*◌, ◌^◌, ◌<◌, ◌≤◌, [], length, replicate, slice_index_or};
+ghost use Rattle.std.specs.Prelude.{nat_lt, ℤ, Vec, vec_len, vec_capacity, IfOk, OnOk, OnErr, IsTrue};
 ghost use Rattle.std.specs.List.{list_all};
 ghost use Rattle.lk_model.specs.Formulas.Literal.{contains, is_distinct, rank_of};
 ghost use Rattle.watch_prop.specs.Watchers.{row_of, places, watchers, count_of, with_watcher, with_row, with_counted};
 ghost use Rattle.watch_prop.specs.Linked.{moved, moved_rows, with_blocker, blocked_rows};
 ghost use Rattle.watch_prop.specs.declared.watcher_lists.Watcher.{Watcher};
-ghost use Rattle.watch_prop.specs.KeptWatchers.{rows_of, HasRoom};
+ghost use Rattle.watch_prop.specs.HeldWatchers.{watcher_rows, HasRoom};
 
 use lk_model::{Lit, LitTable, OutOfMemory};
 use std::alloc::Global;
 use std::marker::Model;
 
-/// A clause that watches a literal, by its place, and the blocker: a literal of that clause. Where the blocker is true, the
-/// clause forces nothing and need not be looked at.
+/// A clause that watches a literal, by its place, and the blocker: a literal of that clause. Where the blocker is true,
+/// the clause forces nothing and need not be looked at.
 #[derive(Clone, Copy)]
 pub(crate) struct Watcher {
     pub place: u32,
@@ -32,7 +33,7 @@ impl Model for WatcherLists {
 
     ghost Value = { Watchers };
 
-    ghost use Rattle.watch_prop.specs.KeptWatchers.{watchers_seen, HaveRoom};
+    ghost use Rattle.watch_prop.specs.HeldWatchers.{watchers_seen, HaveRoom};
 
     ghost view = { watchers_seen };
 
@@ -134,10 +135,13 @@ fn make_room(
 ) -> Result<(), OutOfMemory>
     requires same { length lists.old ≡ length counts.now }
     requires ranks { IsTrue (list_all (λ l. nat_lt (rank_of l) (length lists.old)) lits.now) }
-    requires room { (r : ℕ) (d : Vec Watcher Global) → r < length lists.old → HasRoom (slice_index_or lists.old r d) (slice_index_or counts.now r 0) }
-    ensures rows { rows_of lists.new ≡ rows_of lists.old }
-    ensures room { (r : ℕ) (d : Vec Watcher Global) → r < length lists.old → HasRoom (slice_index_or lists.new r d) (slice_index_or counts.now r 0) }
-    ensures more { OnOk result ((l : ℤ) (d : Vec Watcher Global) → IsTrue (contains lits.now l) → count_of counts.now l < vec_capacity (slice_index_or lists.new (rank_of l) d)) }
+    requires room { (r : ℕ) (d : Vec Watcher Global) → r < length lists.old →
+        HasRoom (slice_index_or lists.old r d) (slice_index_or counts.now r 0) }
+    ensures rows { watcher_rows lists.new ≡ watcher_rows lists.old }
+    ensures room { (r : ℕ) (d : Vec Watcher Global) → r < length lists.old →
+        HasRoom (slice_index_or lists.new r d) (slice_index_or counts.now r 0) }
+    ensures more { OnOk result ((l : ℤ) (d : Vec Watcher Global) → IsTrue (contains lits.now l) →
+        count_of counts.now l < vec_capacity (slice_index_or lists.new (rank_of l) d)) }
 {
     for l in lits {
         let more = counts[*l] - lists[*l].len() + 1;

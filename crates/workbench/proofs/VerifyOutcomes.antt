@@ -15,7 +15,7 @@ use Rattle.command_words.specs.Lawful.{Request}
 use Rattle.command_words.specs.declared.command.Command.TheVariants.{Verify}
 use Rattle.command_endings.specs.Commands.Checking.{verdict_status}
 use Rattle.command_endings.specs.Commands.Verifying as verify
-use Rattle.command_endings.specs.Commands.Verifying.{verdict_by, verdict_of}
+use Rattle.command_endings.specs.Commands.Verifying.{verdict_by}
 use Rattle.command_endings.specs.Statuses.{code}
 use Rattle.command_endings.specs.declared.status.Status.{Status}
 use Rattle.command_endings.specs.declared.status.Status.TheVariants.{Done, Input, Refused}

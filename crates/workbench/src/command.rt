@@ -33,7 +33,8 @@ pub(crate) fn perform<R: Threads + Sync, H: Shelf, G: Gate>(
 ) -> Result<Ending, Stop>
     requires names { length request.now.names.now ≡ length (inputs_of request.now.command) }
     ensures performs { Performs (asked request.now)
-        (shelved (H.told shelf.old) (H.faults shelf.old) (H.faults shelf.new) (H.ailing shelf.new) (H.current shelf.new))
+        (shelved (H.told shelf.old) (H.faults shelf.old) (H.faults shelf.new) (H.ailing shelf.new)
+        (H.current shelf.new))
         result }
     ensures untouched { inputs_of request.now.command ≡ [] → shelf.new ≡ shelf.old }
 {

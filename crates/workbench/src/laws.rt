@@ -14,9 +14,11 @@ ghost use Rattle.workbench.specs.StopOutcomes.{StopOutcomes};
 ghost use Rattle.workbench.specs.Outcomes.{ReduceOutcomes, CheckOutcomes, ExtendOutcomes, ReportOutcomes};
 ghost use Rattle.workbench.specs.SolveOutcomes.{SolveOutcomes};
 ghost use Rattle.workbench.specs.VerifyOutcomes.{VerifyOutcomes};
-ghost use Rattle.workbench.specs.WrittenAnswers.{SolvedIsVerified, WrittenVerifiesAsAccepted, UnsolvedChecksAsUnfinished};
+ghost use Rattle.workbench.specs.WrittenAnswers.{SolvedIsVerified, WrittenVerifiesAsAccepted};
+ghost use Rattle.workbench.specs.WrittenAnswers.{UnsolvedChecksAsUnfinished};
 ghost use Rattle.workbench.specs.WrittenChecks.{WrittenChecksAsAccepted, StoppedChecksAsUnfinished};
-ghost use Rattle.workbench.specs.WrittenCores.{ExtractedIsVerified, ExtractedVerifiesAsAccepted, UnextractedChecksAsUnfinished};
+ghost use Rattle.workbench.specs.WrittenCores.{ExtractedIsVerified, ExtractedVerifiesAsAccepted};
+ghost use Rattle.workbench.specs.WrittenCores.{UnextractedChecksAsUnfinished};
 
 /// Of `reduce`: with status 0 the document of a reduction for the class stands on `out`. For pure and matching
 /// each text without a fault is reduced; for linear exactly by the size of its rows and the end of its run, and
@@ -54,21 +56,22 @@ pub fn stop_law()
     ensures { StopOutcomes }
 {}
 
-/// With status 0, 10 and 20 the text for `say` is empty, and with 1, 2, 3, 6, 7 and 9 that for `out`; so by `quiet` of `run` that
-/// sink is as it was.
+/// With status 0, 10 and 20 the text for `say` is empty, and with 1, 2, 3, 6, 7 and 9 that for `out`; so by `quiet` of
+/// `run` that sink is as it was.
 pub fn quiet_law()
     ensures { QuietOutcomes }
 {}
 
-/// Of `demo` with a number of 64 bits: with status 0 its lines stand on `out`, with the sizes of the kernels of the number's
-/// formula; with 5 the text of an unfinished document of it. Nothing else comes, unless a call or memory fails.
+/// Of `demo` with a number of 64 bits: with status 0 its lines stand on `out`, with the sizes of the kernels of the
+/// number's formula; with 5 the text of an unfinished document of it. Nothing else comes, unless a call or memory
+/// fails.
 pub fn demo_law()
     ensures { DemoOutcomes }
 {}
 
 /// What `reduce` writes of a text with status 0, for any class, is accepted for that text, and of what it writes with
-/// status 5 no check fails. So where the one text is told and the other as well, `check` of the two is decided: status 0
-/// and `accepted`, or 5 and `unfinished` with the number of learned clauses.
+/// status 5 no check fails. So where the one text is told and the other as well, `check` of the two is decided: status
+/// 0 and `accepted`, or 5 and `unfinished` with the number of learned clauses.
 pub fn written_law()
     ensures done { WrittenIsAccepted }
     ensures budget { StoppedIsUnfinished }
@@ -76,62 +79,65 @@ pub fn written_law()
     ensures unfinished { StoppedChecksAsUnfinished }
 {}
 
-/// Of `solve`: with status 10 a model of the formula stands on `out`, and with 20 a refutation of it, which uses clauses of the
-/// general kernel alone; with 5 an unfinished document. With a budget of 3^n for n variables a text of a formula decides
-/// between 10 and 20. Each other text is refused, unless a call or memory fails.
+/// Of `solve`: with status 10 a model of the formula stands on `out`, and with 20 a refutation of it, which uses
+/// clauses of the general kernel alone; with 5 an unfinished document. With a budget of 3^n for n variables a text of a
+/// formula decides between 10 and 20. Each other text is refused, unless a call or memory fails.
 pub fn solve_law()
     ensures { SolveOutcomes }
 {}
 
-/// Of `verify`: with status 0 no check of the answer fails, and so its literals satisfy the formula, or this has no model, and a
-/// core is minimally unsatisfiable; with 8 a check of it fails. Told texts decide between these and 2, unless a call or memory fails.
+/// Of `verify`: with status 0 no check of the answer fails, and so its literals satisfy the formula, or this has no
+/// model, and a core is minimally unsatisfiable; with 8 a check of it fails. Told texts decide between these and 2,
+/// unless a call or memory fails.
 pub fn verify_law()
     ensures { VerifyOutcomes }
 {}
 
-/// Of `deficiency`: with status 0 the greatest number of clauses less occurring variables over all sets of clauses of the formula
-/// stands on `out`, with a set that has it, the matching kernel, and different variables for all clauses but so many. Each text
-/// without a fault is answered so, and each other one refused, unless a call or memory fails.
+/// Of `deficiency`: with status 0 the greatest number of clauses less occurring variables over all sets of clauses of
+/// the formula stands on `out`, with a set that has it, the matching kernel, and different variables for all clauses
+/// but so many. Each text without a fault is answered so, and each other one refused, unless a call or memory fails.
 pub fn deficiency_law()
     ensures { DeficiencyOutcomes }
 {}
 
-/// Of `edits`: with status 0 the matching kernel of the formula stands on `out`, and behind it that of what is live behind each
-/// edit, by the numbers of the clauses. Told texts are refused exactly where the first has a fault, or else the second a faulty
-/// line, and then `say` has that line alone; the others are answered, unless a call or memory fails.
+/// Of `edits`: with status 0 the matching kernel of the formula stands on `out`, and behind it that of what is live
+/// behind each edit, by the numbers of the clauses. Told texts are refused exactly where the first has a fault, or else
+/// the second a faulty line, and then `say` has that line alone; the others are answered, unless a call or memory
+/// fails.
 pub fn edits_law()
     ensures { EditsOutcomes }
 {}
 
-/// What `solve` writes of a text with status 10 or 20 is an answer for that text of which no check fails, and of what it writes
-/// with 5 no check fails either. So where the one text is told and the other as well, `verify` of the two is decided: status 0
-/// and `accepted`; and `check` of the two: 5, and `unfinished` with the number of learned clauses.
+/// What `solve` writes of a text with status 10 or 20 is an answer for that text of which no check fails, and of what
+/// it writes with 5 no check fails either. So where the one text is told and the other as well, `verify` of the two is
+/// decided: status 0 and `accepted`; and `check` of the two: 5, and `unfinished` with the number of learned clauses.
 pub fn solved_law()
     ensures texts { SolvedIsVerified }
     ensures accepted { WrittenVerifiesAsAccepted }
     ensures unfinished { UnsolvedChecksAsUnfinished }
 {}
 
-/// Of `mus`: with status 0 a minimally unsatisfiable core of the formula stands on `out`, within the general kernel, with what
-/// shows it, and with 10 a model; with 5 an unfinished document of some of its clauses. With a budget of 3^n for n variables a
-/// text of a formula decides between 0 and 10. Each other text is refused, unless a call or memory fails.
+/// Of `mus`: with status 0 a minimally unsatisfiable core of the formula stands on `out`, within the general kernel,
+/// with what shows it, and with 10 a model; with 5 an unfinished document of some of its clauses. With a budget of 3^n
+/// for n variables a text of a formula decides between 0 and 10. Each other text is refused, unless a call or memory
+/// fails.
 pub fn mus_law()
     ensures { MusOutcomes }
 {}
 
-/// What `mus` writes of a text with status 0 or 10 is an answer for that text of which no check fails. So where the one text is
-/// told and the other as well, `verify` of the two is decided: status 0 and `accepted`. Up to 2^30 bytes, a core that it writes
-/// is DIMACS of the core's clauses, and `check` of what it writes with 5 as the formula and as the document is decided: 5, and
-/// `unfinished` with the number of learned clauses.
+/// What `mus` writes of a text with status 0 or 10 is an answer for that text of which no check fails. So where the one
+/// text is told and the other as well, `verify` of the two is decided: status 0 and `accepted`. Up to 2^30 bytes, a
+/// core that it writes is DIMACS of the core's clauses, and `check` of what it writes with 5 as the formula and as the
+/// document is decided: 5, and `unfinished` with the number of learned clauses.
 pub fn extracted_law()
     ensures texts { ExtractedIsVerified }
     ensures accepted { ExtractedVerifiesAsAccepted }
     ensures unfinished { UnextractedChecksAsUnfinished }
 {}
 
-/// What is kept of a text is a function of the text, the class and the list of protected variables: two documents that are
-/// accepted for it have the same line of kept positions and the same clause lines, whoever made them; and so has what
-/// `reduce` writes, whatever the other options are.
+/// What is kept of a text is a function of the text, the class and the list of protected variables: two documents that
+/// are accepted for it have the same line of kept positions and the same clause lines, whoever made them; and so has
+/// what `reduce` writes, whatever the other options are.
 pub fn kept_law()
     ensures { KeptLaw }
 {}

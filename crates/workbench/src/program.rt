@@ -7,7 +7,8 @@ ghost use Rattle.lk_outside.specs.Causes.{HasCause, Rose};
 ghost use Rattle.command_words.specs.Lawful.{request_of};
 ghost use Rattle.command_endings.specs.Statuses.{code};
 ghost use Rattle.command_endings.specs.declared.status.Status.{Status as AnyStatus};
-ghost use Rattle.workbench.specs.Endings.{shelved, sunk, Allows, IsResult, Ends, IsCutOff, IsDecided, IsUnlessFailed, StopsAt, IsWell, ReadsNothing, TakesBoth, IsCutIn, EndsQuietly};
+ghost use Rattle.workbench.specs.Endings.{shelved, sunk, Allows, IsResult, Ends, IsCutOff, IsDecided, IsUnlessFailed};
+ghost use Rattle.workbench.specs.Endings.{StopsAt, IsWell, ReadsNothing, TakesBoth, IsCutIn, EndsQuietly};
 ghost use Rattle.command_inputs.specs.Inputs.{IsFailure};
 
 use crate::command;
@@ -26,15 +27,15 @@ use std::thread::Threads;
 /// and 20 holds of some formula, document, model, answer or edits, and of 2 nothing is said.
 ///
 /// - 0: the result stands on `out`, and `say` has nothing. Of `reduce`, the text that was read spells a formula F,
-///   and `out` has a document with kept clauses K and an assignment φ. K is the largest subset of F that is lean for
-///   the class under the protected variables; φ is an autarky of the class on F, sets none of them and touches
-///   exactly the clauses of F outside K; a model of K, overridden by φ, is one of F; the checks accept the document.
-///   Of `check` the document is accepted, and so all this holds of it, whoever made it. Of `extend` it is the line of
-///   a model of the formula; of `report` nine numbers of the formula; of `demo` six lines on the formula of a number.
-///   Of `verify` the answer is accepted: its literals satisfy the formula, or this has no model, and a core is minimally
-///   unsatisfiable. Of `deficiency` it is the greatest number of clauses less occurring variables, with what shows it. Of
-///   `edits` these are the matching kernels of the formula and of what is live behind each edit. Of `mus` it is a
-///   minimally unsatisfiable core of the formula that was read, within the general kernel, with what shows it.
+/// and `out` has a document with kept clauses K and an assignment φ. K is the largest subset of F that is lean for the
+/// class under the protected variables; φ is an autarky of the class on F, sets none of them and touches exactly the
+/// clauses of F outside K; a model of K, overridden by φ, is one of F; the checks accept the document. Of `check` the
+/// document is accepted, and so all this holds of it, whoever made it. Of `extend` it is the line of a model of the
+/// formula; of `report` nine numbers of the formula; of `demo` six lines on the formula of a number. Of `verify` the
+/// answer is accepted: its literals satisfy the formula, or this has no model, and a core is minimally unsatisfiable.
+/// Of `deficiency` it is the greatest number of clauses less occurring variables, with what shows it. Of `edits` these
+/// are the matching kernels of the formula and of what is live behind each edit. Of `mus` it is a minimally
+/// unsatisfiable core of the formula that was read, within the general kernel, with what shows it.
 /// - 1: the command line is not valid. `say` has the number of the refused word.
 /// - 2: an input is outside its grammar, and those before it are within theirs. `say` has the line of its first
 ///   fault, and of a formula and of edits the kind.
@@ -68,21 +69,24 @@ pub fn run<R: Threads + Sync, H: Shelf, O: Sink, E: Sink, G: Gate>(
 ) -> u8
     // With each status but 4 the sinks took the texts of an ending that the words and the inputs allow.
     ensures ended { result ≢ 4 → Ends (map (λ w. w.now) words.now)
-        (shelved (H.told shelf.old) (H.faults shelf.old) (H.faults shelf.new) (H.ailing shelf.new) (H.current shelf.new))
+        (shelved (H.told shelf.old) (H.faults shelf.old) (H.faults shelf.new) (H.ailing shelf.new)
+        (H.current shelf.new))
         (sunk (O.written out.old) (O.written out.new) (O.faults out.old) (O.faults out.new))
         (sunk (E.written say.old) (E.written say.new) (E.faults say.old) (E.faults say.new))
         result }
 
     // With 4 a sink failed before it took its whole text of such an ending; where it was `out`, `say` is as it was.
     ensures cut { result ≡ 4 → IsCutOff (map (λ w. w.now) words.now)
-        (shelved (H.told shelf.old) (H.faults shelf.old) (H.faults shelf.new) (H.ailing shelf.new) (H.current shelf.new))
+        (shelved (H.told shelf.old) (H.faults shelf.old) (H.faults shelf.new) (H.ailing shelf.new)
+        (H.current shelf.new))
         (sunk (O.written out.old) (O.written out.new) (O.faults out.old) (O.faults out.new))
         (sunk (E.written say.old) (E.written say.new) (E.faults say.old) (E.faults say.new))
         (out.new ≡ out.old) (say.new ≡ say.old) }
 
-    // Where words and told inputs decide the status, it is that one; or 3, and the shelf's count of faults rose; or 4, and
-    // a sink's did; or 9.
-    ensures complete { (status : AnyStatus) → IsDecided (request_of (map (λ w. w.now) words.now)) (H.told shelf.old) status →
+    // Where words and told inputs decide the status, it is that one; or 3, and the shelf's count of faults rose; or 4,
+    // and a sink's did; or 9.
+    ensures complete { (status : AnyStatus) →
+        IsDecided (request_of (map (λ w. w.now) words.now)) (H.told shelf.old) status →
         IsUnlessFailed result status (Rose (H.faults shelf.old) (H.faults shelf.new))
         (Rose (O.faults out.old) (O.faults out.new) ⊎ Rose (E.faults say.old) (E.faults say.new)) }
 
@@ -91,7 +95,8 @@ pub fn run<R: Threads + Sync, H: Shelf, O: Sink, E: Sink, G: Gate>(
 
     // A text of such an ending that is empty leaves its sink as a whole as it was.
     ensures quiet { result ≢ 4 → EndsQuietly (map (λ w. w.now) words.now)
-        (shelved (H.told shelf.old) (H.faults shelf.old) (H.faults shelf.new) (H.ailing shelf.new) (H.current shelf.new))
+        (shelved (H.told shelf.old) (H.faults shelf.old) (H.faults shelf.new) (H.ailing shelf.new)
+        (H.current shelf.new))
         (sunk (O.written out.old) (O.written out.new) (O.faults out.old) (O.faults out.new))
         (sunk (E.written say.old) (E.written say.new) (E.faults say.old) (E.faults say.new))
         result (out.new ≡ out.old) (say.new ≡ say.old) }
@@ -117,7 +122,8 @@ fn ending<R: Threads + Sync, H: Shelf, G: Gate>(
     gate: &G,
 ) -> Result<Ending, OutOfMemory>
     ensures allowed { IfOk result (λ e. Allows (map (λ w. w.now) words.now)
-        (shelved (H.told shelf.old) (H.faults shelf.old) (H.faults shelf.new) (H.ailing shelf.new) (H.current shelf.new))
+        (shelved (H.told shelf.old) (H.faults shelf.old) (H.faults shelf.new) (H.ailing shelf.new)
+        (H.current shelf.new))
         e.status e.written.items e.said.items) }
     ensures well { IfOk result (λ e. IsWell e.status (request_of (map (λ w. w.now) words.now)) (H.ailing shelf.new)) }
     ensures decided { IfOk result (λ e. (status : AnyStatus) →
@@ -145,7 +151,8 @@ fn perform<R: Threads + Sync, H: Shelf, G: Gate>(
     ensures stop { IfErr result
         (StopsAt (map (λ w. w.now) words.now) (H.told shelf.old) (H.ailing shelf.new) (H.current shelf.new)) }
     ensures cause { HasCause (H.faults shelf.old) (H.faults shelf.new) (IsErrAnd result (λ s. s ≡ Stop.Read)) }
-    ensures well { IsTrue (H.ailing shelf.new) → ReadsNothing (request_of (map (λ w. w.now) words.now)) ⊎ IsErrAnd result IsFailure }
+    ensures well { IsTrue (H.ailing shelf.new) → ReadsNothing (request_of (map (λ w. w.now) words.now)) ⊎
+        IsErrAnd result IsFailure }
     ensures untouched { ReadsNothing (request_of (map (λ w. w.now) words.now)) → shelf.new ≡ shelf.old }
 {
     match request_of(words) {

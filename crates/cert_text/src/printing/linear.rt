@@ -1,5 +1,5 @@
 //! The lines of the class linear.
-ghost use Rattle.std.specs.Prelude.{◌≡◌, ◌++◌, ◌∷◌, [], OnOk, map};
+ghost use Rattle.std.specs.Prelude.{◌≡◌, ◌++◌, OnOk, map};
 ghost use Rattle.std.specs.List.{flat_map};
 ghost use Rattle.lk_model.specs.Texts.PlainText.{line};
 ghost use Rattle.lk_model.specs.Documents.Text.{class_lines, dual_line, stage_line, unit_line};

@@ -36,8 +36,8 @@ pub record IsCheckedSize (F : Cnf) (size : ℕ) : Type 0 where
   pub budget : AreWithinBudget no_variable F conflicts (rounds_in document.body)
 
 -- the rows before the verdict
-abbrev pub rows_of : ℕ → ℕ → ℕ → List Row
-rows_of number matching general =
+abbrev pub demo_rows : ℕ → ℕ → ℕ → List Row
+demo_rows number matching general =
     row (codes "demo") number
     ∷ row (codes "variables") 2200
     ∷ row (codes "clauses") 6400
@@ -53,7 +53,7 @@ pub record WritesDemo (number : ℕ) (written : List ℕ) : Type 0 where
   pub matching_is : IsKernelSize Matching (demo_formula number) matching
   pub general_is : IsKernelSize General (demo_formula number) general
   pub checked : IsCheckedSize (demo_formula number) general
-  pub written_is : written ≡ flat_map row_line (rows_of number matching general) ++ line (verdict_words Accepted)
+  pub written_is : written ≡ flat_map row_line (demo_rows number matching general) ++ line (verdict_words Accepted)
 
 -- It writes these rows, or the text of an unfinished document of the formula that has learned as many clauses as it may.
 abbrev pub Answers : ℕ → Status → List ℕ → List ℕ → Type 0

@@ -40,8 +40,8 @@ abbrev pub row_line : Row → List ℕ
 row_line r = line (r.word ∷ decimal r.number ∷ [])
 
 -- the nine rows, of which the last two tell the sizes of kernels
-abbrev pub rows_of : Cnf → ℕ → ℕ → List Row
-rows_of F pure matching =
+abbrev pub report_rows : Cnf → ℕ → ℕ → List Row
+report_rows F pure matching =
     row (codes "variables") F.vars
     ∷ row (codes "occurring") (occurring_count F)
     ∷ row (codes "clauses") (length F.clauses)
@@ -59,7 +59,7 @@ pub record WritesReport (F : Cnf) (written : List ℕ) : Type 0 where
   pub matching : ℕ
   pub pure_is : IsKernelSize Pure F pure
   pub matching_is : IsKernelSize Matching F matching
-  pub written_is : written ≡ flat_map row_line (rows_of F pure matching)
+  pub written_is : written ≡ flat_map row_line (report_rows F pure matching)
 
 -- It writes the numbers of the formula.
 pub record Answers (F : Cnf) (status : Status) (written said : List ℕ) : Type 0 where

@@ -14,7 +14,7 @@ use Rattle.lk_model.proofs.Crossings.{formula_form}
 use Rattle.lk_model.proofs.ListTests.{passing, passes_among}
 use Rattle.lk_model.proofs.Counting.{Differ-filter, Differ-range, fewer}
 use Rattle.kernel_laws.specs.KernelLaw.{HasKernel}
-use Rattle.kernel_laws.proofs.Autarkies.{untouched_by}
+use Rattle.kernel_laws.proofs.Autarkies.{untouched_by, untouched_in}
 use Rattle.kernel_laws.proofs.Occurrences.{in_positions}
 use Rattle.kernel_laws.proofs.KernelLaws.{list_of, in_list, from_list, kernel_of}
 use Rattle.kernel_laws.proofs.Protected.Autarkies.{autarky_law}
@@ -113,27 +113,23 @@ record IsLargestLean (class : Class) (F : Cnf) : Type 0 where
   lean : IsLean class F positions
   largest : (T : Positions) → Within T (all_of F) → IsLean class F T → Within T positions
 
--- the positions that an assignment does not touch
-left_by : Cnf → Positions → Assignment → Positions
-left_by F S φ p = S p && not (touches φ (clause_at F p))
-
--- there are fewer of them
+-- what an assignment does not touch is less, if it touches something
 left_fewer : (class : Class) (F : Cnf) (S : Positions) → Within S (all_of F) → (w : IsNotLean class F S)
-    → length (list_of F (left_by F S w.φ)) + 1 ≤ length (list_of F S)
-unfolding left_by
+    → length (list_of F (untouched_in F S w.φ)) + 1 ≤ length (list_of F S)
+unfolding untouched_in
 left_fewer class F S within w =
-    fewer (λ p. p) (filter (left_by F S w.φ) (positions_of F)) (filter S (positions_of F)) w.position (Differ-filter (left_by F S w.φ) (positions_of F) (Differ-range 1 (length F.clauses)))
-    (record { into = λ p m. in_list F S p within (and_true (S p) (not (touches w.φ (clause_at F p))) (from_list F (left_by F S w.φ) p m)).0; one = λ p q m k e. e })
+    fewer (λ p. p) (filter (untouched_in F S w.φ) (positions_of F)) (filter S (positions_of F)) w.position (Differ-filter (untouched_in F S w.φ) (positions_of F) (Differ-range 1 (length F.clauses)))
+    (record { into = λ p m. in_list F S p within (and_true (S p) (not (touches w.φ (clause_at F p))) (from_list F (untouched_in F S w.φ) p m)).0; one = λ p q m k e. e })
     (in_list F S w.position within w.there)
     (λ p m e. both_ways (touches w.φ (clause_at F p))
-    (not-true (touches w.φ (clause_at F p)) (and_true (S p) (not (touches w.φ (clause_at F p))) (from_list F (left_by F S w.φ) p m)).1)
+    (not-true (touches w.φ (clause_at F p)) (and_true (S p) (not (touches w.φ (clause_at F p))) (from_list F (untouched_in F S w.φ) p m)).1)
     (subst (λ (q : ℕ). touches w.φ (clause_at F q) ≡ true) (sym e) w.touched))
 
 -- from a set in which all lean sets lie, until none of it is touched
 largest_in : (class : Class) (F : Cnf) → is_formula F ≡ true → DecidesAutarkies class F → (n : ℕ) (S : Positions)
     → Within S (all_of F)
     → ((T : Positions) → Within T (all_of F) → IsLean class F T → Within T S) → length (list_of F S) ≤ n → IsLargestLean class F
-unfolding left_by
+unfolding untouched_in
 largest_in class F form decides zero S within all few = elim (lean_or_not class F S form within decides) [
   | inr lean ↦ record { positions = S; within = within; lean = lean; largest = all }
   | inl w ↦ (let less = left_fewer class F S within w in absurd (omega (arith, less, few)))
@@ -141,7 +137,7 @@ largest_in class F form decides zero S within all few = elim (lean_or_not class 
 largest_in class F form decides (suc n) S within all few = elim (lean_or_not class F S form within decides) [
   | inr lean ↦ record { positions = S; within = within; lean = lean; largest = all }
   | inl w ↦ (let less = left_fewer class F S within w in
-      largest_in class F form decides n (left_by F S w.φ) (λ p e. within p (and_true (S p) (not (touches w.φ (clause_at F p))) e).0)
+      largest_in class F form decides n (untouched_in F S w.φ) (λ p e. within p (and_true (S p) (not (touches w.φ (clause_at F p))) e).0)
       (λ T inside lean p there. and_from (S p) (not (touches w.φ (clause_at F p))) (all T inside lean p there)
       (not_from_false (touches w.φ (clause_at F p)) (false_from_ne_true _ (λ t.
       untouched_by class F S T w.φ (all T inside lean) w.autarky lean p there t))))

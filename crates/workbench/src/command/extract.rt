@@ -12,8 +12,8 @@ use command_words::{Command, Options};
 use lk_outside::Shelf;
 use std::alloc::Global;
 
-/// Writes a minimally unsatisfiable core of the formula under a name, or a model, or the unfinished document of a search
-/// that used up its budget.
+/// Writes a minimally unsatisfiable core of the formula under a name, or a model, or the unfinished document of a
+/// search that used up its budget.
 pub(crate) fn perform<H: Shelf>(
     alloc: Global,
     shelf: &mut H,
@@ -22,7 +22,8 @@ pub(crate) fn perform<H: Shelf>(
 ) -> Result<Ending, Stop>
     requires names { length names.now ≡ length (inputs_of Command.Mus) }
     ensures { Performs (request_for Command.Mus (map (λ w. w.now) names.now) options.now)
-        (shelved (H.told shelf.old) (H.faults shelf.old) (H.faults shelf.new) (H.ailing shelf.new) (H.current shelf.new))
+        (shelved (H.told shelf.old) (H.faults shelf.old) (H.faults shelf.new) (H.ailing shelf.new)
+        (H.current shelf.new))
         result }
 {
     let formula = read_formula(alloc, shelf, names[0])?;

@@ -22,7 +22,8 @@ pub(crate) fn perform_pure<H: Shelf>(
 ) -> Result<Ending, Stop>
     requires names { length names.now ≡ length (inputs_of Command.ReducePure) }
     ensures { Performs (request_for Command.ReducePure (map (λ w. w.now) names.now) options.now)
-        (shelved (H.told shelf.old) (H.faults shelf.old) (H.faults shelf.new) (H.ailing shelf.new) (H.current shelf.new))
+        (shelved (H.told shelf.old) (H.faults shelf.old) (H.faults shelf.new) (H.ailing shelf.new)
+        (H.current shelf.new))
         result }
 {
     let formula = read_formula(alloc, shelf, names[0])?;
@@ -40,7 +41,8 @@ pub(crate) fn perform_matching<R: Threads + Sync, H: Shelf, G: Gate>(
 ) -> Result<Ending, Stop>
     requires names { length names.now ≡ length (inputs_of Command.ReduceMatching) }
     ensures { Performs (request_for Command.ReduceMatching (map (λ w. w.now) names.now) options.now)
-        (shelved (H.told shelf.old) (H.faults shelf.old) (H.faults shelf.new) (H.ailing shelf.new) (H.current shelf.new))
+        (shelved (H.told shelf.old) (H.faults shelf.old) (H.faults shelf.new) (H.ailing shelf.new)
+        (H.current shelf.new))
         result }
 {
     let formula = read_formula(alloc, shelf, names[0])?;
@@ -57,7 +59,8 @@ pub(crate) fn perform_linear<H: Shelf>(
 ) -> Result<Ending, Stop>
     requires names { length names.now ≡ length (inputs_of Command.ReduceLinear) }
     ensures { Performs (request_for Command.ReduceLinear (map (λ w. w.now) names.now) options.now)
-        (shelved (H.told shelf.old) (H.faults shelf.old) (H.faults shelf.new) (H.ailing shelf.new) (H.current shelf.new))
+        (shelved (H.told shelf.old) (H.faults shelf.old) (H.faults shelf.new) (H.ailing shelf.new)
+        (H.current shelf.new))
         result }
 {
     let formula = read_formula(alloc, shelf, names[0])?;

@@ -25,7 +25,8 @@ pub(crate) fn perform<R: Threads + Sync, H: Shelf, G: Gate>(
 ) -> Result<Ending, Stop>
     requires names { length names.now ≡ length (inputs_of Command.ReduceGeneral) }
     ensures { Performs (request_for Command.ReduceGeneral (map (λ w. w.now) names.now) options.now)
-        (shelved (H.told shelf.old) (H.faults shelf.old) (H.faults shelf.new) (H.ailing shelf.new) (H.current shelf.new))
+        (shelved (H.told shelf.old) (H.faults shelf.old) (H.faults shelf.new) (H.ailing shelf.new)
+        (H.current shelf.new))
         result }
 {
     let formula = read_formula(alloc, shelf, names[0])?;

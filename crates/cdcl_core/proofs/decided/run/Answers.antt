@@ -10,17 +10,17 @@ assign_next-requires-clause-search c = search_forced c.args.over.now c.turns.sea
 
 pub turns-smaller-else-not-branch : goal.turns-smaller-else-not-branch
 turns-smaller-else-not-branch c =
-    less_assigned c.args.over.now c.args.left c.turns.search c.assign_next.new.self c.propagate.new.self c.propagate.ensures.goes_on c.in_ok-assign_next-in-Quiet.ensures.search
+    less_assigned c.args.over.now c.args.budget c.turns.search c.assign_next.new.self c.propagate.new.self c.propagate.ensures.goes_on c.in_ok-assign_next-in-Quiet.ensures.search
     c.assign_next.ensures.log c.in_ok-assign_next-in-Quiet.ensures.vars (c.in_ok-assign_next-in-Quiet.ensures.more c.if-not-branch.false)
 
 pub refute-requires-clause-search : goal.refute-requires-clause-search
 refute-requires-clause-search c = search_forced c.args.over.now c.turns.search c.propagate.new.self c.turns.invariant.search c.propagate.ensures.goes_on c.propagate.ensures.held
 
-pub returns-then-len-left : goal.returns-then-len-left
-returns-then-len-left c =
+pub returns-then-len-budget : goal.returns-then-len-budget
+returns-then-len-budget c =
     let h = c.turns.invariant.search in
     let forced = search_forced c.args.over.now c.turns.search c.propagate.new.self h c.propagate.ensures.goes_on c.propagate.ensures.held in
-    let all : length c.turns.search.log.steps ≡ c.args.left = sym c.len.ensures.count ∙ c.if-len-left.true in
+    let all : length c.turns.search.log.steps ≡ c.args.budget = sym c.len.ensures.count ∙ c.if-len-budget.true in
     record {
       decided = record {
         numbered = c.turns.invariant.first;

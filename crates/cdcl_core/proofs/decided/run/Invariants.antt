@@ -7,8 +7,8 @@ abbrev pub invariant-turns : goal.invariant-turns
 invariant-turns l = record {
   search : IsSearch l.over l.search;
   first : l.search.log.first ≡ l.fn.search.log.first;
-  most : length l.search.log.steps ≤ l.left;
+  most : length l.search.log.steps ≤ l.budget;
 }
 
 abbrev pub decreases-turns : goal.decreases-turns
-decreases-turns l = remaining l.left l.search
+decreases-turns l = remaining l.budget l.search

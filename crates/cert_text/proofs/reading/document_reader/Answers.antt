@@ -1,4 +1,4 @@
-use Rattle.cert_text.proofs.ReadLaws.{reads_nothing, can_begin, reads_documents}
+use Rattle.cert_text.proofs.ReadLaws.{can_begin, reads_documents}
 use Rattle.cert_text.proofs.reading.document_reader.Goals as goal
 
 pub returns-clause-completed : goal.returns-clause-completed

@@ -3,7 +3,8 @@ use Rattle.std.specs.List.{list_all}
 use Rattle.std.proofs.lemmas.List.{get_or_default}
 use Rattle.lk_model.specs.Formulas.Literal.{is_literal}
 use Rattle.lk_model.specs.declared.document.Step.{Step}
-use Rattle.check_rounds.proofs.ChainChecks.{step_back, step_none, step_past, step_form, step_literals}
+use Rattle.lk_model.proofs.Rounds.{step_literals}
+use Rattle.check_rounds.proofs.ChainChecks.{step_back, step_none, step_past, step_form}
 use Rattle.check_rounds.proofs.chains.earlier.Goals as goal
 
 pub returns-then-k-number-clause-none : goal.returns-then-k-number-clause-none

@@ -3,9 +3,10 @@ use Rattle.std.specs.List.{list_all}
 use Rattle.lk_model.specs.Formulas.Literal.{is_literal, is_same_set}
 use Rattle.lk_model.specs.Chains.Chain.{chain_clause, states_its_clause}
 use Rattle.lk_model.specs.declared.document.Step.{Step}
+use Rattle.lk_model.proofs.Rounds.{step_literals}
 use Rattle.check_rounds.specs.declared.work.Work.{Work}
 use Rattle.check_rounds.specs.Chains.{IsMade, IsWork, premises_at}
-use Rattle.check_rounds.proofs.ChainChecks.{made_none, made_some, some_work, stated_is, unstated_is, one_step, step_form, step_literals}
+use Rattle.check_rounds.proofs.ChainChecks.{made_none, made_some, some_work, stated_is, unstated_is, one_step, step_form}
 use Rattle.check_rounds.proofs.WorkSets.{listed_within}
 use Rattle.check_rounds.proofs.chains.states_its_clause.Goals as goal
 use Rattle.check_rounds.proofs.chains.states_its_clause.Goals.{then-is_made, else-is_made}

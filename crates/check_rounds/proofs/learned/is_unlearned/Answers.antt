@@ -2,10 +2,11 @@ use Rattle.std.proofs.Common.{◌≡◌, ◌∙◌, ◌||◌, List, ℤ, [], tru
 use Rattle.std.specs.List.{list_all, list_any}
 use Rattle.lk_model.specs.Formulas.Literal.{is_literal, complement}
 use Rattle.lk_model.specs.declared.document.Step.{Step}
+use Rattle.lk_model.proofs.Rounds.{step_literals}
 use Rattle.check_tables.specs.LiteralSets.{IsSetOf, has_literal}
 use Rattle.check_rounds.specs.Index.{list_of}
 use Rattle.check_rounds.specs.Learned.{is_clause_within, is_step_within}
-use Rattle.check_rounds.proofs.ChainChecks.{step_form, step_literals, one_step}
+use Rattle.check_rounds.proofs.ChainChecks.{step_form, one_step}
 use Rattle.check_tables.proofs.LiteralSetLemmas.{all_within, all_less}
 use Rattle.check_rounds.proofs.LearnedChecks.{unlearned_is}
 use Rattle.check_rounds.proofs.learned.is_unlearned.Goals as goal

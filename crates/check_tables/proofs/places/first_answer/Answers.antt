@@ -1,4 +1,4 @@
-use Rattle.std.proofs.Common.{◌≡◌, ◌∙◌, ◌+◌, ◌∷◌, drop, sym, ap, Ok, Option}
+use Rattle.std.proofs.Common.{◌∙◌, ◌+◌, ◌∷◌, drop, sym, ap, Ok}
 use Rattle.std.proofs.lemmas.List.{drop_all}
 use Rattle.lk_model.proofs.Lists.{drop_read}
 use Rattle.check_tables.specs.Places.{first_answer}

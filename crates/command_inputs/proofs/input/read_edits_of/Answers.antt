@@ -9,10 +9,10 @@ returns-in_err-start_text-clause-cause g c =
     rw (p.1, p.2) c.in_err-start_text.ensures.cause
 
 pub returns-clause-edits : goal.returns-clause-edits
-returns-clause-edits g c = rw (← c.in_ok-start_text.ensures.left) c.read_started_edits.ensures.edits
+returns-clause-edits g c = rw (← c.in_ok-start_text.ensures.unread) c.read_started_edits.ensures.edits
 
 pub returns-clause-stop : goal.returns-clause-stop
-returns-clause-stop g c = rw (← c.in_ok-start_text.ensures.left) c.read_started_edits.ensures.stop
+returns-clause-stop g c = rw (← c.in_ok-start_text.ensures.unread) c.read_started_edits.ensures.stop
 
 pub returns-clause-cause : goal.returns-clause-cause
 returns-clause-cause g c = Cause-then _ _ _ c.in_ok-start_text.ensures.cause c.read_started_edits.ensures.cause

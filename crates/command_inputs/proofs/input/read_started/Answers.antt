@@ -9,15 +9,15 @@ use Rattle.command_inputs.proofs.input.read_started.Goals as goal
 pub returns-in_err-finish-clause-stop : goal.returns-in_err-finish-clause-stop
 returns-in_err-finish-clause-stop g c =
     let p = err_from_is_err_and c.from_residual-in_err-finish.result c.from_residual-in_err-finish.ensures.1 in
-    rw (p.1, p.2) (stops_at_end (g.H.Shelf.left c.args.shelf.now) (g.H.Shelf.left c.pieces.shelf) c.pieces.invariant.fed (g.H.Shelf.ailing c.read_piece.new.shelf) c.in_err-finish.field-0.0 c.pieces.invariant.taken.consumed
+    rw (p.1, p.2) (stops_at_end (g.H.Shelf.unread c.args.shelf.now) (g.H.Shelf.unread c.pieces.shelf) c.pieces.invariant.fed (g.H.Shelf.ailing c.read_piece.new.shelf) c.in_err-finish.field-0.0 c.pieces.invariant.taken.consumed
     (c.in_ok-count.ensures.bytes.1 c.if-count-eq0.true) (c.in_err-finish.ensures.cause c.pieces.invariant.fed c.pieces.invariant.been))
 
 pub returns-in_err-feed-clause-stop : goal.returns-in_err-feed-clause-stop
 returns-in_err-feed-clause-stop g c =
-    let left = g.H.Shelf.left in
+    let unread = g.H.Shelf.unread in
     let p = err_from_is_err_and c.from_residual-in_err-feed.result c.from_residual-in_err-feed.ensures.1 in
-    let fed = Consumes-trans (left c.args.shelf.now) (left c.pieces.shelf) (left c.read_piece.new.shelf) c.pieces.invariant.fed _ c.pieces.invariant.taken.consumed c.in_ok-count.ensures.bytes.0 in
-    rw (p.1, p.2) (stops_in_midst (left c.args.shelf.now) (left c.read_piece.new.shelf) _ (g.H.Shelf.ailing c.read_piece.new.shelf) c.in_err-feed.field-0.0 fed (c.in_err-feed.ensures.cause c.pieces.invariant.fed c.pieces.invariant.been))
+    let fed = Consumes-trans (unread c.args.shelf.now) (unread c.pieces.shelf) (unread c.read_piece.new.shelf) c.pieces.invariant.fed _ c.pieces.invariant.taken.consumed c.in_ok-count.ensures.bytes.0 in
+    rw (p.1, p.2) (stops_in_midst (unread c.args.shelf.now) (unread c.read_piece.new.shelf) _ (g.H.Shelf.ailing c.read_piece.new.shelf) c.in_err-feed.field-0.0 fed (c.in_err-feed.ensures.cause c.pieces.invariant.fed c.pieces.invariant.been))
 
 pub returns-in_err-count-clause-told : goal.returns-in_err-count-clause-told
 returns-in_err-count-clause-told g c = Tells-then _ _ _ c.pieces.invariant.taken.tells c.in_err-count.ensures.told
@@ -33,7 +33,7 @@ returns-clause-told g c = Tells-then _ _ _ c.pieces.invariant.taken.tells c.in_o
 
 pub pieces-preserved : goal.pieces-preserved
 pieces-preserved g c =
-    let left = g.H.Shelf.left in
+    let unread = g.H.Shelf.unread in
     let was = c.pieces.invariant.taken in
     let read = c.in_ok-count.ensures in
     record {
@@ -41,7 +41,7 @@ pieces-preserved g c =
       been = c.in_ok-feed.ensures.ok c.pieces.invariant.fed c.pieces.invariant.been;
       taken = record {
         tells = Tells-then _ _ _ was.tells read.told;
-        consumed = Consumes-trans (left c.args.shelf.now) (left c.pieces.shelf) (left c.read_piece.new.shelf) c.pieces.invariant.fed _ was.consumed read.bytes.0;
+        consumed = Consumes-trans (unread c.args.shelf.now) (unread c.pieces.shelf) (unread c.read_piece.new.shelf) c.pieces.invariant.fed _ was.consumed read.bytes.0;
         open_text = read.started;
         same = read.current ∙ was.same;
         later = (let a = was.later in let b = read.cause in omega (arith, a, b.later));

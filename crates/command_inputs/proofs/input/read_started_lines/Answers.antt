@@ -7,10 +7,10 @@ use Rattle.command_inputs.proofs.input.read_started_lines.Goals as goal
 
 pub returns-in-Err-clause-read : goal.returns-in-Err-clause-read
 returns-in-Err-clause-read g c =
-    let left = g.H.Shelf.left in
+    let unread = g.H.Shelf.unread in
     let was = c.pieces.invariant in
-    let fed = Consumes-trans (left c.args.shelf.now) (left c.pieces.shelf) (left c.read_piece.new.shelf) was.fed _ was.taken.consumed c.in_ok-count.ensures.bytes.0 in
-    stops_in_midst (IsAdmitted (g.R.LineReader.completes c.args.reader)) (left c.args.shelf.now) (left c.read_piece.new.shelf) _ c.in-Err.stop fed (c.in-Err.ensures.stop c.args.reader was.fed was.been)
+    let fed = Consumes-trans (unread c.args.shelf.now) (unread c.pieces.shelf) (unread c.read_piece.new.shelf) was.fed _ was.taken.consumed c.in_ok-count.ensures.bytes.0 in
+    stops_in_midst (IsAdmitted (g.R.LineReader.completes c.args.reader)) (unread c.args.shelf.now) (unread c.read_piece.new.shelf) _ c.in-Err.stop fed (c.in-Err.ensures.stop c.args.reader was.fed was.been)
 
 pub returns-in_err-count-clause-told : goal.returns-in_err-count-clause-told
 returns-in_err-count-clause-told g c = Tells-then _ _ _ c.pieces.invariant.taken.tells c.in_err-count.ensures.told
@@ -23,7 +23,7 @@ returns-clause-told g c = Tells-then _ _ _ c.pieces.invariant.taken.tells c.in_o
 
 pub pieces-preserved : goal.pieces-preserved
 pieces-preserved g c =
-    let left = g.H.Shelf.left in
+    let unread = g.H.Shelf.unread in
     let was = c.pieces.invariant.taken in
     let read = c.in_ok-count.ensures in
     record {
@@ -31,7 +31,7 @@ pieces-preserved g c =
       been = c.in_default.ensures.fed c.args.reader c.pieces.invariant.fed c.pieces.invariant.been;
       taken = record {
         tells = Tells-then _ _ _ was.tells read.told;
-        consumed = Consumes-trans (left c.args.shelf.now) (left c.pieces.shelf) (left c.read_piece.new.shelf) c.pieces.invariant.fed _ was.consumed read.bytes.0;
+        consumed = Consumes-trans (unread c.args.shelf.now) (unread c.pieces.shelf) (unread c.read_piece.new.shelf) c.pieces.invariant.fed _ was.consumed read.bytes.0;
         open_text = read.started;
         same = read.current ∙ was.same;
         later = (let a = was.later in let b = read.cause in omega (arith, a, b.later));
@@ -50,7 +50,7 @@ pieces-smaller g c =
 pub returns-clause-read : goal.returns-clause-read
 returns-clause-read g c =
     let was = c.pieces.invariant in
-    read_at_end (g.R.LineReader.completes c.args.reader) (g.H.Shelf.left c.args.shelf.now) (g.H.Shelf.left c.pieces.shelf) was.fed c.finish.result was.taken.consumed
+    read_at_end (g.R.LineReader.completes c.args.reader) (g.H.Shelf.unread c.args.shelf.now) (g.H.Shelf.unread c.pieces.shelf) was.fed c.finish.result was.taken.consumed
     (c.in_ok-count.ensures.bytes.1 c.if-count-eq0.true) (c.finish.ensures.value c.args.reader was.fed was.been) (c.finish.ensures.stop c.args.reader was.fed was.been)
 
 pub pieces-init : goal.pieces-init
@@ -59,7 +59,7 @@ pieces-init g c = record {
   been = c.new-pieces.ensures;
   taken = record {
     tells = λ name. refl;
-    consumed = nothing_taken (g.H.Shelf.left c.args.shelf.now);
+    consumed = nothing_taken (g.H.Shelf.unread c.args.shelf.now);
     open_text = c.requires.started;
     same = refl;
     later = omega arith;

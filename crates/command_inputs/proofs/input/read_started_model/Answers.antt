@@ -7,10 +7,10 @@ use Rattle.command_inputs.proofs.input.read_started_model.Goals as goal
 
 pub returns-in-Err-clause-stop : goal.returns-in-Err-clause-stop
 returns-in-Err-clause-stop g c =
-    let left = g.H.Shelf.left in
+    let unread = g.H.Shelf.unread in
     let was = c.pieces.invariant in
-    let fed = Consumes-trans (left c.args.shelf.now) (left c.pieces.shelf) (left c.read_piece.new.shelf) was.fed _ was.taken.consumed c.in_ok-count.ensures.bytes.0 in
-    rw c.of_model.ensures (stops_in_midst c.args.formula.now (left c.args.shelf.now) (left c.read_piece.new.shelf) _ (g.H.Shelf.ailing c.read_piece.new.shelf) c.in-Err.stop fed
+    let fed = Consumes-trans (unread c.args.shelf.now) (unread c.pieces.shelf) (unread c.read_piece.new.shelf) was.fed _ was.taken.consumed c.in_ok-count.ensures.bytes.0 in
+    rw c.of_model.ensures (stops_in_midst c.args.formula.now (unread c.args.shelf.now) (unread c.read_piece.new.shelf) _ (g.H.Shelf.ailing c.read_piece.new.shelf) c.in-Err.stop fed
     (c.in-Err.ensures.stop c.args.formula.now.vars was.fed was.been))
 
 pub returns-in_err-count-clause-told : goal.returns-in_err-count-clause-told
@@ -21,7 +21,7 @@ returns-in-Err-clause-told g c = Tells-then _ _ _ c.pieces.invariant.taken.tells
 
 pub pieces-preserved : goal.pieces-preserved
 pieces-preserved g c =
-    let left = g.H.Shelf.left in
+    let unread = g.H.Shelf.unread in
     let was = c.pieces.invariant.taken in
     let read = c.in_ok-count.ensures in
     record {
@@ -29,7 +29,7 @@ pieces-preserved g c =
       been = c.in_default.ensures.fed c.args.formula.now.vars c.pieces.invariant.fed c.pieces.invariant.been;
       taken = record {
         tells = Tells-then _ _ _ was.tells read.told;
-        consumed = Consumes-trans (left c.args.shelf.now) (left c.pieces.shelf) (left c.read_piece.new.shelf) c.pieces.invariant.fed _ was.consumed read.bytes.0;
+        consumed = Consumes-trans (unread c.args.shelf.now) (unread c.pieces.shelf) (unread c.read_piece.new.shelf) c.pieces.invariant.fed _ was.consumed read.bytes.0;
         open_text = read.started;
         same = read.current ∙ was.same;
         later = (let a = was.later in let b = read.cause in omega (arith, a, b.later));
@@ -52,7 +52,7 @@ pieces-init g c = record {
   been = subst (λ (n : ℕ). HasBeenFed n [] c.in_ok-reader.reader) c.vars.ensures.value c.in_ok-reader.ensures;
   taken = record {
     tells = λ name. refl;
-    consumed = nothing_taken (g.H.Shelf.left c.args.shelf.now);
+    consumed = nothing_taken (g.H.Shelf.unread c.args.shelf.now);
     open_text = c.requires.started;
     same = refl;
     later = omega arith;
@@ -62,11 +62,11 @@ pieces-init g c = record {
 pub returns-in-Ok-clause-model : goal.returns-in-Ok-clause-model
 returns-in-Ok-clause-model g c =
     let was = c.pieces.invariant in
-    model_at_end (g.H.Shelf.left c.args.shelf.now) (g.H.Shelf.left c.pieces.shelf) was.fed c.args.formula.now c.in-Ok.model was.taken.consumed
+    model_at_end (g.H.Shelf.unread c.args.shelf.now) (g.H.Shelf.unread c.pieces.shelf) was.fed c.args.formula.now c.in-Ok.model was.taken.consumed
     (c.in_ok-count.ensures.bytes.1 c.if-count-eq0.true) (c.in-Ok.ensures.model c.args.formula.now.vars was.fed was.been)
 
 pub returns-in-Err-finish-clause-stop : goal.returns-in-Err-finish-clause-stop
 returns-in-Err-finish-clause-stop g c =
     let was = c.pieces.invariant in
-    rw c.of_model-in-Err-finish.ensures (stops_at_end c.args.formula.now (g.H.Shelf.left c.args.shelf.now) (g.H.Shelf.left c.pieces.shelf) was.fed (g.H.Shelf.ailing c.read_piece.new.shelf) c.in-Err-finish.stop was.taken.consumed
+    rw c.of_model-in-Err-finish.ensures (stops_at_end c.args.formula.now (g.H.Shelf.unread c.args.shelf.now) (g.H.Shelf.unread c.pieces.shelf) was.fed (g.H.Shelf.ailing c.read_piece.new.shelf) c.in-Err-finish.stop was.taken.consumed
     (c.in_ok-count.ensures.bytes.1 c.if-count-eq0.true) (c.in-Err-finish.ensures.stop c.args.formula.now.vars was.fed was.been))

@@ -4,4 +4,4 @@ use Rattle.command_words.proofs.Texts.{texts}
 use Rattle.command_words.proofs.options.given.Goals as goal
 
 pub unwrap-requires : goal.unwrap-requires
-unwrap-requires c = c.new.ensures.some.1 (rw c.number_in.ensures (conflicts_fit (value_behind conflicts.word (texts c.args.words.now))))
+unwrap-requires c = c.new.ensures.some.1 (rw c.option_number.ensures (conflicts_fit (value_behind conflicts.word (texts c.args.words.now))))

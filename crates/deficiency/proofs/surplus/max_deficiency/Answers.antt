@@ -5,7 +5,7 @@ use Rattle.lk_model.specs.declared.document.Own.{Own}
 use Rattle.bipartite_match.specs.Matchings.{IsMaximum}
 use Rattle.bipartite_match.specs.Walks.{IsReached}
 use Rattle.deficiency.specs.Deficiency.{pairs_of}
-use Rattle.deficiency.proofs.Attained.{IsFound, is_found, pairs_fit}
+use Rattle.deficiency.proofs.Attained.{IsAttained, is_attained, pairs_fit}
 use Rattle.deficiency.proofs.surplus.max_deficiency.Goals as goal
 
 pub left_of-requires : goal.left_of-requires
@@ -34,7 +34,7 @@ returns c =
     let most = subst (λ (ps : List ℕ). IsMaximum f ps m) (c.as_slice.ensures ∙ all) c.in_ok-m.ensures.maximum in
     let reached = subst (λ (ps : List ℕ). IsReached f ps m r) (c.as_slice-2.ensures ∙ all) c.in_ok-reached.ensures in
     let count = ap (λ (own : List Own). length own + c.left_of.result) (c.from_vec.ensures ∙ sym c.deref.ensures.value) ∙ c.left_of.ensures ∙ c.len.ensures.value in
-    let found : IsFound f r c.from_vec.result c.left_of.result = is_found c.reached_law.ensures f m r c.from_vec.result c.left_of.result c.len.ensures.formula c.len.ensures.limits rise most reached (c.from_vec.ensures ∙ is) count in
+    let found : IsAttained f r c.from_vec.result c.left_of.result = is_attained c.reached_law.ensures f m r c.from_vec.result c.left_of.result c.len.ensures.formula c.len.ensures.limits rise most reached (c.from_vec.ensures ∙ is) count in
     record {
       value = found.is_value;
       kept = found.is_kernel;

@@ -11,16 +11,16 @@ loop-preserved c =
     let g = c.loop.words in
     let done = c.loop.formula.clauses in
     let one = drawn_clause g in
-    let left = 6000 - (k + 1) in
+    let remaining = 6000 - (k + 1) in
     let grown : c.put.new.formula.clauses ≡ done ++ one ∷ [] =
     c.in_ok-put.ensures.value ∙ ap (λ (ls : List ℤ). done ++ ls ∷ []) (c.as_slice.ensures.value ∙ c.in_ok-clause.ensures.value) in
-    let next : 6000 - k ≡ suc left = omega arith in
-    let moved : (done ++ one ∷ []) ++ drawn_clauses left c.draw_clause.new.words ≡ done ++ drawn_clauses (6000 - k) g =
-    ap (λ (h : Lcg). (done ++ one ∷ []) ++ drawn_clauses left h) c.in_ok-clause.ensures.next
-    ∙ append_assoc done (one ∷ []) (drawn_clauses left (after_clause g))
-    ∙ ap (λ (cs : List (List ℤ)). done ++ cs) (sym (drawn_more (6000 - k) left g next)) in
+    let next : 6000 - k ≡ suc remaining = omega arith in
+    let moved : (done ++ one ∷ []) ++ drawn_clauses remaining c.draw_clause.new.words ≡ done ++ drawn_clauses (6000 - k) g =
+    ap (λ (h : Lcg). (done ++ one ∷ []) ++ drawn_clauses remaining h) c.in_ok-clause.ensures.next
+    ∙ append_assoc done (one ∷ []) (drawn_clauses remaining (after_clause g))
+    ∙ ap (λ (cs : List (List ℤ)). done ++ cs) (sym (drawn_more (6000 - k) remaining g next)) in
     record {
-      clauses = ap (λ (cs : List (List ℤ)). cs ++ drawn_clauses left c.draw_clause.new.words) grown ∙ moved ∙ c.loop.invariant.clauses;
+      clauses = ap (λ (cs : List (List ℤ)). cs ++ drawn_clauses remaining c.draw_clause.new.words) grown ∙ moved ∙ c.loop.invariant.clauses;
       size = omega (arith, ap (λ (cs : List (List ℤ)). length cs) grown, length-append done (one ∷ []), c.loop.invariant.size);
       small = c.in_ok-put.ensures.small;
     }

@@ -6,7 +6,7 @@ use Rattle.std.proofs.lemmas.List.Elements.{All-set}
 use Rattle.lk_model.specs.Lists.{up_to}
 use Rattle.lk_model.specs.Limits.{is_in_range}
 use Rattle.exact_rows.proofs.Quotients.{step_written, end_written}
-use Rattle.exact_pivot.specs.Staged.{row_in, number_in, signed_number}
+use Rattle.exact_pivot.specs.Staged.{row_in, number_in_row, signed_number}
 use Rattle.exact_pivot.proofs.Stagings.{number_at, numbers_long, entry_at}
 use Rattle.exact_pivot.proofs.stages.write_entries.Goals as goal
 
@@ -19,7 +19,7 @@ loop-j-preserved c =
     let m = c.args.clause_count in
     let r = length c.args.signs.now in
     let j = c.loop-j.j in
-    let f = number_in m c.args.rows.now c.args.row in
+    let f = number_in_row m c.args.rows.now c.args.row in
     let size = numbers_long c.args.signs.now f r ∙ sym c.requires.lengths in
     let here = entry_at (row_in c.args.rows.now c.args.row).entries m j (m + j + 1) c.entry_of-x.result refl c.entry_of-x.ensures.value in
     record {
@@ -31,6 +31,6 @@ loop-j-preserved c =
 pub returns-clause-value : goal.returns-clause-value
 returns-clause-value c =
     let r = length c.args.signs.now in
-    let f = number_in c.args.clause_count c.args.rows.now c.args.row in
+    let f = number_in_row c.args.clause_count c.args.rows.now c.args.row in
     let size = numbers_long c.args.signs.now f r ∙ sym c.requires.lengths in
     end_written (map (signed_number c.args.signs.now f) (up_to r)) c.args.numbers.now c.loop-j.numbers c.loop-j.j size (omega arith) c.loop-j.invariant.value

@@ -1,4 +1,4 @@
-use Rattle.std.proofs.Common.{◌≡◌, ◌∙◌, ℕ, ◌||◌, true, List, [], ◌∷◌, ◌++◌, Bool, length, refl, sym, ap, subst, arith}
+use Rattle.std.proofs.Common.{◌≡◌, ◌∙◌, ℕ, ◌||◌, true, List, [], ◌∷◌, ◌++◌, Bool, length, refl, sym, ap, subst}
 use Rattle.lk_model.specs.Formulas.Formula.{variable_occurs}
 use Rattle.lk_model.specs.Held.VariableSets.{is_in}
 use Rattle.lk_model.specs.declared.document.Step.{Step}
@@ -16,7 +16,7 @@ rounds-init c =
     let s = c.args.rounds.now in
     let b = c.requires.begun in
     record {
-      at = begins c.args.f.now c.args.part.now s.left s b.form b.limits b.first b.whole b.blocked b.next refl;
+      at = begins c.args.f.now c.args.part.now s.budget s b.form b.limits b.first b.whole b.blocked b.next refl;
       kept = c.requires.kept;
       within = c.requires.within;
     }
@@ -32,13 +32,13 @@ rounds-smaller-in-Some c =
     let e = c.in_ok-push_round.ensures in
     let b = c.in_ok-block.ensures in
     let r : UnitRefutation = c.in-Some.field-0 in
-    let turned = unit_turns c.args.f.now c.args.part.now c.args.rounds.now.left c.rounds.rounds _ r
+    let turned = unit_turns c.args.f.now c.args.part.now c.args.rounds.now.budget c.rounds.rounds _ r
     (record { over = _; refuted = answered _ _ _ r c.in_ok-round.ensures.answer c.in-Some.is; formula = refl; positions = refl; blocked = refl }) c.requires.most c.requires.part c.rounds.invariant.at
     (record {
       first = e.first;
       whole = e.whole;
       next = e.next;
-      left = e.left;
+      budget = e.budget;
       size = b.size ∙ ap (λ (bs : List Bool). length bs) e.blocked;
       blocked = λ v. b.vars v ∙ ap (λ (bs : List Bool). is_in bs v || variable_occurs c.args.f.now c.as_slice.result.now v) e.blocked
           ∙ ap (λ (ps : List ℕ). is_in c.rounds.rounds.blocked v || variable_occurs c.args.f.now ps v) c.as_slice.ensures;
@@ -50,13 +50,13 @@ rounds-preserved-in-Some c =
     let e = c.in_ok-push_round.ensures in
     let b = c.in_ok-block.ensures in
     let r : UnitRefutation = c.in-Some.field-0 in
-    let turned = unit_turns c.args.f.now c.args.part.now c.args.rounds.now.left c.rounds.rounds _ r
+    let turned = unit_turns c.args.f.now c.args.part.now c.args.rounds.now.budget c.rounds.rounds _ r
     (record { over = _; refuted = answered _ _ _ r c.in_ok-round.ensures.answer c.in-Some.is; formula = refl; positions = refl; blocked = refl }) c.requires.most c.requires.part c.rounds.invariant.at
     (record {
       first = e.first;
       whole = e.whole;
       next = e.next;
-      left = e.left;
+      budget = e.budget;
       size = b.size ∙ ap (λ (bs : List Bool). length bs) e.blocked;
       blocked = λ v. b.vars v ∙ ap (λ (bs : List Bool). is_in bs v || variable_occurs c.args.f.now c.as_slice.result.now v) e.blocked
           ∙ ap (λ (ps : List ℕ). is_in c.rounds.rounds.blocked v || variable_occurs c.args.f.now ps v) c.as_slice.ensures;
@@ -70,13 +70,13 @@ rounds-preserved-in-Some c =
 pub returns-then-is_covered : goal.returns-then-is_covered
 returns-then-is_covered c = (
   c.rounds.invariant.at.logs,
-  all_covered c.args.f.now c.args.part.now c.args.rounds.now.left c.rounds.rounds _ c.requires.part c.rounds.invariant.at c.in_ok-kept.ensures c.new-set.ensures refl
+  all_covered c.args.f.now c.args.part.now c.args.rounds.now.budget c.rounds.rounds _ c.requires.part c.rounds.invariant.at c.in_ok-kept.ensures c.new-set.ensures refl
       (covered_all c.args.f.now (is_in c.rounds.rounds.blocked) c.args.part.now (sym c.is_covered.ensures ∙ c.if-is_covered.true)),
 )
 
 pub returns-then-rounds-eq0 : goal.returns-then-rounds-eq0
 returns-then-rounds-eq0 c =
-    none_left c.args.f.now c.args.part.now c.args.rounds.now.left c.rounds.rounds _ c.new-steps.result c.requires.some c.rounds.invariant.at
+    none_left c.args.f.now c.args.part.now c.args.rounds.now.budget c.rounds.rounds _ c.new-steps.result c.requires.some c.rounds.invariant.at
     c.new-steps.ensures refl c.if-rounds-eq0.true
     (not_covered c.args.f.now (is_in c.rounds.rounds.blocked) c.args.part.now (sym c.is_covered.ensures ∙ c.if-is_covered.false))
 
@@ -92,13 +92,13 @@ rounds-smaller-in-Some-short c =
     let e = c.in_ok-push_round-2.ensures in
     let b = c.in_ok-block-2.ensures in
     let r : ShortRefutation = c.in-Some-short.field-0 in
-    let turned = short_turns c.args.f.now c.args.part.now c.args.rounds.now.left c.rounds.rounds _ r
+    let turned = short_turns c.args.f.now c.args.part.now c.args.rounds.now.budget c.rounds.rounds _ r
     (record { over = _; refuted = short_answered _ _ _ _ r c.in_ok-short.ensures c.in-Some-short.is; formula = refl; positions = refl; blocked = refl }) c.requires.most c.requires.part c.rounds.invariant.at
     (record {
       first = e.first;
       whole = e.whole;
       next = e.next;
-      left = e.left;
+      budget = e.budget;
       size = b.size ∙ ap (λ (bs : List Bool). length bs) e.blocked;
       blocked = λ v. b.vars v ∙ ap (λ (bs : List Bool). is_in bs v || variable_occurs c.args.f.now c.as_slice-in-Some-short.result.now v) e.blocked
           ∙ ap (λ (ps : List ℕ). is_in c.rounds.rounds.blocked v || variable_occurs c.args.f.now ps v) c.as_slice-in-Some-short.ensures;
@@ -110,13 +110,13 @@ rounds-preserved-in-Some-short c =
     let e = c.in_ok-push_round-2.ensures in
     let b = c.in_ok-block-2.ensures in
     let r : ShortRefutation = c.in-Some-short.field-0 in
-    let turned = short_turns c.args.f.now c.args.part.now c.args.rounds.now.left c.rounds.rounds _ r
+    let turned = short_turns c.args.f.now c.args.part.now c.args.rounds.now.budget c.rounds.rounds _ r
     (record { over = _; refuted = short_answered _ _ _ _ r c.in_ok-short.ensures c.in-Some-short.is; formula = refl; positions = refl; blocked = refl }) c.requires.most c.requires.part c.rounds.invariant.at
     (record {
       first = e.first;
       whole = e.whole;
       next = e.next;
-      left = e.left;
+      budget = e.budget;
       size = b.size ∙ ap (λ (bs : List Bool). length bs) e.blocked;
       blocked = λ v. b.vars v ∙ ap (λ (bs : List Bool). is_in bs v || variable_occurs c.args.f.now c.as_slice-in-Some-short.result.now v) e.blocked
           ∙ ap (λ (ps : List ℕ). is_in c.rounds.rounds.blocked v || variable_occurs c.args.f.now ps v) c.as_slice-in-Some-short.ensures;
@@ -130,8 +130,8 @@ rounds-preserved-in-Some-short c =
 pub returns-in-Sat : goal.returns-in-Sat
 returns-in-Sat c = (
   c.rounds.invariant.at.logs,
-  model_ends c.args.f.now c.args.part.now c.args.rounds.now.left c.rounds.rounds c.in_ok-values.field-0 c.in-Sat.values _
-      (record { over = _; decided = c.in_ok-values.ensures; formula = refl; positions = refl; blocked = refl }) c.in-Sat.is c.requires.part c.rounds.invariant.at
+  model_ends c.args.f.now c.args.part.now c.args.rounds.now.budget c.rounds.rounds c.in_ok-values.field-0 c.in-Sat.values _
+      (record { over = _; decided = c.in_ok-values.ensures.decided; formula = refl; positions = refl; blocked = refl }) c.in-Sat.is c.requires.part c.rounds.invariant.at
       c.in_ok-kept-in-Sat.ensures c.in_ok-set-in-Sat.ensures refl,
 )
 
@@ -142,8 +142,8 @@ block-requires-in-Refuted-clause-positions c =
 
 pub returns-in-Stopped : goal.returns-in-Stopped
 returns-in-Stopped c =
-    stops c.args.f.now c.args.part.now c.args.rounds.now.left c.rounds.rounds _ c.in_ok-values.field-0 c.in-Stopped.log
-    (record { over = _; decided = c.in_ok-values.ensures; formula = refl; positions = refl; blocked = refl }) c.in-Stopped.is c.requires.part c.requires.some c.requires.most c.rounds.invariant.at
+    stops c.args.f.now c.args.part.now c.args.rounds.now.budget c.rounds.rounds _ c.in_ok-values.field-0 c.in-Stopped.log
+    (record { over = _; decided = c.in_ok-values.ensures.decided; formula = refl; positions = refl; blocked = refl }) c.in-Stopped.is c.requires.part c.requires.some c.requires.most c.rounds.invariant.at
     (ap (λ (us : List Step). c.rounds.rounds.whole ++ record { steps = us } ∷ []) c.in_ok-into_round-in-Stopped.ensures.steps)
     (not_covered c.args.f.now (is_in c.rounds.rounds.blocked) c.args.part.now (sym c.is_covered.ensures ∙ c.if-is_covered.false))
 
@@ -151,13 +151,13 @@ pub rounds-smaller : goal.rounds-smaller
 rounds-smaller c =
     let e = c.in_ok-push-in-Refuted.ensures in
     let b = c.in_ok-block-in-Refuted.ensures in
-    let turned = turns c.args.f.now c.args.part.now c.args.rounds.now.left c.rounds.rounds _ c.in_ok-values.field-0 c.in-Refuted.log
-    (record { over = _; decided = c.in_ok-values.ensures; formula = refl; positions = refl; blocked = refl }) c.in-Refuted.is c.requires.most c.requires.part c.rounds.invariant.at
+    let turned = turns c.args.f.now c.args.part.now c.args.rounds.now.budget c.rounds.rounds _ c.in_ok-values.field-0 c.in-Refuted.log
+    (record { over = _; decided = c.in_ok-values.ensures.decided; formula = refl; positions = refl; blocked = refl }) c.in-Refuted.is c.requires.most c.requires.part c.rounds.invariant.at
     (record {
       first = e.first;
       whole = e.whole;
       next = e.next;
-      left = e.left;
+      budget = e.budget;
       size = b.size ∙ ap (λ (bs : List Bool). length bs) e.blocked;
       blocked = λ v. b.vars v ∙ ap (λ (bs : List Bool). is_in bs v || variable_occurs c.args.f.now c.as_slice-in-Refuted.result.now v) e.blocked
           ∙ ap (λ (ps : List ℕ). is_in c.rounds.rounds.blocked v || variable_occurs c.args.f.now ps v) (c.as_slice-in-Refuted.ensures ∙ c.in_ok-used-in-Refuted.ensures);
@@ -168,13 +168,13 @@ pub rounds-preserved : goal.rounds-preserved
 rounds-preserved c =
     let e = c.in_ok-push-in-Refuted.ensures in
     let b = c.in_ok-block-in-Refuted.ensures in
-    let turned = turns c.args.f.now c.args.part.now c.args.rounds.now.left c.rounds.rounds _ c.in_ok-values.field-0 c.in-Refuted.log
-    (record { over = _; decided = c.in_ok-values.ensures; formula = refl; positions = refl; blocked = refl }) c.in-Refuted.is c.requires.most c.requires.part c.rounds.invariant.at
+    let turned = turns c.args.f.now c.args.part.now c.args.rounds.now.budget c.rounds.rounds _ c.in_ok-values.field-0 c.in-Refuted.log
+    (record { over = _; decided = c.in_ok-values.ensures.decided; formula = refl; positions = refl; blocked = refl }) c.in-Refuted.is c.requires.most c.requires.part c.rounds.invariant.at
     (record {
       first = e.first;
       whole = e.whole;
       next = e.next;
-      left = e.left;
+      budget = e.budget;
       size = b.size ∙ ap (λ (bs : List Bool). length bs) e.blocked;
       blocked = λ v. b.vars v ∙ ap (λ (bs : List Bool). is_in bs v || variable_occurs c.args.f.now c.as_slice-in-Refuted.result.now v) e.blocked
           ∙ ap (λ (ps : List ℕ). is_in c.rounds.rounds.blocked v || variable_occurs c.args.f.now ps v) (c.as_slice-in-Refuted.ensures ∙ c.in_ok-used-in-Refuted.ensures);

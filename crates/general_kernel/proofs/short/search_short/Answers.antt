@@ -2,13 +2,13 @@ use Rattle.std.proofs.Common.{◌≡◌, ◌∙◌, ◌≤◌, true, subst, sym,
 use Rattle.lk_model.specs.declared.document.Step.{Step}
 use Rattle.unit_refutations.specs.Agendas.{AreSomeOf}
 use Rattle.general_kernel.specs.ShortRounds.{are_new}
-use Rattle.general_kernel.proofs.Widening.{IsPartOf, short_refuted, short_literals}
+use Rattle.general_kernel.proofs.Widening.{short_refuted, short_literals}
 use Rattle.general_kernel.proofs.short.search_short.Goals as goal
 
 pub are_new-requires-clause-literals : goal.are_new-requires-clause-literals
 are_new-requires-clause-literals c =
-    let le : c.min.result ≤ c.args.left = omega (arith, c.min.ensures) in
-    short_literals c.args.over.now _ c.args.next c.min.result c.args.left c.in_ok-log.field-0 c.in-Refuted.log c.as_slice-in-Refuted.result.now
+    let le : c.min.result ≤ c.args.budget = omega (arith, c.min.ensures) in
+    short_literals c.args.over.now _ c.args.next c.min.result c.args.budget c.in_ok-log.field-0 c.in-Refuted.log c.as_slice-in-Refuted.result.now
     (record {
       formula = refl;
       blocked = refl;
@@ -18,8 +18,8 @@ are_new-requires-clause-literals c =
 
 pub returns-in-Refuted : goal.returns-in-Refuted
 returns-in-Refuted c =
-    let le : c.min.result ≤ c.args.left = omega (arith, c.min.ensures) in
-    short_refuted c.args.over.now _ c.args.next c.min.result c.args.left c.in_ok-log.field-0 c.in-Refuted.log _
+    let le : c.min.result ≤ c.args.budget = omega (arith, c.min.ensures) in
+    short_refuted c.args.over.now _ c.args.next c.min.result c.args.budget c.in_ok-log.field-0 c.in-Refuted.log _
     (record {
       formula = refl;
       blocked = refl;

@@ -1,4 +1,4 @@
-use Rattle.std.proofs.Common.{◌≡◌, ◌∙◌, ◌==◌, ℤ, List, length, ap, arith, sym, true}
+use Rattle.std.proofs.Common.{◌≡◌, ◌∙◌, ℤ, List, ap, arith, sym, true}
 use Rattle.lk_model.specs.Lists.{is_empty}
 use Rattle.kernel_solve.proofs.EmptyClauses.{first_at, none_empty, no_length}
 use Rattle.kernel_solve.proofs.empty_clause.first_empty.Goals as goal

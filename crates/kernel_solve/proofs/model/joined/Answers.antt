@@ -1,4 +1,4 @@
-use Rattle.std.proofs.Common.{◌≡◌, ◌∙◌, ℤ, List, map, ap, sym, subst}
+use Rattle.std.proofs.Common.{◌∙◌, ℤ, List, map, ap, sym, subst}
 use Rattle.std.specs.Vec.Iter.{into_iter_items, into_iter_len}
 use Rattle.lk_model.specs.declared.result.GeneralResult.{GeneralResult}
 use Rattle.autarky_compose.specs.JoinedGeneral.{AreJoinable}

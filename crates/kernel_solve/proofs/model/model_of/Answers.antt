@@ -1,7 +1,7 @@
 use Rattle.std.proofs.Common.{◌≡◌, ◌∙◌, ℕ, ℤ, List, length, map, true, sym, ap, subst}
 use Rattle.lk_model.specs.Lists.{rises_within}
 use Rattle.lk_model.specs.Formulas.Literal.{variable}
-use Rattle.lk_model.specs.Formulas.Assignment.{Assignment, assignment_of, extended, extended_literals}
+use Rattle.lk_model.specs.Formulas.Assignment.{assignment_of, extended, extended_literals}
 use Rattle.lk_model.specs.Held.PartialValues.{assignment_by}
 use Rattle.kernel_laws.specs.Matching.MatchingResults.{set_line}
 use Rattle.kernel_laws.proofs.Matching.SetLines.{set_rises}

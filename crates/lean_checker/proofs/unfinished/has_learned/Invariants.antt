@@ -4,4 +4,4 @@ use Rattle.lean_checker.proofs.unfinished.has_learned.Given as goal
 
 -- what is left, and the steps of the rounds so far
 abbrev pub invariant-loop-k : goal.invariant-loop-k
-invariant-loop-k l = l.left + length (learned_steps (take l.k l.rounds)) ≡ l.learned
+invariant-loop-k l = l.remaining + length (learned_steps (take l.k l.rounds)) ≡ l.learned

@@ -19,9 +19,9 @@ loop-p-preserved c =
     let touched = c.touches.ensures ∙ ap (list_any (λ l. is_in c.args.set.now (variable l))) c.clause.ensures.value in
     elim c.if-not-touches.branch [
       | then-not-touches+in_ok-push w ↦
-          left_more c.args.f.now c.args.set.now c.args.kept.now c.loop-p.p-index c.loop-p.left c.if-not-touches.left false c.loop-p-test.true c.loop-p.invariant
-          (sym w.if-not-touches.true ∙ touched) (w.left-is ∙ w.in_ok-push.ensures.ok)
+          left_more c.args.f.now c.args.set.now c.args.kept.now c.loop-p.p-index c.loop-p.rest c.if-not-touches.rest false c.loop-p-test.true c.loop-p.invariant
+          (sym w.if-not-touches.true ∙ touched) (w.rest-is ∙ w.in_ok-push.ensures.ok)
       | else-not-touches w ↦
-          left_more c.args.f.now c.args.set.now c.args.kept.now c.loop-p.p-index c.loop-p.left c.if-not-touches.left true c.loop-p-test.true c.loop-p.invariant
-          (sym w.if-not-touches.false ∙ touched) (w.left-is ∙ sym (append-nil c.loop-p.left))
+          left_more c.args.f.now c.args.set.now c.args.kept.now c.loop-p.p-index c.loop-p.rest c.if-not-touches.rest true c.loop-p-test.true c.loop-p.invariant
+          (sym w.if-not-touches.false ∙ touched) (w.rest-is ∙ sym (append-nil c.loop-p.rest))
     ]

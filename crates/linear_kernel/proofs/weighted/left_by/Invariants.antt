@@ -4,4 +4,4 @@ use Rattle.linear_kernel.proofs.weighted.left_by.Given as goal
 
 -- those of the positions so far
 abbrev pub invariant-loop-p : goal.invariant-loop-p
-invariant-loop-p l = l.left ≡ left_by l.f l.set (take l.p-index l.kept)
+invariant-loop-p l = l.rest ≡ left_by l.f l.set (take l.p-index l.kept)

@@ -8,5 +8,5 @@ pub returns : goal.returns
 returns c =
     let set = c.in_ok-weighted.weighted in
     let same : (v : ℕ) → is_in set v ≡ has_weight c.args.stage.now.weights v = λ v. c.in_ok-weighted.ensures.value v ∙ ap (λ ws. has_weight ws v) c.as_slice.ensures in
-    let left = unweighted_is c.args.f.now c.args.stage.now set c.args.kept.now c.requires.weights same in
-    subst (λ (ps : List ℕ). IfOk c.left_by.result (λ left. left ≡ ps)) left c.left_by.ensures
+    let rest = unweighted_is c.args.f.now c.args.stage.now set c.args.kept.now c.requires.weights same in
+    subst (λ (ps : List ℕ). IfOk c.left_by.result (λ rest. rest ≡ ps)) rest c.left_by.ensures

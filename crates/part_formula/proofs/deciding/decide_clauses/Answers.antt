@@ -16,7 +16,7 @@ returns-in-Sat c =
     let part = c.as_slice.result.now in
     let e : part ≡ positions_of F = c.as_slice.ensures ∙ c.in_ok-all.ensures.value in
     let t : IsTurn F part c.in_ok-blocked.blocked (c.from-next.result + 1) c.get.result c.in_ok-values.field-0 =
-    record { over = _; decided = c.in_ok-values.ensures; formula = refl; positions = refl; blocked = refl } in
+    record { over = _; decided = c.in_ok-values.ensures.decided; formula = refl; positions = refl; blocked = refl } in
     let h = first F part c.in_ok-blocked.blocked (c.from-next.result + 1) c.get.result c.in_ok-values.field-0 t
     (c.in_ok-blocked.ensures ∙ ap (λ (n : ℕ). replicate n false) c.vars.ensures.value) (ap (λ (k : ℕ). k + 1) (c.from-next.ensures ∙ c.len.ensures.value))
     c.len.ensures.formula c.len.ensures.limits (subst (λ (ps : List ℕ). are_positions F ps ≡ true) (sym c.as_slice.ensures) c.in_ok-all.ensures.part) c.get.ensures.some c.get.ensures.most in
@@ -31,7 +31,7 @@ trim-requires-clause-positions c =
     let part = c.as_slice.result.now in
     let next = ap (λ (k : ℕ). k + 1) (c.from-next.ensures ∙ c.len.ensures.value) in
     let t : IsTurn F part c.in_ok-blocked.blocked (c.from-next.result + 1) c.get.result c.in_ok-values.field-0 =
-    record { over = _; decided = c.in_ok-values.ensures; formula = refl; positions = refl; blocked = refl } in
+    record { over = _; decided = c.in_ok-values.ensures.decided; formula = refl; positions = refl; blocked = refl } in
     let h = first F part c.in_ok-blocked.blocked (c.from-next.result + 1) c.get.result c.in_ok-values.field-0 t
     (c.in_ok-blocked.ensures ∙ ap (λ (n : ℕ). replicate n false) c.vars.ensures.value) next
     c.len.ensures.formula c.len.ensures.limits (subst (λ (ps : List ℕ). are_positions F ps ≡ true) (sym c.as_slice.ensures) c.in_ok-all.ensures.part) c.get.ensures.some c.get.ensures.most in
@@ -45,7 +45,7 @@ returns-in-Refuted c =
     let e : part ≡ positions_of F = c.as_slice.ensures ∙ c.in_ok-all.ensures.value in
     let next = ap (λ (k : ℕ). k + 1) (c.from-next.ensures ∙ c.len.ensures.value) in
     let t : IsTurn F part c.in_ok-blocked.blocked (c.from-next.result + 1) c.get.result c.in_ok-values.field-0 =
-    record { over = _; decided = c.in_ok-values.ensures; formula = refl; positions = refl; blocked = refl } in
+    record { over = _; decided = c.in_ok-values.ensures.decided; formula = refl; positions = refl; blocked = refl } in
     let h = first F part c.in_ok-blocked.blocked (c.from-next.result + 1) c.get.result c.in_ok-values.field-0 t
     (c.in_ok-blocked.ensures ∙ ap (λ (n : ℕ). replicate n false) c.vars.ensures.value) next
     c.len.ensures.formula c.len.ensures.limits (subst (λ (ps : List ℕ). are_positions F ps ≡ true) (sym c.as_slice.ensures) c.in_ok-all.ensures.part) c.get.ensures.some c.get.ensures.most in
@@ -61,7 +61,7 @@ returns c =
     let e : part ≡ positions_of F = c.as_slice.ensures ∙ c.in_ok-all.ensures.value in
     let next = ap (λ (k : ℕ). k + 1) (c.from-next.ensures ∙ c.len.ensures.value) in
     let t : IsTurn F part c.in_ok-blocked.blocked (c.from-next.result + 1) c.get.result c.in_ok-values.field-0 =
-    record { over = _; decided = c.in_ok-values.ensures; formula = refl; positions = refl; blocked = refl } in
+    record { over = _; decided = c.in_ok-values.ensures.decided; formula = refl; positions = refl; blocked = refl } in
     let h = first F part c.in_ok-blocked.blocked (c.from-next.result + 1) c.get.result c.in_ok-values.field-0 t
     (c.in_ok-blocked.ensures ∙ ap (λ (n : ℕ). replicate n false) c.vars.ensures.value) next
     c.len.ensures.formula c.len.ensures.limits (subst (λ (ps : List ℕ). are_positions F ps ≡ true) (sym c.as_slice.ensures) c.in_ok-all.ensures.part) c.get.ensures.some c.get.ensures.most in

@@ -8,7 +8,7 @@ use Rattle.lk_model.specs.declared.document.Step.{Step}
 use Rattle.lk_model.proofs.ListTests.{all_at}
 use Rattle.refutation_log.specs.Derivation.{names_lower}
 use Rattle.refutation_log.specs.Trimmed.{with_numbers}
-use Rattle.refutation_log.specs.Numbers.{number_in, is_marked}
+use Rattle.refutation_log.specs.Numbers.{number_by_table, is_marked}
 use Rattle.refutation_log.proofs.Steps.{number_get}
 use Rattle.refutation_log.proofs.Marking.{names_all}
 use Rattle.refutation_log.proofs.Renumbering.{more_passes}
@@ -44,7 +44,7 @@ pub loop-step-preserved-in-Continue-branch-2 : goal.loop-step-preserved-in-Conti
 loop-step-preserved-in-Continue-branch-2 c =
     let g = c.into_iter-step-iterator.ensures.into_iter_gives in
     let t = YieldsList-turn (YieldsList-from_vec c.args.steps.items g.0 (g.1 ∙ c.args.steps.ok.0)) c.loop-step.yielded _ c.loop-step.yielded_by c.next.result c.next.new.self c.in-Some.step c.in-Some.is c.next.ensures.steps in
-    let f = with_numbers (number_in c.args.first c.args.numbers.now) in
+    let f = with_numbers (number_by_table c.args.first c.args.numbers.now) in
     let marked : is_marked c.args.first c.args.marks.now c.in-Some.step ≡ true =
     subst (λ (k : ℕ). slice_index_or c.args.marks.now (k - c.args.first) false ≡ true) c.number.ensures c.if-marks-number.true in
     rw (length_push c.loop-step.yielded c.in-Some.step)

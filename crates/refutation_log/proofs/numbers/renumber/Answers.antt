@@ -2,14 +2,14 @@ use Rattle.std.proofs.Common.{◌≡◌, ◌+◌, ◌<◌, ◌++◌, ◌∙◌, 
 use Rattle.std.proofs.lemmas.List.{get_or_default}
 use Rattle.std.proofs.lemmas.List.Edits.{map_over_more}
 use Rattle.lk_model.specs.declared.document.Turn.{Turn}
-use Rattle.refutation_log.specs.Numbers.{number_in}
+use Rattle.refutation_log.specs.Numbers.{number_by_table}
 use Rattle.refutation_log.proofs.Marking.{turn_below}
 use Rattle.refutation_log.proofs.Renumbering.{mapped_get}
 use Rattle.refutation_log.proofs.numbers.renumber.Goals as goal
 
 pub new_number-turn-requires : goal.new_number-turn-requires
 new_number-turn-requires c =
-    let f : Turn → Turn = λ t. record { lit = t.lit; with = number_in c.args.first c.args.numbers.now t.with } in
+    let f : Turn → Turn = λ t. record { lit = t.lit; with = number_by_table c.args.first c.args.numbers.now t.with } in
     let turns = c.args.turns.now in
     let i = c.loop-turn.turn-index in
     let d = c.turn-item.result in
@@ -21,7 +21,7 @@ new_number-turn-requires c =
 
 pub loop-turn-preserved : goal.loop-turn-preserved
 loop-turn-preserved c =
-    let f : Turn → Turn = λ t. record { lit = t.lit; with = number_in c.args.first c.args.numbers.now t.with } in
+    let f : Turn → Turn = λ t. record { lit = t.lit; with = number_by_table c.args.first c.args.numbers.now t.with } in
     let turns = c.args.turns.now in
     let i = c.loop-turn.turn-index in
     let here = slice_index_or c.loop-turn.turns i c.turn-item.result in

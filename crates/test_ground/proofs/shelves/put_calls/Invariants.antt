@@ -5,4 +5,4 @@ abbrev pub invariant-loop-call : goal.invariant-loop-call
 invariant-loop-call l =
     (goal.iterator-loop-call).can_next l.call-iterator ×
     (goal.iterator-loop-call).is_finite l.call-iterator ×
-    (IsTrue l.started → IsTrue (is_some l.shelf.left))
+    (IsTrue l.started → IsTrue (is_some l.shelf.unread))

@@ -1,8 +1,7 @@
-use Rattle.std.proofs.Common.{◌≡◌, ◌∙◌, true, List, [], ℕ, ap, sym}
-use Rattle.std.specs.Prelude.{slice_index_or}
+use Rattle.std.proofs.Common.{◌≡◌, ◌∙◌, true, List, ℕ, ap, sym}
 use Rattle.std.specs.List.{list_all}
 use Rattle.std.proofs.lemmas.List.{take_all}
-use Rattle.lk_model.specs.Formulas.Literal.{is_literal, rank_of}
+use Rattle.lk_model.specs.Formulas.Literal.{is_literal}
 use Rattle.lk_model.proofs.Literals.{literal_at}
 use Rattle.unit_refutations.specs.Standing.{are_between}
 use Rattle.unit_refutations.proofs.NoneContained.{listed_between, none_at, none_contained}

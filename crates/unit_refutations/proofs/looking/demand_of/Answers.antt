@@ -1,4 +1,4 @@
-use Rattle.std.proofs.Common.{rules, ◌≡◌, ◌∙◌, ◌++◌, true, false, List, ℤ, Some, ap, sym}
+use Rattle.std.proofs.Common.{rules, ◌≡◌, ◌∙◌, true, false, ℤ, Some, ap, sym}
 use Rattle.std.proofs.lemmas.List.{take_all}
 use Rattle.lk_model.specs.Formulas.Literal.{variable}
 use Rattle.lk_model.specs.Formulas.Crossed.{crossed_out}

@@ -3,12 +3,12 @@ use Rattle.std.specs.declared.alloc.Global.{Global}
 use Rattle.std.proofs.lemmas.List.{length-map, get_or_read}
 use Rattle.lk_model.specs.Formulas.Literal.{rank_of}
 use Rattle.watch_prop.specs.declared.watcher_lists.Watcher.{Watcher}
-use Rattle.watch_prop.specs.KeptWatchers.{rows_of, HasRoom}
+use Rattle.watch_prop.specs.HeldWatchers.{watcher_rows, HasRoom}
 use Rattle.watch_prop.proofs.Roomy.{same_rows, rooms_set, capacity_set}
 use Rattle.watch_prop.proofs.Counts.{contains_more, rank_at}
 use Rattle.watch_prop.proofs.watcher_lists.make_room.Goals as goal
 
-same_length : (lists lists' : List (Vec Watcher Global)) → rows_of lists ≡ rows_of lists' → length lists ≡ length lists'
+same_length : (lists lists' : List (Vec Watcher Global)) → watcher_rows lists ≡ watcher_rows lists' → length lists ≡ length lists'
 same_length lists lists' e =
     sym (length-map lists (λ (v : Vec Watcher Global). v.items)) ∙ ap (λ (rows : List (List Watcher)). length rows) e ∙ length-map lists' (λ (v : Vec Watcher Global). v.items)
 

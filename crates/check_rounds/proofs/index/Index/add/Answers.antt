@@ -3,7 +3,7 @@ use Rattle.std.proofs.lemmas.List.{get_or_read}
 use Rattle.lk_model.specs.Formulas.Literal.{is_literal, rank_of}
 use Rattle.lk_model.proofs.ListTests.{passes_each}
 use Rattle.lk_model.proofs.Ranks.{rank_small}
-use Rattle.check_rounds.specs.Index.{list_of, IsFound}
+use Rattle.check_rounds.specs.Index.{list_of, IsListed}
 use Rattle.check_rounds.proofs.IndexLemmas.{found_new, found_kept}
 use Rattle.check_rounds.proofs.index.Index.add.Goals as goal
 
@@ -29,4 +29,4 @@ returns-in_ok-push-clause-kept c other number h =
     let more : c.push.new.self ≡ list_of lists c.in-Some.l ++ c.args.number ∷ [] =
     c.in_ok-push.ensures.ok ∙ ap (λ (ns : List ℕ). ns ++ c.args.number ∷ []) (get_or_read lists (rank_of c.in-Some.l) c.index_mut.result.now inside c.index_mut.ensures.value []) in
     found_kept c.args.blocks.now lists c.args.number c.in-Some.l c.push.new.self inside more other number
-    (subst (λ (ls : List (List ℕ)). IsFound c.args.blocks.now ls other number) (sym c.self.view_is) h)
+    (subst (λ (ls : List (List ℕ)). IsListed c.args.blocks.now ls other number) (sym c.self.view_is) h)

@@ -1,5 +1,5 @@
 use Rattle.std.proofs.Common.{◌∙◌, ◌+◌, List, ℤ, ℕ, subst, arith}
-use Rattle.check_rounds.specs.Index.{IsFound}
+use Rattle.check_rounds.specs.Index.{IsListed}
 use Rattle.check_rounds.proofs.IndexLemmas.{clauses_next}
 use Rattle.check_rounds.proofs.index.Index.of_formula.Goals as goal
 
@@ -11,7 +11,7 @@ loop-i-preserved c =
     record {
       size = added.size ∙ inv.size;
       found = clauses_next blocks c.loop-i.index c.add.new.self c.args.f.now c.loop-i.i added.kept inv.found
-          (subst (λ (ls : List ℤ). IsFound blocks c.add.new.self ls (c.loop-i.i + 1)) c.clause.ensures.value (subst (λ (q : ℕ). IsFound blocks c.add.new.self c.clause.result.now q) c.from.ensures added.found));
+          (subst (λ (ls : List ℤ). IsListed blocks c.add.new.self ls (c.loop-i.i + 1)) c.clause.ensures.value (subst (λ (q : ℕ). IsListed blocks c.add.new.self c.clause.result.now q) c.from.ensures added.found));
     }
 
 pub returns-clause-found : goal.returns-clause-found

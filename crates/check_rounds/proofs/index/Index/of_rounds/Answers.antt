@@ -3,9 +3,10 @@ use Rattle.std.specs.List.{list_all}
 use Rattle.lk_model.specs.Formulas.Literal.{is_literal}
 use Rattle.lk_model.specs.declared.document.Step.{Step}
 use Rattle.lk_model.specs.declared.document.Round.{Round}
-use Rattle.check_rounds.specs.Index.{AreStepsFound}
+use Rattle.lk_model.proofs.Rounds.{round_literals}
+use Rattle.check_rounds.specs.Index.{AreStepsListed}
 use Rattle.check_rounds.proofs.Reaching.{round_steps}
-use Rattle.check_rounds.proofs.IndexLemmas.{all_next, all_end, rounds_kept, round_literals}
+use Rattle.check_rounds.proofs.IndexLemmas.{all_next, all_end, rounds_kept}
 use Rattle.check_rounds.proofs.index.Index.of_rounds.Goals as goal
 
 pub add_steps-requires-clause-literals : goal.add_steps-requires-clause-literals
@@ -29,9 +30,9 @@ loop-k-preserved c =
     let kept = rounds_kept blocks c.loop-k.index c.add_steps.new.self (take k rounds) added.kept inv.found in
     record {
       size = added.size ∙ inv.size;
-      found = all_next (λ (q : Round). AreStepsFound blocks c.add_steps.new.self q.steps) rounds k r (omega arith) c.index-rounds-k.is kept
-          (subst (λ (steps : List Step). AreStepsFound blocks c.add_steps.new.self steps) same added.found);
+      found = all_next (λ (q : Round). AreStepsListed blocks c.add_steps.new.self q.steps) rounds k r (omega arith) c.index-rounds-k.is kept
+          (subst (λ (steps : List Step). AreStepsListed blocks c.add_steps.new.self steps) same added.found);
     }
 
 pub returns-clause-found : goal.returns-clause-found
-returns-clause-found c = all_end (λ (q : Round). AreStepsFound c.args.blocks.now c.loop-k.index q.steps) c.args.rounds.now c.loop-k.k (omega arith) c.loop-k.invariant.found
+returns-clause-found c = all_end (λ (q : Round). AreStepsListed c.args.blocks.now c.loop-k.index q.steps) c.args.rounds.now c.loop-k.k (omega arith) c.loop-k.invariant.found

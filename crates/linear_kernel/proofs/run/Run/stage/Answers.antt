@@ -15,9 +15,9 @@ push_stage-requires-clause-positions c =
 pub of-requires : goal.of-requires
 of-requires c =
     let kept = c.as_slice.ensures ∙ c.self.invariant ∙ ap (λ (m : Moment). m.rows.positions) c.self.view_is in
-    let left = c.as_slice-2.ensures ∙ c.in_ok-kept.ensures.left.1 in
+    let rest = c.as_slice-2.ensures ∙ c.in_ok-kept.ensures.rest.1 in
     let positions = subst (λ (ps : List ℕ). IsTrue (are_positions c.args.f.now ps)) (sym kept) c.requires.positions in
-    subst (λ ps. IsTrue (rises_within 0 (length c.args.f.now.clauses) ps)) (sym left) (left_rises c.args.f.now (stage_of c.self.inside.rows) c.as_slice.result.now positions)
+    subst (λ ps. IsTrue (rises_within 0 (length c.args.f.now.clauses) ps)) (sym rest) (left_rises c.args.f.now (stage_of c.self.inside.rows) c.as_slice.result.now positions)
 
 pub invariant_of-result : goal.invariant_of-result
 unfolding start_of

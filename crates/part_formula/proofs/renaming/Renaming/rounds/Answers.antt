@@ -6,9 +6,9 @@ use Rattle.lk_model.specs.declared.document.Round.{Round}
 use Rattle.part_formula.proofs.renaming.Renaming.rounds.Goals as goal
 
 -- all rounds, where none is left
-all_yielded : (yielded left rounds : List Round) → length left ≡ 0 → yielded ++ left ≡ rounds → yielded ≡ rounds
+all_yielded : (yielded rest rounds : List Round) → length rest ≡ 0 → yielded ++ rest ≡ rounds → yielded ≡ rounds
 all_yielded yielded [] rounds none e = sym (append-nil yielded) ∙ e
-all_yielded yielded (r ∷ left) rounds none e = absurd (omega (arith, none))
+all_yielded yielded (r ∷ rest) rounds none e = absurd (omega (arith, none))
 
 pub returns-clause-numbers : goal.returns-clause-numbers
 returns-clause-numbers c =

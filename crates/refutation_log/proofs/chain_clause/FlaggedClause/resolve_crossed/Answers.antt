@@ -10,14 +10,14 @@ use Rattle.refutation_log.proofs.chain_clause.FlaggedClause.resolve_crossed.Goal
 
 pub returns : goal.returns
 returns c =
-    let left = c.take_out.new.self in
+    let rest = c.take_out.new.self in
     let old = without c.args.self.now c.args.l in
     let other = crossed_out (is_in c.args.blocked.now) c.args.clause.now in
     let more = without other (complement c.args.l) in
     let now = c.put_others_crossed.new.self in
     on_ok_weaker c.put_others_crossed.result
     (λ h. same_set now (old ++ more)
-    (HaveSame-trans now (left ++ more) (old ++ more)
-    (subst (λ (k : ℤ). HaveSame now (left ++ without other k)) c.negated.ensures h)
-    (HaveSame-append left more old more c.take_out.ensures (HaveSame-refl more))))
+    (HaveSame-trans now (rest ++ more) (old ++ more)
+    (subst (λ (k : ℤ). HaveSame now (rest ++ without other k)) c.negated.ensures h)
+    (HaveSame-append rest more old more c.take_out.ensures (HaveSame-refl more))))
     c.put_others_crossed.ensures

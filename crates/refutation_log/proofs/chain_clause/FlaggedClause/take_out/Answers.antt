@@ -8,7 +8,7 @@ use Rattle.refutation_log.proofs.chain_clause.FlaggedClause.take_out.Goals as go
 pub returns : goal.returns
 returns c =
     let flags = c.self.inside.flags.items in
-    let left = c.unflag.new.flags.items in
+    let rest = c.unflag.new.flags.items in
     let came = c.self.inside.came.items in
-    subst (λ (old : List ℤ). HaveSame (flagged left came) (without old c.args.l)) c.self.view_is
-    (taken_out flags left came c.args.l c.self.invariant c.unflag.ensures).1
+    subst (λ (old : List ℤ). HaveSame (flagged rest came) (without old c.args.l)) c.self.view_is
+    (taken_out flags rest came c.args.l c.self.invariant c.unflag.ensures).1

@@ -1,11 +1,9 @@
-use Rattle.std.proofs.Common.{rules, ◌≡◌, ◌∙◌, ◌||◌, true, false, None, List, ℤ, ap, sym}
+use Rattle.std.proofs.Common.{rules, ◌≡◌, ◌∙◌, true, false, None, ℤ, ap, sym}
 use Rattle.std.proofs.lemmas.List.{take_all}
-use Rattle.lk_model.specs.Lists.{among}
 use Rattle.lk_model.specs.Formulas.Literal.{variable, complement}
 use Rattle.lk_model.specs.Formulas.Crossed.{crossed_out}
 use Rattle.lk_model.specs.Held.VariableSets.{is_in}
 use Rattle.unit_refutations.specs.Trails.{place_of}
-use Rattle.unit_refutations.specs.Chains.{meets}
 use Rattle.unit_refutations.proofs.Crossings.{crossed_gone, crossed_more}
 use Rattle.unit_refutations.proofs.Meeting.{no_places, met_same, met_none, met_more}
 use Rattle.unit_refutations.proofs.pending.Pending.meet.Goals as goal

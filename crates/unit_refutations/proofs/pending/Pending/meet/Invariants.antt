@@ -1,5 +1,4 @@
-use Rattle.std.proofs.Common.{◌≡◌, ◌||◌, ℕ, take}
-use Rattle.lk_model.specs.Lists.{among}
+use Rattle.std.proofs.Common.{ℕ, take}
 use Rattle.lk_model.specs.Formulas.Crossed.{crossed_out}
 use Rattle.lk_model.specs.Held.VariableSets.{is_in}
 use Rattle.unit_refutations.specs.Chains.{HaveMet}

@@ -1,13 +1,11 @@
-use Rattle.std.proofs.Common.{rules, ◌≡◌, ◌∙◌, ◌≤◌, ◌||◌, true, Bool, List, length, take, ap, sym, arith}
+use Rattle.std.proofs.Common.{rules, ◌≡◌, ◌∙◌, ◌≤◌, true, Bool, List, length, ap, sym, arith}
 use Rattle.std.specs.List.{list_all}
-use Rattle.lk_model.specs.Formulas.Literal.{variable, mentions, is_literal, is_distinct}
+use Rattle.lk_model.specs.Formulas.Literal.{variable, is_literal, is_distinct}
 use Rattle.lk_model.specs.Held.VariableSets.{is_in, with_variable}
 use Rattle.lk_model.proofs.Booleans.{and_true}
 use Rattle.lk_model.proofs.Literals.{literal_at}
 use Rattle.lk_model.proofs.Ranks.{literal_bounds}
 use Rattle.unit_refutations.specs.declared.units.Units.{Units}
-use Rattle.unit_refutations.specs.Standing.{IsKept}
-use Rattle.unit_refutations.proofs.Keeping.{same_kept}
 use Rattle.unit_refutations.proofs.Beginnings.{block_one, more_blocked, still_blocked}
 use Rattle.unit_refutations.proofs.units.Units.block_clause.Goals as goal
 use Rattle.unit_refutations.proofs.units.Units.block_clause.Goals.{then-not-has+in_ok-release, else-not-has}

@@ -1,4 +1,4 @@
-use Rattle.std.proofs.Common.{◌≡◌, ◌∙◌, true, Bool, List, sym, ap}
+use Rattle.std.proofs.Common.{◌∙◌, Bool, List, sym, ap}
 use Rattle.lk_model.specs.Lists.{among}
 use Rattle.lk_model.specs.Held.VariableSets.{is_in}
 use Rattle.unit_refutations.proofs.Keeping.{wider}

@@ -5,7 +5,7 @@ use Rattle.lk_model.specs.Formulas.Literal.{is_clause, is_literal, is_distinct}
 use Rattle.watch_prop.specs.declared.watch.Watch.{Watch}
 use Rattle.lk_model.proofs.Booleans.{and_true}
 use Rattle.watch_prop.specs.declared.entry.NumberedClause.{NumberedClause}
-use Rattle.watch_prop.specs.KeptPropagator.{propagator_seen}
+use Rattle.watch_prop.specs.HeldPropagator.{propagator_seen}
 use Rattle.watch_prop.specs.Propagation.{Propagation, numbers_of}
 use Rattle.watch_prop.proofs.Holding.{ranks_within, held_state}
 use Rattle.watch_prop.proofs.propagator.Propagator.hold.Goals as goal

@@ -1,5 +1,5 @@
 use Rattle.std.proofs.Common.{rules, ◌≡◌, subst, IfSome, IsSome}
-use Rattle.watch_prop.specs.KeptPropagator.{propagator_seen}
+use Rattle.watch_prop.specs.HeldPropagator.{propagator_seen}
 use Rattle.watch_prop.specs.Trail.{reason_of, clause_numbered}
 use Rattle.watch_prop.specs.Propagation.{Propagation}
 use Rattle.watch_prop.proofs.Trails.{reason_held}

@@ -1,7 +1,7 @@
 use Rattle.std.proofs.Common.{◌≡◌, ◌∙◌, ◌<◌, ◌≤◌, List, length, refl, sym, ap, arith, vec_len}
 use Rattle.std.proofs.lemmas.List.{get_or_read}
 use Rattle.watch_prop.specs.declared.entry.Entry.{Entry}
-use Rattle.watch_prop.specs.KeptPropagator.{propagator_seen}
+use Rattle.watch_prop.specs.HeldPropagator.{propagator_seen}
 use Rattle.watch_prop.specs.Trail.{Path, present_level, up_to_level}
 use Rattle.watch_prop.specs.Propagation.{Propagation, back_at}
 use Rattle.watch_prop.proofs.Paths.{back_there}

@@ -2,7 +2,7 @@ use Rattle.std.proofs.Common.{◌≡◌, ◌∙◌, refl, ℕ, ◌+◌, ◌*◌,
 use Rattle.std.proofs.lemmas.List.{length-replicate}
 use Rattle.watch_prop.specs.declared.entry.Entry.{Entry}
 use Rattle.watch_prop.specs.Trail.{literals_of, is_path}
-use Rattle.watch_prop.specs.KeptTrail.{unset_one, AreValues, place_of}
+use Rattle.watch_prop.specs.HeldTrail.{unset_one, AreValues, place_of}
 use Rattle.watch_prop.proofs.Paths.{fresh_table, fresh_unset, path_none, Tells}
 use Rattle.watch_prop.proofs.trail.Trail.new.Goals as goal
 use Rattle.lk_model.proofs.VariableLists.{none_at as fresh_values}

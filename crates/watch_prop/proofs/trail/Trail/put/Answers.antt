@@ -1,7 +1,7 @@
 use Rattle.std.proofs.Common.{◌≡◌, ◌∙◌, true, ◌+◌, ◌*◌, ◌-◌, ◌<◌, ◌++◌, ◌∷◌, [], List, Some, None, length, length-set, length-append, refl, ℕ, get_or, set, ap, subst, sym, arith, IsTrue}
 use Rattle.lk_model.specs.Formulas.Literal.{variable}
 use Rattle.watch_prop.specs.declared.entry.Entry.{Entry}
-use Rattle.watch_prop.specs.KeptTrail.{seen, AreValues, place_of}
+use Rattle.watch_prop.specs.HeldTrail.{seen, AreValues, place_of}
 use Rattle.watch_prop.specs.Trail.{Path, may_come, literals_of, entry_of, is_path}
 use Rattle.watch_prop.proofs.Paths.{comes, table_more, unset_less, literals_more, path_more, Tells}
 use Rattle.watch_prop.proofs.Values.{values_more}

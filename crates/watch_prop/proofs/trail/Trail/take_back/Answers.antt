@@ -1,7 +1,7 @@
 use Rattle.std.proofs.Common.{◌≡◌, ◌∙◌, ℕ, true, false, ◌+◌, ◌*◌, ◌-◌, ◌<◌, ◌++◌, ◌∷◌, [], List, Some, None, length, length-set, length-append, take, get_or, set, sum_by, ap, subst, sym, arith}
 use Rattle.lk_model.specs.Formulas.Literal.{variable, is_literal}
 use Rattle.watch_prop.specs.declared.entry.Entry.{Entry}
-use Rattle.watch_prop.specs.KeptTrail.{seen, unset_one, AreValues, place_of}
+use Rattle.watch_prop.specs.HeldTrail.{seen, unset_one, AreValues, place_of}
 use Rattle.watch_prop.specs.Trail.{Path, literals_of, entry_of, is_path}
 use Rattle.watch_prop.proofs.Paths.{path_less, table_less, unset_more, literals_take, entry_here, Tells}
 use Rattle.watch_prop.proofs.Values.{values_less, within_values}

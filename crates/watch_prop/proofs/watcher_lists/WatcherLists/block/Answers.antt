@@ -1,6 +1,6 @@
 use Rattle.std.proofs.Common.{◌≡◌, ◌∙◌, ◌<◌, length, length-set, ap, sym, arith}
 use Rattle.lk_model.specs.Formulas.Literal.{rank_of}
-use Rattle.watch_prop.specs.KeptWatchers.{HasRoom}
+use Rattle.watch_prop.specs.HeldWatchers.{HasRoom}
 use Rattle.watch_prop.specs.Watchers.{Watchers, all_places, watchers, count_of}
 use Rattle.watch_prop.specs.Linked.{blocked_rows}
 use Rattle.watch_prop.proofs.Roomy.{rows_blocked, all_places_kept, rooms_set, items_long, room_of, seen_long}

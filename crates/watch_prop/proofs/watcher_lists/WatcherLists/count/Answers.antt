@@ -6,7 +6,7 @@ use Rattle.lk_model.specs.Formulas.Literal.{contains, is_distinct, rank_of}
 use Rattle.lk_model.proofs.ListTests.{passes_each}
 use Rattle.watch_prop.specs.declared.watcher_lists.Watcher.{Watcher}
 use Rattle.watch_prop.specs.Watchers.{Watchers, places, count_of, with_counted}
-use Rattle.watch_prop.specs.KeptWatchers.{rows_of, HasRoom, HaveRoom, watchers_seen}
+use Rattle.watch_prop.specs.HeldWatchers.{watcher_rows, HasRoom, HaveRoom, watchers_seen}
 use Rattle.watch_prop.specs.declared.watcher_lists.WatcherLists.TheInside.{Inside}
 use Rattle.watch_prop.proofs.Roomy.{HaveRooms}
 use Rattle.watch_prop.proofs.Counts.{HaveRanks, rooms_then, counted_long}
@@ -21,14 +21,14 @@ record ArePrepared (before lists : List (Vec Watcher Global)) (counts : List ℕ
   rooms : HaveRooms lists (with_counted counts c)
 
 prepared : (inside : Inside) (seen : Watchers) (lists : List (Vec Watcher Global)) (c : List ℤ) → watchers_seen inside ≡ seen → HaveRoom inside
-    → HaveRanks c (length seen.lists) → is_distinct c ≡ true → rows_of lists ≡ rows_of inside.lists
+    → HaveRanks c (length seen.lists) → is_distinct c ≡ true → watcher_rows lists ≡ watcher_rows inside.lists
     → ((r : ℕ) (d : Vec Watcher Global) → r < length inside.lists → HasRoom (get_or lists r d) (get_or inside.counts r 0))
     → ((l : ℤ) (d : Vec Watcher Global) → contains c l ≡ true → count_of inside.counts l < vec_capacity (get_or lists (rank_of l) d))
     → ArePrepared inside.lists lists inside.counts c
 prepared inside seen lists c view kept ranks distinct same room more =
     let long : length lists ≡ length inside.lists = sym (length-map lists (λ (v : Vec Watcher Global). v.items)) ∙ ap (λ (rows : List (List Watcher)). length rows) same
     ∙ length-map inside.lists (λ (v : Vec Watcher Global). v.items) in
-    let seen_long : length seen.lists ≡ length inside.lists = ap (λ (w : Watchers). length w.lists) (sym view) ∙ length-map (rows_of inside.lists) places ∙ length-map inside.lists (λ (v : Vec Watcher Global). v.items) in
+    let seen_long : length seen.lists ≡ length inside.lists = ap (λ (w : Watchers). length w.lists) (sym view) ∙ length-map (watcher_rows inside.lists) places ∙ length-map inside.lists (λ (v : Vec Watcher Global). v.items) in
     let within : HaveRanks c (length lists) = subst (λ (n : ℕ). HaveRanks c n) (seen_long ∙ sym long) ranks in
     let rooms : HaveRooms lists inside.counts = record { each = λ r d lt. room r d (omega (arith, lt, long)) } in
     record {

@@ -4,7 +4,7 @@ use Rattle.std.specs.List.{All}
 use Rattle.std.proofs.lemmas.List.{length-replicate, get_or-replicate}
 use Rattle.watch_prop.specs.declared.watcher_lists.Watcher.{Watcher}
 use Rattle.watch_prop.specs.Watchers.{all_places}
-use Rattle.watch_prop.specs.KeptWatchers.{HasRoom}
+use Rattle.watch_prop.specs.HeldWatchers.{HasRoom}
 use Rattle.watch_prop.proofs.Roomy.{rows_none, no_places}
 use Rattle.watch_prop.proofs.watcher_lists.WatcherLists.new.Goals as goal
 

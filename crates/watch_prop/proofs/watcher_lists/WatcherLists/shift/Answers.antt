@@ -5,7 +5,7 @@ use Rattle.lk_model.proofs.Ranks.{rank_apart}
 use Rattle.watch_prop.specs.declared.watcher_lists.Watcher.{Watcher}
 use Rattle.watch_prop.specs.Watchers.{Watchers, all_places, watchers, count_of}
 use Rattle.watch_prop.specs.Linked.{moved, moved_rows}
-use Rattle.watch_prop.specs.KeptWatchers.{rows_of, HasRoom}
+use Rattle.watch_prop.specs.HeldWatchers.{watcher_rows, HasRoom}
 use Rattle.watch_prop.proofs.Roomy.{rooms_set, items_long, room_of, seen_long, shift_rows, places_moved}
 use Rattle.watch_prop.proofs.watcher_lists.WatcherLists.shift.Goals as goal
 
@@ -29,7 +29,7 @@ invariant_of-self c =
     let once = rooms_set L H r1 s (record { each = inv.each }) rs in
     let read2 : old2 ≡ get_or L r2 old2 = c.index_mut-2.ensures.value ∙ get_or-set_other L r1 r2 s old2 apart in
     let room2 : HasRoom old2 (get_or H r2 0) = subst (λ (v : Vec Watcher Global). HasRoom v (get_or H r2 0)) (sym read2) (inv.each r2 old2 lt2) in
-    let has : length (watchers (all_places (rows_of L)) c.args.to) < count_of H c.args.to = subst (λ (w : Watchers). length (watchers w.lists c.args.to) < count_of w.counts c.args.to) (sym c.self.view_is) c.requires.room in
+    let has : length (watchers (all_places (watcher_rows L)) c.args.to) < count_of H c.args.to = subst (λ (w : Watchers). length (watchers w.lists c.args.to) < count_of w.counts c.args.to) (sym c.self.view_is) c.requires.room in
     let long = items_long L c.args.to old2 lt2 read2 in
     let rp : HasRoom p (get_or H r2 0) = (omega (arith, c.push_reserved.ensures.len, has, long), omega (arith, room2.1, c.push_reserved.ensures.capacity)) in
     let twice = rooms_set (set L r1 s) H r2 p once rp in
@@ -81,7 +81,7 @@ push_reserved-requires c =
     let lt2 : r2 < length L = omega (arith, c.requires.to, lists) in
     let apart : r2 ≢ r1 = λ e. c.requires.apart (rank_apart c.args.l c.args.to (sym e)) in
     let read2 : old2 ≡ get_or L r2 old2 = c.index_mut-2.ensures.value ∙ get_or-set_other L r1 r2 s old2 apart in
-    let has : length (watchers (all_places (rows_of L)) c.args.to) < count_of H c.args.to = subst (λ (w : Watchers). length (watchers w.lists c.args.to) < count_of w.counts c.args.to) (sym c.self.view_is) c.requires.room in
+    let has : length (watchers (all_places (watcher_rows L)) c.args.to) < count_of H c.args.to = subst (λ (w : Watchers). length (watchers w.lists c.args.to) < count_of w.counts c.args.to) (sym c.self.view_is) c.requires.room in
     let long = items_long L c.args.to old2 lt2 read2 in
     let room = room_of L H r2 old2 (record { each = c.self.invariant.each }) lt2 read2 in
     omega (arith, has, long, room.1)

@@ -1,6 +1,6 @@
 use Rattle.std.proofs.Common.{drop}
 use Rattle.check_lines.specs.Matching.{AreRows, AreFirstRows, AreRankBounds}
-use Rattle.check_lines.proofs.matching.rows_of.Given as goal
+use Rattle.check_lines.proofs.matching.row_tables.Given as goal
 
 -- the tables of the rows so far, which stand last
 abbrev pub invariant-loop-i : goal.invariant-loop-i

@@ -1,4 +1,4 @@
--- How a trail is kept: as entries in order, as their literals, as a table by variable, and as a flag by literal that
+-- How a trail is held: as entries in order, as their literals, as a table by variable, and as a flag by literal that
 -- tells whether it is true. There is room for every variable.
 use Rattle.std.specs.Prelude.{◌≡◌, ℕ, ◌≤◌, ◌<◌, ◌+◌, ◌*◌, ◌-◌, Bool, false, ℤ, pos, negsuc, List, Option, Some, None, length, sum_by, slice_index_or, vec_capacity, IsTrue}
 use Rattle.lk_model.specs.Formulas.Literal.{is_literal}
@@ -27,7 +27,7 @@ place_of n (negsuc k) = n - (k + 1)
 abbrev pub AreValues : ℕ → List Entry → List Bool → Type 0
 AreValues vars trail values = (l : ℤ) → IsTrue (is_literal vars l) → slice_index_or values (place_of vars l) false ≡ true_in trail l
 
-pub record IsKept (t : Inside) : Type 0 where
+pub record IsHeldTrail (t : Inside) : Type 0 where
   pub vars : length t.table.items ≤ 1000000
   pub path : IsTrue (is_path (length t.table.items) t.entries.items)
   pub lits : t.lits.items ≡ literals_of t.entries.items

@@ -1,4 +1,4 @@
--- How clauses are kept: their numbers, and their literals one after another.
+-- How clauses are held: their numbers, and their literals one after another.
 use Rattle.std.specs.Prelude.{◌≡◌, ℕ, ℤ, List, [], ◌∷◌, length}
 use Rattle.lk_model.specs.Held.Flat.{cut, AreEnds}
 use Rattle.watch_prop.specs.declared.clauses.Clauses.TheInside.{Inside}

@@ -4,7 +4,7 @@ use Rattle.lk_model.specs.declared.document.MatchRow.{MatchRow}
 use Rattle.kernel_laws.proofs.FirstTables.{first_none, first_more}
 use Rattle.check_lines.specs.Matching.{AreRows, AreFirstRows, AreRankBounds}
 use Rattle.check_lines.proofs.MatchingChecks.{row_within, bounds_none, bounds_more}
-use Rattle.check_lines.proofs.matching.rows_of.Goals as goal
+use Rattle.check_lines.proofs.matching.row_tables.Goals as goal
 
 -- what stands where there is no row
 abbrev no_row : MatchRow

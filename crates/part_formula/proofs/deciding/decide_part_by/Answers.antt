@@ -7,7 +7,7 @@ use Rattle.kernel_laws.specs.General.Found.{IsUnfinished}
 use Rattle.part_formula.specs.Decisions.{IsDecision, IsPartModel, IsPartRefuted}
 use Rattle.part_formula.specs.declared.deciding.Decision.{Decision}
 use Rattle.part_formula.proofs.ToldDecisions.{filled_copy, dense_again, model_within, round_within, one_form, model_told, refuted_told, stopped_told}
-use Rattle.part_formula.proofs.deciding.decide_part.Goals as goal
+use Rattle.part_formula.proofs.deciding.decide_part_by.Goals as goal
 use Rattle.lk_model.proofs.Rising.{rises_to}
 
 pub decide_clauses-requires : goal.decide_clauses-requires

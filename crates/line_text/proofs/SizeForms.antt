@@ -10,7 +10,7 @@ use Rattle.lk_model.proofs.Booleans.{and_true}
 use Rattle.line_text.specs.Fields.{after, two_within}
 use Rattle.line_text.proofs.NumberForms.{two_form, two_back}
 use Rattle.line_text.proofs.Words.{after_form}
-use Rattle.formula_text.specs.FormulaLines.{has_sizes, problem_line, is_problem}
+use Rattle.line_text.specs.SizeLines.{has_sizes, problem_line, is_problem}
 
 -- a line of sizes is spelled so
 pub sizes_form : (first second : Word) (n count : ℕ) (words : List Word) → has_sizes first second n count words ≡ true → words ≡ first ∷ second ∷ number_words (n ∷ count ∷ [])
