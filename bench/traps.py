@@ -264,10 +264,15 @@ def write_document(program, reducer, folder):
         subprocess.run([program] + words + ["f"] + options, cwd=folder, stdout=out, stderr=subprocess.DEVNULL, timeout=TIME_OUT)
 
 
+def part_of(make, size, part):
+    """The size with which a formula has that part of the literals."""
+    return max(int(size / part ** (1 / 3)), 1) if make is pigeons else max(size // part, 1)
+
+
 def formula_rows(program, make, size, judge, folders):
     """Each command on a formula, and the check of what the reducers write."""
     for folder, part in folders:
-        put(folder, "f", make(max(size // part, 1)))
+        put(folder, "f", make(part_of(make, size, part)))
     marked = 0
     for command in FORMULA_COMMANDS:
         words, options = split(command)
