@@ -23,7 +23,8 @@ use Rattle.lk_model.proofs.Booleans.{and_true}
 use Rattle.lk_model.proofs.ListTests.{all_at}
 use Rattle.lk_model.proofs.Rising.{rising_bounds}
 use Rattle.check_tables.specs.Flags.{is_flagged, AreKeptFlags}
-use Rattle.check_linear.specs.Linear.{AreDuals, is_bad_dual}
+use Rattle.check_linear.specs.Linear.{AreDuals}
+use Rattle.check_places.specs.Places.{is_bad_dual}
 use Rattle.check_tables.proofs.KeptFlags.{find_to}
 
 -- its position is one of the formula, and its number in range

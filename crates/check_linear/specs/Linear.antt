@@ -24,10 +24,6 @@ use Rattle.kernel_laws.specs.FirstTables.{IsFirstTable}
 abbrev pub AreDuals : ℕ → List Dual → List (Option Bool) → Type 0
 AreDuals m dual table = IsFirstTable m (λ (y : Dual). y.pos) (λ (y : Dual). Some (not (int_lt y.y (pos 1)))) None None dual table
 
--- the position is kept and has no dual, or has one and is not kept, or one below 1
-abbrev pub is_bad_dual : List Bool → List (Option Bool) → ℕ → Bool
-is_bad_dual kept table p = line_fails (is_flagged kept p) (slice_index_or table (p - 1) None) not
-
 -- NUMBERS OF VARIABLES
 
 -- the number, with the sign of the literal

@@ -15,9 +15,10 @@ ghost use Rattle.lk_model.specs.declared.document.Weight.{Weight};
 ghost use Rattle.exact_rows.specs.Made.{AreInRange};
 ghost use Rattle.check_tables.specs.Places.{places_in};
 ghost use Rattle.check_linear.specs.Linear.{is_bad_stage, least_stage, weights_at, AreFirsts, NotesStage, sign_of};
-ghost use Rattle.check_linear.specs.Linear.{is_bad_sign, AreDuals, is_bad_dual, signed, AreNumbers, AddsNumbers};
+ghost use Rattle.check_linear.specs.Linear.{is_bad_sign, AreDuals, signed, AreNumbers, AddsNumbers};
 ghost use Rattle.check_linear.specs.Linear.{is_unbalanced, numbers_of};
 
+use check_places::is_bad_dual;
 use check_tables::{Span, Workers, kept_flags, occurring_at};
 use exact_rows::sign_of_sum;
 use lk_model::{DoneDocument, Dual, Formula, List, Lit, OutOfMemory, Stage, VarSet, Weight};
@@ -59,19 +60,6 @@ fn duals_of(alloc: Global, m: u32, dual: &[Dual]) -> Result<Vec<Option<bool>>, O
         table[line.pos as usize - 1] = Some(line.y >= 1);
     }
     Ok(table)
-}
-
-/// Whether the dual of a position is missing, not wanted or below 1.
-fn is_bad_dual(kept: &[bool], table: &[Option<bool>], p: u32) -> bool
-    requires first { 0 < p }
-    requires kept { p ≤ length kept.now }
-    requires table { p ≤ length table.now }
-    ensures { result ≡ is_bad_dual kept.now table.now p }
-{
-    match table[p as usize - 1] {
-        Some(above) => !kept[p as usize - 1] || !above,
-        None => kept[p as usize - 1],
-    }
 }
 
 /// The first variable of the kept clauses in which the balance of all duals is not 0, or none. The error

@@ -22,6 +22,7 @@ ghost use Rattle.check_linear.specs.Linear.{ClearsNumbers, ClearsShares, numbers
 ghost use Rattle.check_linear.specs.Linear.{is_unbalanced_share, is_bad_unit_line};
 
 use crate::linear::{add_numbers, is_unbalanced, no_numbers};
+use check_places::is_amiss;
 use check_tables::{Span, Workers, kept_flags, occurring_at};
 use lk_model::{DoneDocument, Formula, List, Lit, OutOfMemory, Share, Unit, VarSet};
 use lk_outside::Gate;
@@ -115,11 +116,11 @@ fn is_bad_unit(
     ensures none { OnOk result (AreNone f.now.vars numbers.new.items) }
 {
     let k = tables.numbers[v as usize - 1];
-    if k == 0 {
-        return Ok(tables.occurring.has(v));
-    }
-    if !tables.occurring.has(v) {
+    if is_amiss(tables.occurring.has(v), k != 0) {
         return Ok(true);
+    }
+    if k == 0 {
+        return Ok(false);
     }
     let unit = unit_numbered(units, k);
     is_bad_line(

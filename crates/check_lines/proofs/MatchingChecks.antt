@@ -25,7 +25,8 @@ use Rattle.lk_model.proofs.ListTests.{all_at}
 use Rattle.lk_model.proofs.Rising.{rising_bounds}
 use Rattle.check_tables.specs.Flags.{is_flagged, AreKeptFlags}
 use Rattle.check_tables.specs.Occurring.{AreOccurring}
-use Rattle.check_lines.specs.Matching.{AreOwners, AreFirstOwners, AreRows, AreFirstRows, AreRankBounds, AreNamedThere, NotesNamed, rank_bound, row_in, has_own, has_escape, holds_true, is_bad_owner, is_bad_row}
+use Rattle.check_lines.specs.Matching.{AreOwners, AreFirstOwners, AreRows, AreFirstRows, AreRankBounds, AreNamedThere, NotesNamed, rank_bound, row_in, has_own, has_escape, is_bad_row}
+use Rattle.check_places.specs.Places.{holds_true, is_bad_owner}
 use Rattle.check_tables.proofs.FirstTables.{earlier_is, found_passes, map_same}
 use Rattle.check_tables.proofs.KeptFlags.{find_to}
 use Rattle.check_lines.proofs.PairTables.{shown_is}

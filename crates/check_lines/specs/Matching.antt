@@ -4,14 +4,12 @@ use Rattle.std.specs.List.{list_any}
 use Rattle.std.specs.Option.{option_map_or}
 use Rattle.lk_model.specs.Formulas.Literal.{mentions}
 use Rattle.lk_model.specs.Formulas.Literal.{variable}
-use Rattle.lk_model.specs.Formulas.Assignment.{Assignment, makes_true}
 use Rattle.lk_model.specs.Formulas.Formula.{Cnf, clause_at}
 use Rattle.lk_model.specs.Held.VariableSets.{is_in}
 use Rattle.lk_model.specs.Checks.Check.{line_fails}
 use Rattle.lk_model.specs.declared.document.Own.{Own}
 use Rattle.lk_model.specs.declared.document.MatchRow.{MatchRow}
 use Rattle.kernel_laws.specs.FirstTables.{IsFirstTable}
-use Rattle.check_tables.specs.Flags.{is_flagged}
 
 -- OWN LINES, over m positions and n variables
 
@@ -22,17 +20,6 @@ AreOwners m own table = IsFirstTable m (λ (o : Own). o.pos) (λ (o : Own). o.va
 -- the first position with each variable; the last of all where none has it
 abbrev pub AreFirstOwners : ℕ → ℕ → List Own → List ℕ → Type 0
 AreFirstOwners n m own table = IsFirstTable n (λ (o : Own). o.var) (λ (o : Own). o.pos) 0 m own table
-
--- the clause holds a literal on the variable that is true
-abbrev pub holds_true : Assignment → ℕ → List ℤ → Bool
-holds_true φ v clause = list_any (λ l. makes_true φ l && (variable l == v)) clause
-
--- The position has no line and is not kept; or it has one and is kept, or no literal on its variable is true, or an earlier
--- position has the variable.
-abbrev pub is_bad_owner : Assignment → List Bool → List ℕ → List ℕ → ℕ → List ℤ → Bool
-is_bad_owner φ kept owners first p clause = if slice_index owners (p - 1) == 0
-    then not (is_flagged kept p)
-    else is_flagged kept p || not (holds_true φ (slice_index owners (p - 1)) clause) || nat_lt (slice_index first (slice_index owners (p - 1) - 1)) p
 
 -- ROWS, over n variables and m positions
 

@@ -6,33 +6,23 @@ ghost use Rattle.std.specs.Prelude.{◌≡◌, ◌≤◌, ◌<◌, ◌-◌, ◌&
 ghost use Rattle.std.specs.List.{list_all};
 ghost use Rattle.lk_model.specs.Lists.{rises_within};
 ghost use Rattle.lk_model.specs.Formulas.Literal.{is_literal, variable};
-ghost use Rattle.lk_model.specs.Formulas.Formula.{clause_at};
 ghost use Rattle.lk_model.specs.Formulas.Lean.{are_positions};
 ghost use Rattle.lk_model.specs.Formulas.Crossed.{no_variable};
-ghost use Rattle.lk_model.specs.Formulas.Assignment.{makes_true};
-ghost use Rattle.lk_model.specs.Held.PartialValues.{assignment_by};
 ghost use Rattle.lk_model.specs.Held.VariableSets.{is_in};
 ghost use Rattle.lk_model.specs.Documents.Form.{are_own, are_rows};
 ghost use Rattle.lk_model.specs.Checks.MatchingChecks.{bad_owner, bad_row};
 ghost use Rattle.check_tables.specs.Occurring.{AreOccurring, NotesVariables};
 ghost use Rattle.check_lines.specs.Matching.{AreOwners, AreFirstOwners, AreRows, AreFirstRows, AreRankBounds};
-ghost use Rattle.check_lines.specs.Matching.{AreNamedThere, NotesNamed, has_own, has_escape, row_in, holds_true};
-ghost use Rattle.check_lines.specs.Matching.{is_bad_owner, is_bad_row};
+ghost use Rattle.check_lines.specs.Matching.{AreNamedThere, NotesNamed, has_own, has_escape, row_in};
+ghost use Rattle.check_lines.specs.Matching.{is_bad_row};
 
-use check_tables::{Workers, kept_flags, number_at};
+use check_places::{Owners, is_bad_owner, number_at};
+use check_tables::{Workers, kept_flags};
 use lk_model::{DoneDocument, Formula, Lit, MatchRow, OutOfMemory, Own, VarSet};
 use lk_outside::Gate;
-use partial_assign::{Partial, assignment_of};
+use partial_assign::assignment_of;
 use std::alloc::Global;
 use std::thread::Threads;
-
-/// What the own lines say: the variable of each position's line, 0 where it has none, and the first
-/// position with a line of each variable, the last of all where none has it.
-#[derive(Drop)]
-struct Owners {
-    of_position: Vec<u32>,
-    first: Vec<u32>,
-}
 
 /// The first position, counted from 1, that is removed and has no own line, or is kept and has one, or
 /// whose line has a variable on which no literal of the clause is true, or the variable of an earlier
@@ -72,49 +62,6 @@ fn owners_of(alloc: Global, n: u32, m: u32, own: &[Own]) -> Result<Owners, OutOf
         first[line.var as usize - 1] = line.pos;
     }
     Ok(Owners { of_position, first })
-}
-
-/// Whether the own line of a position is missing, not wanted or bad.
-fn is_bad_owner(f: &Formula, values: &Partial, kept: &[bool], owners: &Owners, p: u32) -> bool
-    requires vars { length values.now ≡ f.now.vars }
-    requires kept { length kept.now ≡ length f.now.clauses }
-    requires first { 0 < p }
-    requires last { p ≤ length f.now.clauses }
-    ensures { result ≡ is_bad_owner
-        (assignment_by values.now) kept.now owners.now.of_position.items owners.now.first.items p (clause_at f.now p) }
-{
-    let v = number_at(&owners.of_position, p);
-    if v == 0 {
-        !kept[p as usize - 1]
-    } else {
-        kept[p as usize - 1]
-            || !holds_true(values, v, f.clause(p))
-            || number_at(&owners.first, v) < p
-    }
-}
-
-/// Whether a literal of the clause on a variable is true.
-fn holds_true(values: &Partial, v: u32, clause: &[Lit]) -> bool
-    requires { IsTrue (list_all (is_literal (length values.now)) clause.now) }
-    ensures { result ≡ holds_true (assignment_by values.now) v clause.now }
-{
-    clause.iter().any(|l| is_true_on(values, v, *l))
-}
-
-/// Whether a literal is one on the variable, and true.
-fn is_true_on(values: &Partial, v: u32, l: Lit) -> bool
-    requires { IsTrue (is_literal (length values.now) l) }
-    ensures { result ≡ (makes_true (assignment_by values.now) l && variable l == v) }
-{
-    makes_true(values, l) && l.var() == v
-}
-
-/// Whether a literal is true.
-fn makes_true(values: &Partial, l: Lit) -> bool
-    requires { IsTrue (is_literal (length values.now) l) }
-    ensures { result ≡ makes_true (assignment_by values.now) l }
-{
-    values.value(l.var()) == Some(l.positive())
 }
 
 /// What the rows say: the row of each variable, the first variable whose row has each own position, the

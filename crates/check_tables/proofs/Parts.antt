@@ -5,7 +5,8 @@ use Rattle.std.specs.Option.{option_or}
 use Rattle.std.proofs.lemmas.Result.{IfOk-weaker}
 use Rattle.std.proofs.lemmas.List.Folds.{find-append}
 use denote.Ref.{Bor}
-use Rattle.check_tables.specs.Places.{Answer, IsPart, first_answer, joined}
+use Rattle.check_tables.specs.Places.{Answer, IsPart, joined}
+use Rattle.check_places.specs.FirstAnswers.{first_answer}
 
 -- what is told of the first of two
 pub map_or : {X Y : Type 0} (f : X → Y) (a b : Option X) → option_map f (option_or a b) ≡ option_or (option_map f a) (option_map f b)

@@ -7,7 +7,8 @@ use Rattle.std.proofs.lemmas.Result.{IfOk-weaker}
 use Rattle.std.proofs.lemmas.List.Folds.{find-append}
 use Rattle.lk_model.specs.Lists.{up_to}
 use Rattle.check_tables.specs.declared.places.Span.{Span}
-use Rattle.check_tables.specs.Places.{Answer, AreCut, first_answer, places_in}
+use Rattle.check_tables.specs.Places.{Answer, AreCut, places_in}
+use Rattle.check_places.specs.FirstAnswers.{first_answer}
 
 -- THE RANGES
 

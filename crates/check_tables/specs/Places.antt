@@ -1,5 +1,5 @@
 -- Places that are searched in ranges.
-use Rattle.std.specs.Prelude.{◌≡◌, ℕ, ◌+◌, ◌<◌, ◌≤◌, Bool, List, [], ◌∷◌, ◌++◌, find, option_map, Option, Some, None, Ok, Err, IfOk}
+use Rattle.std.specs.Prelude.{◌≡◌, ℕ, ◌+◌, ◌<◌, ◌≤◌, Bool, List, [], ◌∷◌, ◌++◌, find, option_map, Option, IfOk}
 use Rattle.std.specs.List.{range_with_len}
 use Rattle.std.specs.declared.result.Result.{Result}
 use Rattle.std.specs.Fn.{FnReturns}
@@ -20,13 +20,6 @@ places_in span = range_with_len span.first span.count
 abbrev pub AreCut : ℕ → ℕ → List Span → Type 0
 AreCut first n [] = first ≡ n + 1
 AreCut first n (span ∷ spans) = (span.first ≡ first) × AreCut (first + span.count) n spans
-
--- the first answer that is not none
-abbrev pub first_answer : {X : Type 0} → List (Result (Option X) OutOfMemory) → Result (Option X) OutOfMemory
-first_answer [] = Ok None
-first_answer (Ok None ∷ rest) = first_answer rest
-first_answer (Ok (Some place) ∷ rest) = Ok (Some place)
-first_answer (Err e ∷ rest) = Err e
 
 -- A TEST OF PLACES
 

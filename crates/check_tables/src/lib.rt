@@ -8,4 +8,4 @@ mod tables;
 
 pub use literal_set::LiteralSet;
 pub use places::{Span, Workers};
-pub use tables::{kept_flags, number_at, occurring_at};
+pub use tables::{kept_flags, occurring_at};

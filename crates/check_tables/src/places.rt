@@ -6,8 +6,9 @@ ghost use Rattle.std.specs.Prelude.{◌≡◌, ◌+◌, ◌^◌, ◌<◌, ℕ, B
 ghost use Rattle.std.specs.Fn.{FnReturns};
 ghost use Rattle.lk_model.specs.Lists.{up_to};
 ghost use Rattle.check_tables.specs.Places.{AcceptsParts, AcceptsPlaces, AcceptsSpans, AreCut, Decides, Finds};
-ghost use Rattle.check_tables.specs.Places.{FindsItems, first_answer, places_in};
+ghost use Rattle.check_tables.specs.Places.{FindsItems, places_in};
 
+use check_places::first_answer;
 use lk_model::OutOfMemory;
 use par_halves::{Gate, map_halves};
 use std::alloc::Global;
@@ -165,18 +166,4 @@ fn cut(alloc: Global, n: u32, size: u32) -> Result<Vec<Span>, OutOfMemory>
         done += count;
     }
     Ok(spans)
-}
-
-/// The first answer that tells a place or an error.
-fn first_answer<P: Copy>(
-    answers: &[Result<Option<P>, OutOfMemory>],
-) -> Result<Option<P>, OutOfMemory>
-    ensures { result ≡ first_answer answers.now }
-{
-    for answer in answers {
-        if let Some(place) = (*answer)? {
-            return Ok(Some(place));
-        }
-    }
-    Ok(None)
 }

@@ -1,5 +1,5 @@
 //! Tables of positions and of variables.
-ghost use Rattle.std.specs.Prelude.{◌≡◌, ◌-◌, slice_index, IfOk, IsTrue};
+ghost use Rattle.std.specs.Prelude.{IfOk, IsTrue};
 ghost use Rattle.lk_model.specs.Lists.{rises_within};
 ghost use Rattle.lk_model.specs.Formulas.Lean.{are_positions};
 ghost use Rattle.check_tables.specs.Flags.{AreKeptFlags};
@@ -30,14 +30,4 @@ pub fn occurring_at(alloc: Global, f: &Formula, kept: &[u32]) -> Result<VarSet, 
     let mut set = VarSet::new(alloc, f.vars())?;
     set.add_clauses(f, kept);
     Ok(set)
-}
-
-/// The number of a position or variable, which counts from 1, in a table; 0 outside of it.
-pub fn number_at(table: &[u32], k: u32) -> u32
-    ensures { result ≡ slice_index table.now (k - 1) }
-{
-    match table.get((k as usize).saturating_sub(1)) {
-        Some(number) => *number,
-        None => 0,
-    }
 }

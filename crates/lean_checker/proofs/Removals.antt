@@ -9,7 +9,7 @@ use Rattle.lk_model.specs.Checks.CommonChecks.{not_exactly_removed}
 use Rattle.lk_model.specs.declared.document.DoneDocument.{DoneDocument}
 use Rattle.check_tables.specs.Flags.{is_flagged, AreKeptFlags}
 use Rattle.check_tables.proofs.KeptFlags.{find_to}
-use Rattle.lean_checker.specs.Common.{is_misplaced}
+use Rattle.check_places.specs.Places.{is_misplaced}
 
 -- by the flags the first misplaced clause is found
 pub misplaced_found : (F : Cnf) (d : DoneDocument) (φ : Assignment) (flags : List Bool) → φ ≡ assignment_of d.set → AreKeptFlags (length F.clauses) d.kept flags

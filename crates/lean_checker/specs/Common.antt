@@ -1,7 +1,6 @@
 -- The checks of every finished document, as code holds them.
-use Rattle.std.specs.Prelude.{ℕ, ◌-◌, Bool, if◌then◌else◌, not, List, [], ◌∷◌, ℤ, slice_index, Option}
+use Rattle.std.specs.Prelude.{ℕ, ◌-◌, Bool, not, List, [], ◌∷◌, slice_index, Option}
 use Rattle.lk_model.specs.Formulas.Literal.{is_same_list}
-use Rattle.lk_model.specs.Formulas.Assignment.{Assignment, touches}
 use Rattle.lk_model.specs.Formulas.Formula.{Cnf, clause_at}
 use Rattle.lk_model.specs.Checks.Check.{Check}
 use Rattle.lk_model.specs.declared.verdict.Kind.TheVariants.{KeptClause, ProtectedSet, NotAutarky, NotExactlyRemoved}
@@ -18,7 +17,3 @@ common_checks changed protected unsatisfied misplaced =
 -- a clause line is not the clause at its position, which is the kept one of the same number
 abbrev pub is_changed_line : Cnf → Cnf → List ℕ → ℕ → Bool
 is_changed_line F texts kept i = not (is_same_list (clause_at texts i) (clause_at F (slice_index kept (i - 1))))
-
--- a kept clause is touched, or one that is not kept is not
-abbrev pub is_misplaced : Assignment → Bool → List ℤ → Bool
-is_misplaced φ kept clause = if kept then touches φ clause else not (touches φ clause)

@@ -1,7 +1,7 @@
 //! The checks of every finished document, each in one pass.
-ghost use Rattle.std.specs.Prelude.{◌≡◌, ◌≤◌, ◌<◌, length, IfOk, IsTrue};
+ghost use Rattle.std.specs.Prelude.{◌≡◌, ◌<◌, length, IfOk, IsTrue};
 ghost use Rattle.lk_model.specs.Formulas.Literal.{is_same_list};
-ghost use Rattle.lk_model.specs.Formulas.Formula.{clause_at, is_formula};
+ghost use Rattle.lk_model.specs.Formulas.Formula.{is_formula};
 ghost use Rattle.lk_model.specs.Formulas.Lean.{are_positions};
 ghost use Rattle.lk_model.specs.Held.PartialValues.{assignment_by};
 ghost use Rattle.lk_model.specs.Formulas.Assignment.{assignment_of};
@@ -9,9 +9,10 @@ ghost use Rattle.lk_model.specs.Documents.Form.{is_done_in_form};
 ghost use Rattle.lk_model.specs.Checks.Check.{first_of};
 ghost use Rattle.lk_model.specs.Checks.CommonChecks.{other_formula, kept_clause, not_exactly_removed};
 ghost use Rattle.lean_checker.specs.Accepted.{HasSizes};
-ghost use Rattle.check_tables.specs.Flags.{AreKeptFlags, is_flagged};
-ghost use Rattle.lean_checker.specs.Common.{common_checks, is_misplaced};
+ghost use Rattle.check_tables.specs.Flags.{AreKeptFlags};
+ghost use Rattle.lean_checker.specs.Common.{common_checks};
 
+use check_places::is_misplaced;
 use check_tables::kept_flags;
 use lk_model::{DoneDocument, Formula, Kind, Lit, OutOfMemory, Why};
 use partial_assign::{Partial, assignment_of};
@@ -65,17 +66,6 @@ pub(crate) fn not_exactly_removed(
     ensures { result ≡ (not_exactly_removed f.now d.now).place }
 {
     (1..f.len() + 1).find(|p| is_misplaced(f, values, flags, *p))
-}
-
-/// Whether the clause at a position is touched and kept, or neither.
-pub(crate) fn is_misplaced(f: &Formula, values: &Partial, flags: &[bool], p: u32) -> bool
-    requires vars { length values.now ≡ f.now.vars }
-    requires flags { length flags.now ≡ length f.now.clauses }
-    requires first { 0 < p }
-    requires last { p ≤ length f.now.clauses }
-    ensures { result ≡ is_misplaced (assignment_by values.now) (is_flagged flags.now p) (clause_at f.now p) }
-{
-    flags[p as usize - 1] == values.touches(f.clause(p))
 }
 
 /// What a document sets, and which positions it keeps.

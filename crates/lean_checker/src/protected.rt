@@ -1,5 +1,5 @@
 //! Protected variables: their check, and the formula without their literals.
-ghost use Rattle.std.specs.Prelude.{◌≡◌, length, find, is_some, unwrap_or, IfOk, IsTrue};
+ghost use Rattle.std.specs.Prelude.{◌≡◌, length, unwrap_or, IfOk, IsTrue};
 ghost use Rattle.lk_model.specs.Lists.{among, rises_within};
 ghost use Rattle.lk_model.specs.Formulas.Formula.{Cnf};
 ghost use Rattle.lk_model.specs.Formulas.Crossed.{formula_without, protected_by};
@@ -8,6 +8,7 @@ ghost use Rattle.lk_model.specs.Held.PartialValues.{assignment_by};
 ghost use Rattle.lk_model.specs.Documents.Form.{is_protect_line};
 ghost use Rattle.lk_model.specs.Checks.CommonChecks.{protected_set};
 
+use check_places::first_set;
 use lk_model::{DoneDocument, Formula, List, OutOfMemory, VarSet};
 use partial_assign::Partial;
 use std::alloc::Global;
@@ -23,19 +24,6 @@ pub(crate) fn protected_set(d: &DoneDocument, values: &Partial) -> Option<u32>
         Some(vars) => first_set(vars.as_slice(), values),
         None => None,
     }
-}
-
-/// The first of the listed variables, which ascend, that is set.
-fn first_set(vars: &[u32], values: &Partial) -> Option<u32>
-    requires { IsTrue (rises_within 0 (length values.now) vars.now) }
-    ensures { result ≡ find (λ v. is_some (assignment_by values.now v)) vars.now }
-{
-    for v in vars {
-        if values.value(*v).is_some() {
-            return Some(*v);
-        }
-    }
-    None
 }
 
 /// The formula without the literals on the variables of a protect line; None where it is the formula

@@ -8,8 +8,9 @@ ghost use Rattle.lk_model.specs.Checks.CommonChecks.{kept_clause, not_exactly_re
 ghost use Rattle.lean_checker.specs.Common.{is_changed_line};
 ghost use Rattle.check_tables.specs.Flags.{AreKeptFlags};
 
-use crate::common::{is_misplaced, is_same_list};
-use check_tables::{Workers, number_at};
+use crate::common::is_same_list;
+use check_places::{is_misplaced, number_at};
+use check_tables::Workers;
 use lk_model::{DoneDocument, Formula, OutOfMemory};
 use lk_outside::Gate;
 use partial_assign::Partial;

@@ -1,5 +1,5 @@
 -- What the search for a minimally unsatisfiable core answers.
-use Rattle.std.specs.Prelude.{◌≡◌, ℕ, ◌^◌, ◌<◌, ◌≤◌, List, [], ◌∷◌, map, length, find, ℤ, IfSome, IsTrue}
+use Rattle.std.specs.Prelude.{◌≡◌, ℕ, ◌^◌, ◌<◌, List, [], ◌∷◌, map, find, ℤ, IfSome, IsTrue}
 use Rattle.lk_model.specs.Lists.{is_empty}
 use Rattle.lk_model.specs.Formulas.Literal.{variable}
 use Rattle.lk_model.specs.Formulas.Formula.{Cnf, clause_at, clauses_at, positions_of, variables_to}
@@ -40,9 +40,3 @@ HasCore ps (Unfinished part texts round) = ⊥
 -- where a clause is empty, the first such one by itself is the core
 abbrev pub TakesEmpty : Cnf → Mus → Type 0
 TakesEmpty F m = IfSome (find (λ p. is_empty (clause_at F p)) (positions_of F)) (λ p. HasCore (p ∷ []) m)
-
--- the position of an empty clause
-pub record IsEmptyAt (F : Cnf) (p : ℕ) : Type 0 where
-  pub first : 0 < p
-  pub last : p ≤ length F.clauses
-  pub empty : clause_at F p ≡ []

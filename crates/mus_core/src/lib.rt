@@ -2,7 +2,6 @@
 #![tactic(auto)]
 
 mod deciding;
-mod empty_clause;
 mod mus;
 mod named;
 mod rotation;

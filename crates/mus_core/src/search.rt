@@ -6,11 +6,11 @@ ghost use Rattle.part_formula.specs.Decisions.{are_filled, IsPartModel};
 ghost use Rattle.mus_core.specs.Found.{IsMus, IsWholeModel, TakesEmpty};
 
 use crate::deciding::{Copied, Refutation};
-use crate::empty_clause::{empty_core, first_empty};
 use crate::mus::Mus;
 use crate::named::named_positions;
 use crate::shrinking::shrink;
 use cdcl_core::Turns;
+use empty_clauses::{empty_core, first_empty};
 use lk_model::{Budget, Formula, List, Lit, OutOfMemory, Round};
 use part_formula::{Decision, decide_part_by, dense_formula, names_of};
 use partial_assign::{Partial, assignment_of, extend_total};

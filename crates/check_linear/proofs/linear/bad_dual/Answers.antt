@@ -1,7 +1,8 @@
 use Rattle.std.proofs.Common.{rules, length, subst, List, ℕ}
 use borrow.Author.Tests.{tests}
 use Rattle.check_tables.specs.Flags.{AreKeptFlags}
-use Rattle.check_linear.specs.Linear.{AreDuals, is_bad_dual}
+use Rattle.check_linear.specs.Linear.{AreDuals}
+use Rattle.check_places.specs.Places.{is_bad_dual}
 use Rattle.check_linear.proofs.DualChecks.{dual_found}
 use Rattle.check_tables.proofs.Spans.{place_told}
 use Rattle.check_linear.proofs.linear.bad_dual.Goals as goal

@@ -4,7 +4,8 @@ use Rattle.lk_model.specs.Formulas.Formula.{clause_at}
 use Rattle.lk_model.specs.Formulas.Assignment.{assignment_of}
 use Rattle.lk_model.specs.Held.PartialValues.{assignment_by}
 use Rattle.check_tables.specs.Flags.{AreKeptFlags}
-use Rattle.check_lines.specs.Matching.{AreOwners, AreFirstOwners, is_bad_owner}
+use Rattle.check_lines.specs.Matching.{AreOwners, AreFirstOwners}
+use Rattle.check_places.specs.Places.{is_bad_owner}
 use Rattle.check_lines.proofs.MatchingChecks.{AreOwnerTables, owner_found}
 use Rattle.check_tables.proofs.Spans.{place_told}
 use Rattle.check_lines.proofs.matching.bad_owner.Goals as goal

@@ -6,7 +6,7 @@ use Rattle.std.proofs.lemmas.Iterator.Search.{find_from_yields_List}
 use Rattle.lk_model.specs.Formulas.Formula.{clause_at}
 use Rattle.lk_model.specs.Held.PartialValues.{assignment_by}
 use Rattle.check_tables.specs.Flags.{is_flagged}
-use Rattle.lean_checker.specs.Common.{is_misplaced}
+use Rattle.check_places.specs.Places.{is_misplaced}
 use Rattle.lean_checker.proofs.Removals.{misplaced_found}
 use Rattle.lean_checker.proofs.common.not_exactly_removed.Goals as goal
 

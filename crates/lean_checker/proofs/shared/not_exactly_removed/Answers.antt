@@ -3,7 +3,7 @@ use borrow.Author.Tests.{tests}
 use Rattle.lk_model.specs.Formulas.Formula.{clause_at}
 use Rattle.lk_model.specs.Held.PartialValues.{assignment_by}
 use Rattle.check_tables.specs.Flags.{is_flagged}
-use Rattle.lean_checker.specs.Common.{is_misplaced}
+use Rattle.check_places.specs.Places.{is_misplaced}
 use Rattle.lean_checker.proofs.Removals.{misplaced_found}
 use Rattle.check_tables.proofs.Spans.{place_told}
 use Rattle.lean_checker.proofs.shared.not_exactly_removed.Goals as goal

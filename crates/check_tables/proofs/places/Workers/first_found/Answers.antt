@@ -2,7 +2,8 @@ use Rattle.std.proofs.Common.{◌≡◌, ◌∙◌, ◌++◌, ◌<◌, ℕ, List
 use Rattle.std.specs.Prelude.{IfOk}
 use Rattle.std.specs.Slice.Iter.{chunks_rest}
 use Rattle.std.proofs.lemmas.List.{nil_from_length}
-use Rattle.check_tables.specs.Places.{Answer, IsPart, first_answer, joined}
+use Rattle.check_tables.specs.Places.{Answer, IsPart, joined}
+use Rattle.check_places.specs.FirstAnswers.{first_answer}
 use Rattle.check_tables.proofs.Parts.{joined_more, part_within, first_of_parts}
 use Rattle.check_tables.proofs.places.Workers.first_found.Goals as goal
 

@@ -2,7 +2,8 @@ use Rattle.std.proofs.Common.{◌≡◌, ◌∙◌, ◌+◌, ◌-◌, ◌<◌, �
 use Rattle.std.specs.Prelude.{IfOk, find}
 use Rattle.lk_model.specs.Lists.{up_to}
 use Rattle.check_tables.specs.declared.places.Span.{Span}
-use Rattle.check_tables.specs.Places.{Answer, AreCut, first_answer, places_in}
+use Rattle.check_tables.specs.Places.{Answer, AreCut, places_in}
+use Rattle.check_places.specs.FirstAnswers.{first_answer}
 use Rattle.check_tables.proofs.Spans.{cut_within, first_of_all}
 use Rattle.check_tables.proofs.places.Workers.least_found.Goals as goal
 

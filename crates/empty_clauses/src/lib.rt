@@ -1,0 +1,6 @@
+//! Empty clauses, each of which is a core by itself.
+#![tactic(auto)]
+
+mod empty_clause;
+
+pub use empty_clause::{empty_core, first_empty};
