@@ -1,12 +1,12 @@
 -- The content of a row, and of its entries, and entries that are divided by it.
-use Rattle.std.proofs.Common.{◌≡◌, ℕ, zero, suc, ◌+◌, ◌-◌, ◌*◌, ◌/◌, ◌%◌, ◌^◌, ◌<◌, ◌≤◌, ◌==◌, Bool, true, false, inl, inr, List, [], ◌∷◌, map, drop, get_or, ℤ, pos, negsuc, ◌≤ℤ◌, int_div, unsigned_abs, refl, sym, ap, ◌∙◌, subst, arith}
+use Rattle.std.proofs.Common.{◌≡◌, ℕ, zero, suc, ◌+◌, ◌-◌, ◌*◌, ◌/◌, ◌%◌, ◌^◌, ◌<◌, ◌≤◌, ◌==◌, Bool, true, false, inl, inr, List, [], ◌∷◌, map, drop, get_or, length, ℤ, pos, negsuc, ◌≤ℤ◌, int_div, unsigned_abs, refl, sym, ap, ◌∙◌, subst, arith}
 use Rattle.std.proofs.lemmas.Int.{ints}
 use Rattle.std.specs.Int.{◌∣◌}
 use Rattle.std.specs.List.{All, range_with_len}
 use Rattle.std.proofs.Math.Nat.{le_of_dvd, div-add-mod, mod-lt, pos_of_ne-zero, eq-zero_of_zero-dvd, zero-div}
 use Rattle.std.proofs.lemmas.Bool.{leb-true, le-leb}
 use Rattle.std.proofs.lemmas.Nat.Gcd.{dvd_trans, dvd_refl}
-use Rattle.std.proofs.lemmas.List.{drop-map}
+use Rattle.std.proofs.lemmas.List.{drop-map, drop_more}
 use Rattle.std.proofs.lemmas.List.Elements.{All-nil, All-cons, All-head, All-map}
 use Rattle.lk_model.specs.Limits.{is_in_range}
 use Rattle.lk_model.specs.Lists.{is_nonzero, rises_within}
@@ -36,6 +36,16 @@ content-one (suc i) (x ∷ xs) h =
 
 pub content_of-one : (i : ℕ) (es : List Entry) → pos 1 ≡ content_of (drop i es) → pos 1 ≡ content_of es
 content_of-one i es h = content-one i (map (λ (e : Entry). e.value) es) (h ∙ ap content (sym (drop-map (λ (e : Entry). e.value) i es)))
+
+-- one number more
+pub content-more : (xs : List ℤ) (k i : ℕ) (g : ℤ) → k < length xs → k + 1 ≡ i → g ≡ content (drop i xs) → gcd_of (get_or xs k (pos 0)) g ≡ content (drop k xs)
+content-more xs k i g lt next so_far =
+    ap (gcd_of (get_or xs k (pos 0))) (so_far ∙ ap (λ (j : ℕ). content (drop j xs)) (sym next)) ∙ sym (ap content (drop_more xs k (pos 0) lt))
+
+pub content_of-more : (es : List Entry) (k i : ℕ) (d : Entry) (g : ℤ) → k < length es → k + 1 ≡ i → g ≡ content_of (drop i es)
+    → gcd_of (get_or es k d).value g ≡ content_of (drop k es)
+content_of-more es k i d g lt next so_far =
+    ap (gcd_of (get_or es k d).value) (so_far ∙ ap (λ (j : ℕ). content_of (drop j es)) (sym next)) ∙ sym (ap content_of (drop_more es k d lt))
 
 -- zeros play no part
 content-pos : (xs : List ℤ) → pos (unsigned_abs (content xs)) ≡ content xs

@@ -126,11 +126,11 @@ fn content(entries: &[Entry]) -> i128
     ensures range { IsTrue (is_in_range result) }
 {
     let mut divisor = 0;
-    for e in entries.iter().rev() {
+    for i in (0..entries.len()).rev() {
         if divisor == 1 {
             return 1;
         }
-        divisor = gcd(e.value, divisor);
+        divisor = gcd(entries[i].value, divisor);
     }
     divisor
 }

@@ -37,11 +37,11 @@ fn content(row: &[i128]) -> i128
     ensures { result ≡ content row.now }
 {
     let mut divisor = 0;
-    for x in row.iter().rev() {
+    for i in (0..row.len()).rev() {
         if divisor == 1 {
             return 1;
         }
-        divisor = gcd(*x, divisor);
+        divisor = gcd(row[i], divisor);
     }
     divisor
 }

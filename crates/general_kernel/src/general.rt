@@ -71,7 +71,8 @@ fn run(alloc: Global, f: &Formula, part: &[u32], rounds: &mut Rounds) -> Result<
     ensures { IfOk result (EndsRounds f.now part.now rounds.old.budget rounds.new) }
 {
     let mut units = Units::new(alloc, f, part)?;
-    round_after_round(alloc, f, part, &mut units, rounds)
+    let mut turns = Turns::new();
+    round_after_round(alloc, f, part, &mut units, &mut turns, rounds)
 }
 
 // Round after round. What unit propagation alone refutes comes first: it learns nothing, and costs what it uses.
@@ -80,6 +81,7 @@ fn round_after_round(
     f: &Formula,
     part: &[u32],
     units: &mut Units,
+    turns: &mut Turns,
     rounds: &mut Rounds,
 ) -> Result<End, OutOfMemory>
     requires part { IsTrue (are_positions f.now part.now) }
@@ -90,7 +92,6 @@ fn round_after_round(
     requires within { IsWithin part.now units.old }
     ensures { IfOk result (EndsRounds f.now part.now rounds.old.budget rounds.new) }
 {
-    let mut turns = Turns::new();
     let mut again = 0;
     'rounds: loop {
         let over = Crossed {
@@ -113,7 +114,7 @@ fn round_after_round(
             return Ok(End::Open(Round { steps }));
         }
         let so_far = rounds.whole.len();
-        let short = refute_short(
+        if let Some(ShortRefutation { round: short, used }) = refute_short(
             alloc,
             &over,
             units,
@@ -121,13 +122,12 @@ fn round_after_round(
             rounds.budget,
             so_far,
             &mut again,
-        )?;
-        if let Some(ShortRefutation { round, used }) = short {
-            rounds.push_round(round)?;
+        )? {
+            rounds.push_round(short)?;
             units.block(f, used.as_slice(), &mut rounds.blocked)?;
             continue 'rounds;
         }
-        match decide_by_turns(alloc, &over, &mut turns, rounds.next, rounds.budget)? {
+        match decide_by_turns(alloc, &over, turns, rounds.next, rounds.budget)? {
             Decided::Sat(values) => {
                 let kept = covered(alloc, f, part, &rounds.blocked)?;
                 let set = set_of(alloc, f, part, &values)?;

@@ -1,5 +1,5 @@
 -- The variables that occur, one after another.
-use Rattle.std.proofs.Common.{◌≡◌, ℕ, zero, suc, ◌+◌, ◌-◌, ◌<◌, ◌≤◌, ◌||◌, ◌==◌, length, take, get_or-set_same, get_or-set_other, Bool, true, false, cond, List, [], ◌∷◌, ◌++◌, replicate, get_or, filter, refl, sym, ap, ◌∙◌, subst, arith}
+use Rattle.std.proofs.Common.{◌≡◌, ℕ, zero, suc, ◌+◌, ◌-◌, ◌<◌, ◌≤◌, ◌||◌, ◌==◌, length, take, get_or-set_same, get_or-set_other, Bool, true, false, cond, List, [], ◌∷◌, ◌++◌, replicate, get_or, filter, refl, sym, ap, ◌∙◌, subst, arith, ℤ}
 use Rattle.std.proofs.lemmas.List.{append-nil}
 use Rattle.std.proofs.lemmas.List.Folds.{list_any_more}
 use Rattle.std.proofs.lemmas.Bool.{eqb-true, eqb-false}
@@ -8,6 +8,7 @@ use Rattle.std.specs.Prelude.{slice_set}
 use Rattle.lk_model.proofs.Booleans.{or_right}
 use Rattle.std.proofs.lemmas.List.Elements.{All-append, All-cons, All-nil}
 use Rattle.std.specs.List.{All, range_with_len}
+use Rattle.lk_model.specs.Formulas.Literal.{mentions, variable}
 use Rattle.lk_model.specs.Lists.{among, up_to}
 use Rattle.lk_model.specs.Held.VariableSets.{is_in, with_variable}
 
@@ -45,6 +46,13 @@ pub in_more : (start flags : List Bool) (vs : List ℕ) (i v : ℕ) → i < leng
 in_more start flags vs i v lt first last e =
     is_in_with flags (get_or vs i 0) v first last ∙ ap (λ b. b || get_or vs i 0 == v) e ∙ or_assoc (is_in start v) (among (take i vs) v) (get_or vs i 0 == v)
     ∙ ap (λ b. is_in start v || b) (sym (list_any_more (λ k. k == v) vs i 0 lt))
+
+-- the variable of one more of the literals is put in
+pub mentioned_more : (start flags : List Bool) (c : List ℤ) (i v : ℕ) (l : ℤ) (x : ℕ) → i < length c → l ≡ get_or c i l → x ≡ variable l → 0 < x → x ≤ length flags
+    → is_in flags v ≡ (is_in start v || mentions (take i c) v) → is_in (with_variable flags x) v ≡ (is_in start v || mentions (take (i + 1) c) v)
+mentioned_more start flags c i v l x lt is var first last e =
+    is_in_with flags x v first last ∙ ap (λ b. b || x == v) e ∙ or_assoc (is_in start v) (mentions (take i c) v) (x == v)
+    ∙ ap (λ b. is_in start v || b) (ap (λ (k : ℕ). mentions (take i c) v || k == v) (var ∙ ap variable is) ∙ sym (list_any_more (λ (k : ℤ). variable k == v) c i l lt))
 
 -- the number where it passes
 abbrev one : (ℕ → Bool) → ℕ → List ℕ

@@ -5,7 +5,7 @@ use Rattle.lk_model.specs.Formulas.Formula.{Cnf, positions_of}
 use Rattle.mus_core.specs.declared.deciding.Copied.{Copied}
 use Rattle.mus_core.specs.declared.deciding.Refutation.{Refutation}
 use Rattle.mus_core.specs.declared.shrinking.Turned.{Turned}
-use Rattle.mus_core.specs.declared.shrinking.Turned.TheVariants.{On, Ended}
+use Rattle.mus_core.specs.declared.shrinking.Turned.TheVariants.{Kept, On, Ended}
 use Rattle.mus_core.specs.Copies.{IsRefutedWithin}
 use Rattle.mus_core.specs.Found.{IsMus}
 use Rattle.mus_core.specs.WitnessValues.{witness_at, AreHeld, is_open}
@@ -28,5 +28,6 @@ pub record IsNext (c : Copied) (r : Refutation) (ws : List (Option (List (Option
 
 -- The search goes on with fewer places that have no witness, or it ends.
 abbrev pub IsTurned : Copied → ℕ → Refutation → List (Option (List (Option Bool))) → List (Option (List (Option Bool))) → Turned → Type 0
+IsTurned c conflicts r ws us Kept = IsShrunk c r us × (left_open c.clauses.now r.places us < left_open c.clauses.now r.places ws)
 IsTurned c conflicts r ws us (On s) = IsShrunk c s us × (left_open c.clauses.now s.places us < left_open c.clauses.now r.places ws)
 IsTurned c conflicts r ws us (Ended m) = IsMus c.formula.now conflicts m

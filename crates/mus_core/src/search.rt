@@ -1,8 +1,12 @@
 //! A minimally unsatisfiable core of a formula, or a model of it.
-ghost use Rattle.std.specs.Prelude.{IfOk, IsTrue};
+ghost use Rattle.std.specs.Prelude.{◌≡◌, length, IfOk, IsTrue};
+ghost use Rattle.lk_model.specs.Lists.{rises_within};
 ghost use Rattle.lk_model.specs.Formulas.Formula.{is_formula, positions_of};
+ghost use Rattle.lk_model.specs.Formulas.Lean.{are_positions};
 ghost use Rattle.kernel_laws.specs.General.RefutationLaw.{IsRefutation};
-ghost use Rattle.part_formula.specs.Decisions.{are_filled, IsPartModel};
+ghost use Rattle.part_formula.specs.Decisions.{are_filled, IsDecision, IsPartModel};
+ghost use Rattle.renaming_laws.specs.Renaming.{IsDense};
+ghost use Rattle.mus_core.specs.Named.{names_only};
 ghost use Rattle.mus_core.specs.Found.{IsMus, IsWholeModel, TakesEmpty};
 
 use crate::deciding::{Copied, Refutation};
@@ -37,8 +41,7 @@ fn minimal_of_filled(alloc: Global, f: &Formula, conflicts: Budget) -> Result<Mu
     ensures { IfOk result (IsMus f.now conflicts) }
 {
     let part = f.positions(alloc)?;
-    let mut turns = Turns::of_all_orders();
-    match decide_part_by(alloc, f, part.as_slice(), &mut turns, conflicts)? {
+    match decide_by_all_orders(alloc, f, part.as_slice(), conflicts)? {
         Decision::Model(set) => Ok(Mus::Model(whole_model(alloc, f, set.as_slice())?)),
         Decision::Refuted(round) => minimal_of_refuted(alloc, f, round, conflicts),
         Decision::Stopped(round) => {
@@ -46,6 +49,20 @@ fn minimal_of_filled(alloc: Global, f: &Formula, conflicts: Budget) -> Result<Mu
             Ok(Mus::Unfinished { part, texts, round })
         }
     }
+}
+
+// What a decision by all orders of variables in turn answers.
+fn decide_by_all_orders(
+    alloc: Global,
+    f: &Formula,
+    part: &[u32],
+    conflicts: Budget,
+) -> Result<Decision, OutOfMemory>
+    requires part { IsTrue (are_positions f.now part.now) }
+    requires filled { IsTrue (are_filled f.now part.now) }
+    ensures { IfOk result (IsDecision f.now part.now conflicts) }
+{
+    decide_part_by(alloc, f, part, &mut Turns::of_all_orders(), conflicts)
 }
 
 // A literal for each variable, negative where the model has none.
@@ -69,15 +86,44 @@ fn minimal_of_refuted(
     requires refuted { IsRefutation f.now (positions_of f.now) round }
     ensures { IfOk result (IsMus f.now conflicts) }
 {
-    let part = named_positions(alloc, f.len(), &round)?;
-    let names = names_of(alloc, f, part.as_slice())?;
-    let clauses = dense_formula(alloc, f, part.as_slice(), &names)?;
-    let places = clauses.positions(alloc)?;
+    let first = FirstCore::of(alloc, f, &round)?;
+    let places = first.places;
     let core = Copied {
         formula: f,
-        part: part.as_slice(),
-        names: &names,
-        clauses: &clauses,
+        part: first.part.as_slice(),
+        names: &first.names,
+        clauses: &first.clauses,
     };
     shrink(alloc, &core, Refutation { places, round }, conflicts)
+}
+
+/// The clauses that a refutation names, by position, with their variables and a copy of them.
+#[derive(Drop)]
+pub(crate) struct FirstCore {
+    pub part: List<u32>,
+    pub names: Vec<u32>,
+    pub clauses: Formula,
+    /// All places in the copy.
+    pub places: List<u32>,
+}
+
+impl FirstCore {
+    // That of a refutation.
+    fn of(alloc: Global, f: &Formula, round: &Round) -> Result<FirstCore, OutOfMemory>
+        ensures rise { IfOk result (λ core. IsTrue (rises_within 0 (length f.now.clauses) core.part)) }
+        ensures named { IfOk result (λ core. IsTrue (names_only (length f.now.clauses) core.part round.now)) }
+        ensures dense { IfOk result (λ core. IsDense f.now core.part core.names.items core.clauses) }
+        ensures places { IfOk result (λ core. core.places ≡ positions_of core.clauses) }
+    {
+        let part = named_positions(alloc, f.len(), round)?;
+        let names = names_of(alloc, f, part.as_slice())?;
+        let clauses = dense_formula(alloc, f, part.as_slice(), &names)?;
+        let places = clauses.positions(alloc)?;
+        Ok(FirstCore {
+            part,
+            names,
+            clauses,
+            places,
+        })
+    }
 }

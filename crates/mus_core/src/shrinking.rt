@@ -8,7 +8,7 @@
 //! Here the clauses of the first core are copied once under numbers of their own, so that no decision costs the
 //! formula. The last refutation is kept, in the formula's numbers, and its chains name positions of the core alone,
 //! since all later answers are models.
-ghost use Rattle.std.specs.Prelude.{◌≡◌, ◌==◌, filter, not, map, IfOk};
+ghost use Rattle.std.specs.Prelude.{◌≡◌, ◌==◌, None, filter, not, map, length, replicate, IfOk};
 ghost use Rattle.occurrence_lists.specs.Occurrences.{AreOccurrences};
 ghost use Rattle.renaming_laws.specs.Renaming.{nth};
 ghost use Rattle.mus_core.specs.Copies.{IsCopy, IsRefutedWithin};
@@ -21,7 +21,7 @@ use crate::rotation::give;
 use crate::told_core::told_core;
 use crate::witnesses::{Witnesses, first_open};
 use cdcl_core::Turns;
-use lk_model::{Budget, List, OutOfMemory};
+use lk_model::{Budget, Formula, List, OutOfMemory};
 use occurrence_lists::OccurrenceLists;
 use part_formula::nth;
 use partial_assign::assignment_of;
@@ -41,27 +41,77 @@ pub(crate) fn shrink(
     requires refuted { IsRefutedWithin core.now refutation }
     ensures { IfOk result (IsMus core.now.formula.now conflicts) }
 {
+    let mut tables = Tables::new(alloc, core.clauses)?;
+    shrink_by(
+        alloc,
+        core,
+        &tables.lists,
+        refutation,
+        &mut tables.witnesses,
+        &mut tables.turns,
+        conflicts,
+    )
+}
+
+/// What all turns use.
+#[derive(Drop)]
+pub(crate) struct Tables {
+    pub lists: OccurrenceLists,
+    pub witnesses: Witnesses,
+    pub turns: Turns,
+}
+
+impl Tables {
+    // Where no place has a witness.
+    fn new(alloc: Global, clauses: &Formula) -> Result<Tables, OutOfMemory>
+        ensures lists { IfOk result (λ t. AreOccurrences clauses.now t.lists) }
+        ensures witnesses { IfOk result (λ t. t.witnesses ≡ replicate (length clauses.now.clauses) None) }
+    {
+        let lists = OccurrenceLists::new(alloc, clauses)?;
+        let witnesses = Witnesses::new(alloc, clauses.len())?;
+        let turns = Turns::keeping(alloc, clauses.vars(), TURN, TURN)?;
+        Ok(Tables {
+            lists,
+            witnesses,
+            turns,
+        })
+    }
+}
+
+// Turn by turn.
+fn shrink_by(
+    alloc: Global,
+    core: &Copied,
+    lists: &OccurrenceLists,
+    refutation: Refutation,
+    witnesses: &mut Witnesses,
+    turns: &mut Turns,
+    conflicts: Budget,
+) -> Result<Mus, OutOfMemory>
+    requires copy { IsCopy core.now }
+    requires lists { AreOccurrences core.now.clauses.now lists.now }
+    requires shrunk { IsShrunk core.now refutation witnesses.old }
+    ensures { IfOk result (IsMus core.now.formula.now conflicts) }
+{
     let mut refutation = refutation;
-    let mut witnesses = Witnesses::new(alloc, core.clauses.len())?;
-    let mut turns = Turns::keeping(alloc, core.clauses.vars(), TURN, TURN)?;
-    let lists = OccurrenceLists::new(alloc, core.clauses)?;
     'turns: loop {
-        match first_open(refutation.places.as_slice(), &witnesses) {
+        match first_open(refutation.places.as_slice(), witnesses) {
             None => {
-                let found = told_core(alloc, core, refutation, &witnesses)?;
+                let found = told_core(alloc, core, refutation, witnesses)?;
                 return Ok(Mus::Core(found));
             }
             Some(p) => {
                 match turn(
                     alloc,
                     core,
-                    &lists,
-                    refutation,
-                    &mut witnesses,
-                    &mut turns,
+                    lists,
+                    &refutation,
+                    witnesses,
+                    turns,
                     p,
                     conflicts,
                 )? {
+                    Turned::Kept => {}
                     Turned::On(next) => refutation = next,
                     Turned::Ended(mus) => return Ok(mus),
                 }
@@ -73,6 +123,8 @@ pub(crate) fn shrink(
 /// How the search goes on.
 #[derive(Drop)]
 pub(crate) enum Turned {
+    /// With the same refutation.
+    Kept,
     /// With this refutation.
     On(Refutation),
     /// Not at all.
@@ -84,7 +136,7 @@ fn turn(
     alloc: Global,
     core: &Copied,
     lists: &OccurrenceLists,
-    refutation: Refutation,
+    refutation: &Refutation,
     witnesses: &mut Witnesses,
     turns: &mut Turns,
     p: u32,
@@ -92,9 +144,9 @@ fn turn(
 ) -> Result<Turned, OutOfMemory>
     requires copy { IsCopy core.now }
     requires lists { AreOccurrences core.now.clauses.now lists.now }
-    requires shrunk { IsShrunk core.now refutation witnesses.old }
-    requires next { IsNext core.now refutation witnesses.old p }
-    ensures { IfOk result (IsTurned core.now conflicts refutation witnesses.old witnesses.new) }
+    requires shrunk { IsShrunk core.now refutation.now witnesses.old }
+    requires next { IsNext core.now refutation.now witnesses.old p }
+    ensures { IfOk result (IsTurned core.now conflicts refutation.now witnesses.old witnesses.new) }
 {
     let others = others(alloc, refutation.places.as_slice(), p)?;
     let part = told_places(alloc, core.part, others.as_slice())?;
@@ -110,7 +162,7 @@ fn turn(
             let values = assignment_of(alloc, clauses.vars(), set.as_slice())?;
             let places = refutation.places.as_slice();
             give(alloc, core.clauses, lists, places, witnesses, p, values)?;
-            Ok(Turned::On(refutation))
+            Ok(Turned::Kept)
         }
         Decided::Refuted(smaller) => Ok(Turned::On(Refutation {
             places: told_places(alloc, others.as_slice(), smaller.places.as_slice())?,

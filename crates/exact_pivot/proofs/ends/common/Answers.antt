@@ -9,14 +9,14 @@ use Rattle.exact_pivot.proofs.ends.common.Goals as goal
 
 pub returns-in_err-common-clause-wide : goal.returns-in_err-common-clause-wide
 returns-in_err-common-clause-wide c =
-    let q : FitsSigned w128 c.denominator.result = search rules in
+    let q : FitsSigned w128 c.denominator.result = record { sfits = c.denominator.type_inv } in
     let told = simp to_z-of_z at (c.in_err-common.ensures.made) in
     let p = err_from_is_err_and c.from_residual.result c.from_residual.ensures.1 in
     rw (p.1, p.2) (join_wide c.args.column c.args.rows.now c.loop-row.row-index c.row-item.result (to_z w128 c.loop-row.common-bits) c.denominator.result _ _ (omega arith) c.row-item.is c.denominator.ensures.value told c.loop-row.invariant.wide)
 
 pub loop-row-preserved : goal.loop-row-preserved
 loop-row-preserved c =
-    let q : FitsSigned w128 c.denominator.result = search rules in
+    let q : FitsSigned w128 c.denominator.result = record { sfits = c.denominator.type_inv } in
     let z : FitsSigned w128 c.in_ok-common.common = search rules in
     let told = simp to_z-of_z at (c.in_ok-common.ensures.made) in
     record {

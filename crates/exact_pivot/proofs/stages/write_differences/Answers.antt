@@ -14,8 +14,8 @@ use Rattle.exact_pivot.proofs.stages.write_differences.Goals as goal
 
 pub returns-in_err-x-clause-wide : goal.returns-in_err-x-clause-wide
 returns-in_err-x-clause-wide c =
-    let a : FitsSigned w128 c.entry.result = search rules in
-    let u : FitsSigned w128 c.entry-unit.result = search rules in
+    let a : FitsSigned w128 c.entry.result = record { sfits = c.entry.type_inv } in
+    let u : FitsSigned w128 c.entry-unit.result = record { sfits = c.entry-unit.type_inv } in
     let told = simp to_z-of_z at (c.in_err-x.ensures) in
     let m = c.args.clause_count in
     let r = length c.args.signs.now in
@@ -27,11 +27,11 @@ returns-in_err-x-clause-wide c =
 
 pub loop-j-preserved : goal.loop-j-preserved
 loop-j-preserved c =
-    let a : FitsSigned w128 c.entry.result = search rules in
-    let u : FitsSigned w128 c.entry-unit.result = search rules in
+    let a : FitsSigned w128 c.entry.result = record { sfits = c.entry.type_inv } in
+    let u : FitsSigned w128 c.entry-unit.result = record { sfits = c.entry-unit.type_inv } in
     let s : FitsSigned w128 (get_or c.args.signs.now c.loop-j.j (pos 0)) = search rules in
     let x : FitsSigned w128 c.in_ok-x.x = search rules in
-    let z : FitsSigned w128 c.signed.result = search rules in
+    let z : FitsSigned w128 c.signed.result = record { sfits = c.signed.type_inv } in
     let told = simp to_z-of_z at (c.in_ok-x.ensures) in
     let value = simp to_z-of_z at (c.signed.ensures.value) in
     let m = c.args.clause_count in

@@ -13,8 +13,8 @@ use Rattle.exact_pivot.proofs.stages.write_entries.Goals as goal
 pub loop-j-preserved : goal.loop-j-preserved
 loop-j-preserved c =
     let s : FitsSigned w128 (get_or c.args.signs.now c.loop-j.j (pos 0)) = search rules in
-    let x : FitsSigned w128 c.entry_of-x.result = search rules in
-    let z : FitsSigned w128 c.signed.result = search rules in
+    let x : FitsSigned w128 c.entry_of-x.result = record { sfits = c.entry_of-x.type_inv } in
+    let z : FitsSigned w128 c.signed.result = record { sfits = c.signed.type_inv } in
     let value = simp to_z-of_z at (c.signed.ensures.value) in
     let m = c.args.clause_count in
     let r = length c.args.signs.now in

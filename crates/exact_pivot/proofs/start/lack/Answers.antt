@@ -15,7 +15,7 @@ pub loop-e-preserved : goal.loop-e-preserved
 loop-e-preserved c =
     let here : Entry = get_or c.args.entries.now c.loop-e.e-index none in
     let x : FitsSigned w128 here.value = search rules in
-    let y : FitsSigned w128 c.less-lack.result = search rules in
+    let y : FitsSigned w128 c.less-lack.result = record { sfits = c.less-lack.type_inv } in
     let value = simp to_z-of_z at (c.less-lack.ensures.value) in
     let most = simp to_z-of_z at (c.less-lack.ensures.most) in
     let unit : unsigned_abs here.value ≤ 1 = c.requires.units c.loop-e.e-index none (omega arith) in

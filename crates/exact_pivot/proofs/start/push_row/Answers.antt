@@ -1,4 +1,4 @@
-use Rattle.std.proofs.Common.{◌≡◌, ◌∙◌, ◌++◌, ◌∷◌, [], ℤ, ap, rules}
+use Rattle.std.proofs.Common.{◌≡◌, ◌∙◌, ◌++◌, ◌∷◌, [], ℤ, ap}
 use Rattle.std.specs.Int.RustNames.{FitsSigned}
 use mir.Syntax.{w128}
 use Rattle.std.proofs.lemmas.Int.{to_z-of_z}
@@ -12,8 +12,8 @@ overflow_cast-artificial c = record { fits = c.requires.column }
 
 pub returns-clause-signs : goal.returns-clause-signs
 returns-clause-signs c =
-    let l : FitsSigned w128 c.lack.result = search rules in
-    let s : FitsSigned w128 c.sign_for.result = search rules in
+    let l : FitsSigned w128 c.lack.result = record { sfits = c.lack.type_inv } in
+    let s : FitsSigned w128 c.sign_for.result = record { sfits = c.sign_for.type_inv } in
     let sign = simp to_z-of_z at (c.sign_for.ensures.value) in
     let pushed = simp to_z-of_z at (c.in_ok-push.ensures.items) in
     pushed ∙ ap (λ (x : ℤ). c.args.signs.now.items ++ x ∷ []) (sign ∙ ap sign_at c.lack.ensures.value)

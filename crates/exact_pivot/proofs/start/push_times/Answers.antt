@@ -15,7 +15,7 @@ loop-e-preserved c =
     let here : Entry = get_or c.args.entries.now c.loop-e.e-index none in
     let s : FitsSigned w128 c.args.sign = search rules in
     let x : FitsSigned w128 here.value = search rules in
-    let z : FitsSigned w128 c.signed.result = search rules in
+    let z : FitsSigned w128 c.signed.result = record { sfits = c.signed.type_inv } in
     let pushed = simp to_z-of_z at (c.in_ok-push.ensures.items) in
     let value = simp to_z-of_z at (c.signed.ensures.value) in
     let item : record { column = here.column; value = c.signed.result } ≡ times_sign c.args.sign here = λ i. record { column = here.column; value = value i } in

@@ -1,4 +1,4 @@
-use Rattle.std.proofs.Common.{◌≡◌, ◌∙◌, ◌++◌, ◌∷◌, [], ℕ, ℤ, List, map, pos, ◌*ℤ◌, ap, subst, sym, rules}
+use Rattle.std.proofs.Common.{◌≡◌, ◌∙◌, ◌++◌, ◌∷◌, [], ℕ, ℤ, List, map, pos, ◌*ℤ◌, ap, subst, sym}
 use Rattle.std.specs.Int.RustNames.{FitsSigned}
 use mir.Syntax.{w128}
 use Rattle.std.proofs.lemmas.Int.{to_z-of_z}
@@ -25,9 +25,9 @@ begun es artificial right lack sign last none times more all l s n t m x a = a �
 
 pub with_entries-requires : goal.with_entries-requires
 with_entries-requires c =
-    let l : FitsSigned w128 c.lack-lack.result = search rules in
-    let s : FitsSigned w128 c.sign_for-sign.result = search rules in
-    let z : FitsSigned w128 c.signed.result = search rules in
+    let l : FitsSigned w128 c.lack-lack.result = record { sfits = c.lack-lack.type_inv } in
+    let s : FitsSigned w128 c.sign_for-sign.result = record { sfits = c.sign_for-sign.type_inv } in
+    let z : FitsSigned w128 c.signed.result = record { sfits = c.signed.type_inv } in
     let sign = simp to_z-of_z at (c.sign_for-sign.ensures.value) in
     let times = simp to_z-of_z at (c.in_ok-push_times.ensures) in
     let last = simp to_z-of_z at (c.signed.ensures.value) in
@@ -38,9 +38,9 @@ with_entries-requires c =
 
 pub returns : goal.returns
 returns c =
-    let l : FitsSigned w128 c.lack-lack.result = search rules in
-    let s : FitsSigned w128 c.sign_for-sign.result = search rules in
-    let z : FitsSigned w128 c.signed.result = search rules in
+    let l : FitsSigned w128 c.lack-lack.result = record { sfits = c.lack-lack.type_inv } in
+    let s : FitsSigned w128 c.sign_for-sign.result = record { sfits = c.sign_for-sign.type_inv } in
+    let z : FitsSigned w128 c.signed.result = record { sfits = c.signed.type_inv } in
     let sign = simp to_z-of_z at (c.sign_for-sign.ensures.value) in
     let times = simp to_z-of_z at (c.in_ok-push_times.ensures) in
     let last = simp to_z-of_z at (c.signed.ensures.value) in

@@ -19,7 +19,7 @@ pub quotient-scale-requires-clause-divisor : goal.quotient-scale-requires-clause
 quotient-scale-requires-clause-divisor c =
     let p = c.ranges.p in
     let f = c.ranges.f in
-    let g : FitsSigned w128 c.gcd-divisor.result = search rules in
+    let g : FitsSigned w128 c.gcd-divisor.result = record { sfits = c.gcd-divisor.type_inv } in
     let value = simp to_z-of_z at (c.gcd-divisor.ensures.value) in
     simp to_z-of_z (rw value (gcd_of_some c.args.p c.args.f c.requires.p_positive))
 
@@ -27,7 +27,7 @@ pub quotient-share-requires-clause-divisor : goal.quotient-share-requires-clause
 quotient-share-requires-clause-divisor c =
     let p = c.ranges.p in
     let f = c.ranges.f in
-    let g : FitsSigned w128 c.gcd-divisor.result = search rules in
+    let g : FitsSigned w128 c.gcd-divisor.result = record { sfits = c.gcd-divisor.type_inv } in
     let value = simp to_z-of_z at (c.gcd-divisor.ensures.value) in
     simp to_z-of_z (rw value (gcd_of_some c.args.p c.args.f c.requires.p_positive))
 
@@ -35,9 +35,9 @@ pub returns-in_err-entries-clause-ends : goal.returns-in_err-entries-clause-ends
 returns-in_err-entries-clause-ends c =
     let p = c.ranges.p in
     let f = c.ranges.f in
-    let g : FitsSigned w128 c.gcd-divisor.result = search rules in
-    let scale : FitsSigned w128 c.quotient-scale.result = search rules in
-    let share : FitsSigned w128 c.quotient-share.result = search rules in
+    let g : FitsSigned w128 c.gcd-divisor.result = record { sfits = c.gcd-divisor.type_inv } in
+    let scale : FitsSigned w128 c.quotient-scale.result = record { sfits = c.quotient-scale.type_inv } in
+    let share : FitsSigned w128 c.quotient-share.result = record { sfits = c.quotient-share.type_inv } in
     let divisor = simp to_z-of_z at (c.gcd-divisor.ensures.value) in
     let first = simp to_z-of_z at (c.quotient-scale.ensures.value) in
     let second = simp to_z-of_z at (c.quotient-share.ensures.value) in
@@ -61,9 +61,9 @@ pub returns-clause-ends : goal.returns-clause-ends
 returns-clause-ends c =
     let p = c.ranges.p in
     let f = c.ranges.f in
-    let g : FitsSigned w128 c.gcd-divisor.result = search rules in
-    let scale : FitsSigned w128 c.quotient-scale.result = search rules in
-    let share : FitsSigned w128 c.quotient-share.result = search rules in
+    let g : FitsSigned w128 c.gcd-divisor.result = record { sfits = c.gcd-divisor.type_inv } in
+    let scale : FitsSigned w128 c.quotient-scale.result = record { sfits = c.quotient-scale.type_inv } in
+    let share : FitsSigned w128 c.quotient-share.result = record { sfits = c.quotient-share.type_inv } in
     let divisor = simp to_z-of_z at (c.gcd-divisor.ensures.value) in
     let first = simp to_z-of_z at (c.quotient-scale.ensures.value) in
     let second = simp to_z-of_z at (c.quotient-share.ensures.value) in
@@ -75,9 +75,9 @@ pub returns-clause-ok : goal.returns-clause-ok
 returns-clause-ok c =
     let p = c.ranges.p in
     let f = c.ranges.f in
-    let g : FitsSigned w128 c.gcd-divisor.result = search rules in
-    let scale : FitsSigned w128 c.quotient-scale.result = search rules in
-    let share : FitsSigned w128 c.quotient-share.result = search rules in
+    let g : FitsSigned w128 c.gcd-divisor.result = record { sfits = c.gcd-divisor.type_inv } in
+    let scale : FitsSigned w128 c.quotient-scale.result = record { sfits = c.quotient-scale.type_inv } in
+    let share : FitsSigned w128 c.quotient-share.result = record { sfits = c.quotient-share.type_inv } in
     let divisor = simp to_z-of_z at (c.gcd-divisor.ensures.value) in
     let first = simp to_z-of_z at (c.quotient-scale.ensures.value) in
     let second = simp to_z-of_z at (c.quotient-share.ensures.value) in

@@ -15,8 +15,8 @@ pub loop-e-preserved : goal.loop-e-preserved
 loop-e-preserved c =
     let here : Entry = get_or c.loop-e.entries c.loop-e.e-index none in
     let x : FitsSigned w128 here.value = search rules in
-    let d : FitsSigned w128 c.content-divisor.result = search rules in
-    let z : FitsSigned w128 c.quotient-e.result = search rules in
+    let d : FitsSigned w128 c.content-divisor.result = record { sfits = c.content-divisor.type_inv } in
+    let z : FitsSigned w128 c.quotient-e.result = record { sfits = c.quotient-e.type_inv } in
     let value = simp to_z-of_z at (c.quotient-e.ensures.value) ∙ ap (λ g. int_div here.value g) c.content-divisor.ensures.value in
     simp to_z-of_z (step_mapped (divided (content_of c.args.entries.now)) c.args.entries.now c.loop-e.entries c.loop-e.e-index (record { column = here.column; value = c.quotient-e.result }) none (omega arith) c.loop-e.invariant (λ i. record { column = here.column; value = value i }))
 

@@ -1,4 +1,4 @@
-use Rattle.std.proofs.Common.{ℕ, ◌+◌, rules, of_z, to_z, sym, ap, ◌∙◌}
+use Rattle.std.proofs.Common.{ℕ, ◌+◌, of_z, to_z, sym, ap, ◌∙◌}
 use Rattle.std.specs.Int.RustNames.{FitsSigned}
 use mir.Syntax.{w128}
 use Rattle.std.proofs.lemmas.Int.{to_z-of_z}
@@ -23,8 +23,8 @@ pub returns-in_err-value-clause-ends : goal.returns-in_err-value-clause-ends
 returns-in_err-value-clause-ends c n h k =
     let scale = c.ranges.scale in
     let share = c.ranges.share in
-    let x : FitsSigned w128 c.first_number-x.result = search rules in
-    let y : FitsSigned w128 c.first_number-y.result = search rules in
+    let x : FitsSigned w128 c.first_number-x.result = record { sfits = c.first_number-x.type_inv } in
+    let y : FitsSigned w128 c.first_number-y.result = record { sfits = c.first_number-y.type_inv } in
     let before = c.loop-column.invariant n h k in
     let m = simp to_z-of_z at (before.1) in
     let wide = rw (c.first_number-x.ensures, c.first_number-y.ensures) at (simp to_z-of_z at (c.in_err-value.ensures.wide)) in
@@ -35,8 +35,8 @@ pub loop-column-preserved : goal.loop-column-preserved
 loop-column-preserved c n h k =
     let scale = c.ranges.scale in
     let share = c.ranges.share in
-    let x : FitsSigned w128 c.first_number-x.result = search rules in
-    let y : FitsSigned w128 c.first_number-y.result = search rules in
+    let x : FitsSigned w128 c.first_number-x.result = record { sfits = c.first_number-x.type_inv } in
+    let y : FitsSigned w128 c.first_number-y.result = record { sfits = c.first_number-y.type_inv } in
     let before = c.loop-column.invariant n h k in
     let m = simp to_z-of_z at (before.1) in
     let wide = rw (c.first_number-x.ensures, c.first_number-y.ensures) at (simp to_z-of_z at (c.in_ok-value.ensures.wide)) in

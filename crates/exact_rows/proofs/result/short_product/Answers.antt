@@ -15,8 +15,8 @@ returns-in-Ok-Ok-clause-range c =
     let y : FitsSigned w64 c.in-Ok-Ok.y = search rules in
     let one = c.from.ensures ∙ to_z-of_z w64 c.in-Ok-Ok.x x in
     let two = c.from-in-Ok-Ok.ensures ∙ to_z-of_z w64 c.in-Ok-Ok.y y in
-    let p : FitsSigned w128 c.from.result = search rules in
-    let q : FitsSigned w128 c.from-in-Ok-Ok.result = search rules in
+    let p : FitsSigned w128 c.from.result = record { sfits = c.from.type_inv } in
+    let q : FitsSigned w128 c.from-in-Ok-Ok.result = record { sfits = c.from-in-Ok-Ok.type_inv } in
     let small = short_in_range c.from.result c.from-in-Ok-Ok.result (subst (λ (z : ℤ). FitsSigned w64 z) (sym one) x) (subst (λ (z : ℤ). FitsSigned w64 z) (sym two) y) in
     let fits : FitsSigned w128 (c.from.result *ℤ c.from-in-Ok-Ok.result) = fits_in_range (c.from.result *ℤ c.from-in-Ok-Ok.result) small in
     simp to_z-of_z small

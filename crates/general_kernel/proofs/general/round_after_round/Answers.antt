@@ -80,51 +80,51 @@ returns-then-rounds-eq0 c =
     c.new-steps.ensures refl c.if-rounds-eq0.true
     (not_covered c.args.f.now (is_in c.rounds.rounds.blocked) c.args.part.now (sym c.is_covered.ensures ∙ c.if-is_covered.false))
 
-pub block-requires-in-Some-short-clause-positions : goal.block-requires-in-Some-short-clause-positions
-block-requires-in-Some-short-clause-positions c =
-    let r : ShortRefutation = c.in-Some-short.field-0 in
-    let short = short_answered _ _ _ _ r c.in_ok-short.ensures c.in-Some-short.is in
-    rise_between c.args.f.now c.as_slice-in-Some-short.result.now
-    (used_rise c.args.f.now (record { steps = r.round.steps }) c.as_slice-in-Some-short.result.now (c.as_slice-in-Some-short.ensures ∙ short.used))
+pub block-requires-in-Some-2-clause-positions : goal.block-requires-in-Some-2-clause-positions
+block-requires-in-Some-2-clause-positions c =
+    let r : ShortRefutation = c.in-Some-2.field-0 in
+    let short = short_answered _ _ _ _ r c.in_ok-short.ensures c.in-Some-2.is in
+    rise_between c.args.f.now c.as_slice-in-Some-2.result.now
+    (used_rise c.args.f.now (record { steps = r.round.steps }) c.as_slice-in-Some-2.result.now (c.as_slice-in-Some-2.ensures ∙ short.used))
 
-pub rounds-smaller-in-Some-short : goal.rounds-smaller-in-Some-short
-rounds-smaller-in-Some-short c =
+pub rounds-smaller-in-Some-2 : goal.rounds-smaller-in-Some-2
+rounds-smaller-in-Some-2 c =
     let e = c.in_ok-push_round-2.ensures in
     let b = c.in_ok-block-2.ensures in
-    let r : ShortRefutation = c.in-Some-short.field-0 in
+    let r : ShortRefutation = c.in-Some-2.field-0 in
     let turned = short_turns c.args.f.now c.args.part.now c.args.rounds.now.budget c.rounds.rounds _ r
-    (record { over = _; refuted = short_answered _ _ _ _ r c.in_ok-short.ensures c.in-Some-short.is; formula = refl; positions = refl; blocked = refl }) c.requires.most c.requires.part c.rounds.invariant.at
+    (record { over = _; refuted = short_answered _ _ _ _ r c.in_ok-short.ensures c.in-Some-2.is; formula = refl; positions = refl; blocked = refl }) c.requires.most c.requires.part c.rounds.invariant.at
     (record {
       first = e.first;
       whole = e.whole;
       next = e.next;
       budget = e.budget;
       size = b.size ∙ ap (λ (bs : List Bool). length bs) e.blocked;
-      blocked = λ v. b.vars v ∙ ap (λ (bs : List Bool). is_in bs v || variable_occurs c.args.f.now c.as_slice-in-Some-short.result.now v) e.blocked
-          ∙ ap (λ (ps : List ℕ). is_in c.rounds.rounds.blocked v || variable_occurs c.args.f.now ps v) c.as_slice-in-Some-short.ensures;
+      blocked = λ v. b.vars v ∙ ap (λ (bs : List Bool). is_in bs v || variable_occurs c.args.f.now c.as_slice-in-Some-2.result.now v) e.blocked
+          ∙ ap (λ (ps : List ℕ). is_in c.rounds.rounds.blocked v || variable_occurs c.args.f.now ps v) c.as_slice-in-Some-2.ensures;
     }) in
     turned.1
 
-pub rounds-preserved-in-Some-short : goal.rounds-preserved-in-Some-short
-rounds-preserved-in-Some-short c =
+pub rounds-preserved-in-Some-2 : goal.rounds-preserved-in-Some-2
+rounds-preserved-in-Some-2 c =
     let e = c.in_ok-push_round-2.ensures in
     let b = c.in_ok-block-2.ensures in
-    let r : ShortRefutation = c.in-Some-short.field-0 in
+    let r : ShortRefutation = c.in-Some-2.field-0 in
     let turned = short_turns c.args.f.now c.args.part.now c.args.rounds.now.budget c.rounds.rounds _ r
-    (record { over = _; refuted = short_answered _ _ _ _ r c.in_ok-short.ensures c.in-Some-short.is; formula = refl; positions = refl; blocked = refl }) c.requires.most c.requires.part c.rounds.invariant.at
+    (record { over = _; refuted = short_answered _ _ _ _ r c.in_ok-short.ensures c.in-Some-2.is; formula = refl; positions = refl; blocked = refl }) c.requires.most c.requires.part c.rounds.invariant.at
     (record {
       first = e.first;
       whole = e.whole;
       next = e.next;
       budget = e.budget;
       size = b.size ∙ ap (λ (bs : List Bool). length bs) e.blocked;
-      blocked = λ v. b.vars v ∙ ap (λ (bs : List Bool). is_in bs v || variable_occurs c.args.f.now c.as_slice-in-Some-short.result.now v) e.blocked
-          ∙ ap (λ (ps : List ℕ). is_in c.rounds.rounds.blocked v || variable_occurs c.args.f.now ps v) c.as_slice-in-Some-short.ensures;
+      blocked = λ v. b.vars v ∙ ap (λ (bs : List Bool). is_in bs v || variable_occurs c.args.f.now c.as_slice-in-Some-2.result.now v) e.blocked
+          ∙ ap (λ (ps : List ℕ). is_in c.rounds.rounds.blocked v || variable_occurs c.args.f.now ps v) c.as_slice-in-Some-2.ensures;
     }) in
     record {
       at = turned.0;
       kept = b.kept;
-      within = within_same c.args.part.now c.refute.new.self c.block-in-Some-short.new.self b.inside c.in_ok-round.ensures.within;
+      within = within_same c.args.part.now c.refute.new.self c.block-in-Some-2.new.self b.inside c.in_ok-round.ensures.within;
     }
 
 pub returns-in-Sat : goal.returns-in-Sat

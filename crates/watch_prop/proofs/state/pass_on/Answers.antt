@@ -1,3 +1,4 @@
+use Rattle.std.proofs.lemmas.Grind.{common_steps}
 use Rattle.std.proofs.Common.{◌≡◌, ◌∙◌, ◌<◌, List, length, get_or, ap, arith, ℤ, pos}
 use Rattle.watch_prop.specs.declared.state.Settled.TheVariants.{Stays, Moves}
 use Rattle.watch_prop.proofs.Passing.{passing_start, passing_stays, passing_moves, passing_end, picked, settled_once, conflict_named}
@@ -72,3 +73,63 @@ pub settle-requires-clause-stands : goal.settle-requires-clause-stands
 settle-requires-clause-stands c =
     (picked c.args.clauses.now c.args.trail.now c.watchers.trail c.args.state.now c.watchers.state c.negated-l.result c.watchers.at c.of.result.now c.of-in-watchers.result.now
     _ c.watchers.invariant c.of.ensures.places c.of-in-watchers.ensures.row c.of-in-watchers.ensures.places c.watchers-test.true c.index-of-at.is).stands
+
+pub lits-requires : goal.lits-requires
+lits-requires c = grind (arith, common_steps)
+
+pub offset_bounds-lits-state : goal.offset_bounds-lits-state
+offset_bounds-lits-state c = grind (arith, common_steps)
+
+pub bounds-lits-state : goal.bounds-lits-state
+bounds-lits-state c = grind (arith, common_steps)
+
+pub negated-l-requires : goal.negated-l-requires
+negated-l-requires c = grind (arith, common_steps)
+
+pub of-requires : goal.of-requires
+of-requires c = grind (arith, common_steps)
+
+pub of-requires-in-watchers : goal.of-requires-in-watchers
+of-requires-in-watchers c = grind (arith, common_steps)
+
+pub offset_bounds-of-at : goal.offset_bounds-of-at
+offset_bounds-of-at c = grind (arith, common_steps)
+
+pub bounds-of-at : goal.bounds-of-at
+bounds-of-at c = grind (arith, common_steps)
+
+pub overflow_cast-place : goal.overflow_cast-place
+overflow_cast-place c = grind (arith, common_steps)
+
+pub settle-requires-clause-state : goal.settle-requires-clause-state
+settle-requires-clause-state c = grind (arith, common_steps)
+
+pub settle-requires-clause-within : goal.settle-requires-clause-within
+settle-requires-clause-within c = grind (arith, common_steps)
+
+pub settle-requires-clause-head : goal.settle-requires-clause-head
+settle-requires-clause-head c = grind (arith, common_steps)
+
+pub settle-requires-clause-literal : goal.settle-requires-clause-literal
+settle-requires-clause-literal c = grind (arith, common_steps)
+
+pub overflow_add-at : goal.overflow_add-at
+overflow_add-at c = grind (arith, common_steps)
+
+pub watchers-smaller-in-Stays : goal.watchers-smaller-in-Stays
+watchers-smaller-in-Stays c = grind (arith, common_steps)
+
+pub watchers-smaller : goal.watchers-smaller
+watchers-smaller c = grind (arith, common_steps)
+
+pub returns-in-IsFalse-clause-unseen : goal.returns-in-IsFalse-clause-unseen
+returns-in-IsFalse-clause-unseen c = grind (arith, common_steps)
+
+pub overflow_add-state : goal.overflow_add-state
+overflow_add-state c = grind (arith, common_steps)
+
+pub returns-clause-unseen : goal.returns-clause-unseen
+returns-clause-unseen c = grind (arith, common_steps)
+
+pub returns-clause-done : goal.returns-clause-done
+returns-clause-done c = grind (arith, common_steps)

@@ -1,10 +1,22 @@
-use Rattle.std.proofs.Common.{◌≡◌, ◌+◌, ◌<◌, ◌++◌, ◌∷◌, [], ap, arith, get_or, length, map, suc, take, ◌∙◌}
-use Rattle.std.proofs.lemmas.List.{take_more, map-append}
+use Rattle.std.proofs.Common.{◌≡◌, ℕ, ℤ, List, IsTrue, ◌+◌, ◌<◌, ◌++◌, ◌∷◌, [], ap, arith, get_or, length, map, suc, take, ◌∙◌, subst, sym}
+use Rattle.std.proofs.lemmas.List.{length-map, length-take-le, map-append, take_all, take_more}
+use Rattle.lk_model.specs.Formulas.Literal.{is_clause}
 use Rattle.lk_model.specs.Formulas.Formula.{Cnf, clause_at, literal_count, with_clause}
 use Rattle.lk_model.specs.Formulas.Crossed.{crossed_out}
 use Rattle.lk_model.specs.Held.VariableSets.{is_in}
 use Rattle.lk_model.proofs.Crossings.{clause_crossed, fewer_so_far}
 use Rattle.lk_model.proofs.formula.Formula.without.Goals as goal
+
+pub cross_out-requires-clause-clause : goal.cross_out-requires-clause-clause
+cross_out-requires-clause-clause c = subst (λ (n : ℕ). IsTrue (is_clause n c.clause.result.now)) (sym c.requires) c.clause.ensures.clause
+
+pub push_within-requires-clause-clauses : goal.push_within-requires-clause-clauses
+push_within-requires-clause-clauses c =
+    let clauses = c.args.self.now.clauses in
+    let k = c.loop-k.k in
+    let inside : k < length clauses = omega (arith, c.len-k-end.ensures.value, c.loop-k-test.true) in
+    let so_far = ap (λ (F : Cnf). length F.clauses) c.loop-k.invariant ∙ length-map (take k clauses) (crossed_out (is_in c.args.blocked.now)) ∙ length-take-le k clauses (omega (arith, inside)) in
+    omega (arith, so_far, c.loop-k-test.true, c.len-k-end.ensures.few)
 
 pub push_within-requires-clause-clause : goal.push_within-requires-clause-clause
 push_within-requires-clause-clause c =
@@ -32,3 +44,9 @@ loop-k-preserved c =
     ≡ map (crossed_out (is_in c.args.blocked.now)) (take c.loop-k.k c.args.self.now.clauses) ++ c.as_slice.result.now ∷ [] =
     rw (take_more c.args.self.now.clauses c.loop-k.k [] inside, lits) (map-append (crossed_out (is_in c.args.blocked.now)) _ _) in
     rw one_more (c.in_ok-push_within.ensures.ok ∙ ap (λ (F : Cnf). with_clause F c.as_slice.result.now) c.loop-k.invariant)
+
+pub returns : goal.returns
+returns c =
+    let whole = take_all c.loop-k.k c.args.self.now.clauses (omega (arith, c.len-k-end.ensures.value, c.loop-k-test.false)) in
+    c.loop-k.invariant
+    ∙ ap (λ (cs : List (List ℤ)). let F : Cnf = record { vars = c.args.self.now.vars; clauses = map (crossed_out (is_in c.args.blocked.now)) cs } in F) whole

@@ -1,3 +1,5 @@
+use Rattle.std.proofs.Common.{arith}
+use Rattle.std.proofs.lemmas.Grind.{common_steps}
 use Rattle.std.proofs.Common.{◌≡◌, ◌≢◌, ◌<◌, ◌==◌, not, filter, List, ℕ, length, get_or, ap, sym, subst, ◌∙◌}
 use Rattle.std.specs.List.{remove}
 use Rattle.bipartite_match.specs.declared.matching.Matching.{Matching}
@@ -43,3 +45,84 @@ returns-clause-ok g c =
     c.in_ok-let_go.ensures.ok ∙ sym (filter_remove 0 (length s.held.clauses) c.args.number s.live i c.self.invariant.positions inside at) in
     ap (λ (ps : List ℕ). let x : LiveClauses = record { held = s.held; live = ps } in x) live
     ∙ ap (λ (x : LiveClauses). with_removed x c.args.number) c.self.view_is
+
+pub index_of-requires : goal.index_of-requires
+index_of-requires g c = grind (arith, common_steps)
+
+pub returns-in_default-clause-ok : goal.returns-in_default-clause-ok
+returns-in_default-clause-ok g c = grind (arith, common_steps)
+
+pub returns-in_default-clause-err : goal.returns-in_default-clause-err
+returns-in_default-clause-err g c = grind (arith, common_steps)
+
+pub returns-in_default-clause-none : goal.returns-in_default-clause-none
+returns-in_default-clause-none g c = grind (arith, common_steps)
+
+pub returns-in_default-clause-limit : goal.returns-in_default-clause-limit
+returns-in_default-clause-limit g c = grind (arith, common_steps)
+
+pub returns-in_default-clause-steps : goal.returns-in_default-clause-steps
+returns-in_default-clause-steps g c = grind (arith, common_steps)
+
+pub well_formed-requires : goal.well_formed-requires
+well_formed-requires g c = grind (arith, common_steps)
+
+pub edit_laws-requires : goal.edit_laws-requires
+edit_laws-requires g c = grind (arith, common_steps)
+
+pub number_at_index-requires : goal.number_at_index-requires
+number_at_index-requires g c = grind (arith, common_steps)
+
+pub go_unmatched-requires-clause-inside : goal.go_unmatched-requires-clause-inside
+go_unmatched-requires-clause-inside g c = grind (arith, common_steps)
+
+pub go_unmatched-requires-clause-clauses : goal.go_unmatched-requires-clause-clauses
+go_unmatched-requires-clause-clauses g c = grind (arith, common_steps)
+
+pub go_unmatched-requires-clause-unmatched : goal.go_unmatched-requires-clause-unmatched
+go_unmatched-requires-clause-unmatched g c = grind (arith, common_steps)
+
+pub go_unmatched-requires-clause-rises : goal.go_unmatched-requires-clause-rises
+go_unmatched-requires-clause-rises g c = grind (arith, common_steps)
+
+pub returns-then-number_at_index-eq0-clause-err : goal.returns-then-number_at_index-eq0-clause-err
+returns-then-number_at_index-eq0-clause-err g c = grind (arith, common_steps)
+
+pub let_go-requires-clause-inside : goal.let_go-requires-clause-inside
+let_go-requires-clause-inside g c = grind (arith, common_steps)
+
+pub let_go-requires-clause-live : goal.let_go-requires-clause-live
+let_go-requires-clause-live g c = grind (arith, common_steps)
+
+pub let_go-requires-clause-matched : goal.let_go-requires-clause-matched
+let_go-requires-clause-matched g c = grind (arith, common_steps)
+
+pub returns-in_err-let_go-clause-ok : goal.returns-in_err-let_go-clause-ok
+returns-in_err-let_go-clause-ok g c = grind (arith, common_steps)
+
+pub returns-in_err-let_go-clause-err : goal.returns-in_err-let_go-clause-err
+returns-in_err-let_go-clause-err g c = grind (arith, common_steps)
+
+pub returns-in_err-let_go-clause-none : goal.returns-in_err-let_go-clause-none
+returns-in_err-let_go-clause-none g c = grind (arith, common_steps)
+
+pub returns-in_err-let_go-clause-limit : goal.returns-in_err-let_go-clause-limit
+returns-in_err-let_go-clause-limit g c = grind (arith, common_steps)
+
+pub returns-in_err-let_go-clause-steps : goal.returns-in_err-let_go-clause-steps
+returns-in_err-let_go-clause-steps g c = grind (arith, common_steps)
+
+pub invariant_of-self-2 : goal.invariant_of-self-2
+invariant_of-self-2 g c = grind (arith, common_steps)
+
+pub returns-clause-err : goal.returns-clause-err
+returns-clause-err g c = grind (arith, common_steps)
+
+pub returns-clause-none : goal.returns-clause-none
+returns-clause-none g c = grind (arith, common_steps)
+
+pub returns-clause-limit : goal.returns-clause-limit
+returns-clause-limit g c = grind (arith, common_steps)
+
+pub returns-clause-steps : goal.returns-clause-steps
+returns-clause-steps g c = grind (arith, common_steps)

@@ -1,5 +1,5 @@
 use Rattle.mus_core.specs.Shrinking.{IsShrunk, left_open}
-use Rattle.mus_core.proofs.shrinking.shrink.Given as goal
+use Rattle.mus_core.proofs.shrinking.shrink_by.Given as goal
 
 -- the core has a refutation, and its witnesses are right
 abbrev pub invariant-turns : goal.invariant-turns
