@@ -4,7 +4,7 @@ reads and writes the formula. And its check of the document that it wrote, besid
 
     bench/bench.py LEANK [KIND ...]
 
-LEANK is the built program (crates/leank/out holds it after `bin/leank` ran once). Needs Debian's
+LEANK is the built program (`dist/leank`). Needs Debian's
 packages python3, cadical and minisat. Prints wall seconds, peak memory and ratios as measured;
 nothing fails by time.
 

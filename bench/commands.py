@@ -4,7 +4,7 @@ program in C++ that writes the same lines.
 
     bench/commands.py LEANK [KIND ...]
 
-LEANK is the built program (crates/leank/out holds it after `bin/leank` ran once). Needs python3 and g++.
+LEANK is the built program (`dist/leank`). Needs python3 and g++.
 Reading is measured by leank itself, which reads its inputs in their order and stops at one that is bad.
 Each figure is the least wall time of some runs. Nothing fails by time.
 """

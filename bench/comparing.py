@@ -4,7 +4,7 @@
     bench/comparing.py LEANK [COUNT]
     bench/comparing.py LEANK tools [KIND ...]
 
-LEANK is the built program (crates/leank/out holds it after `bin/leank` ran once). Needs python3 and Debian's packages
+LEANK is the built program (`dist/leank`). Needs python3 and Debian's packages
 minisat, cadical and picosat; `tools` needs yosys and berkeley-abc too. The first compares COUNT drawn formulas (by default 300),
 the second those of tool_formulas.py. Of each formula:
 

@@ -1,9 +1,9 @@
 #!/usr/bin/env python3
 """The orders of variables that clause learning decides by, by their definition, in plain loops.
 
-    bench/connection.py < crates/test_learning/stdin
+    bench/connection.py < crates/test_search/stdin
 
-prints what test_learning is to print for each line `orders` of its input: the variables of the crossed clauses,
+prints what test_search is to print for each line `orders` of its input: the variables of the crossed clauses,
 ascending, by their connection, and by how often they occur. By the connection the next variable has most points, and of
 those with as many it is the least. When a variable comes, each clause with it gives points to its variables that have not
 come: one if it is the first of them, two if two are left, four if one is left. By the occurrences those with most come

@@ -4,7 +4,7 @@
     bench/deficiency.py LEANK [COUNT]
     bench/deficiency.py judge FORMULA TEXT
 
-LEANK is the built program (crates/leank/out holds it after `bin/leank` ran once). The first compares COUNT drawn formulas
+LEANK is the built program (`dist/leank`). The first compares COUNT drawn formulas
 (by default 2,000) of at most 7 variables, and prints each difference with the name of a kept file; the status is 1 if there
 is one. `judge` prints what is wrong with a text that tells the maximal deficiency of a formula, or `accepted`. Needs python3.
 

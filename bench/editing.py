@@ -3,7 +3,7 @@
 
     bench/editing.py LEANK [KIND ...]
 
-LEANK is the built program (crates/leank/out holds it after `bin/leank` ran once). Needs python3 and g++; where `perf` is
+LEANK is the built program (`dist/leank`). Needs python3 and g++; where `perf` is
 there, it also tells which share of leank's time goes into each of its parts. Of a formula of about 100,000 clauses, 10,000
 clauses (1,000 where the lines are long) are removed or added one by one. The plain program (bench/hopcroft_karp.cpp) makes the first 100 edits; its time for
 all of them is reckoned from these. Both write the same lines for the edits that both make. `reading` is what leank takes for

@@ -9,7 +9,7 @@
     bench/edits.py rows
     bench/edits.py expected
 
-LEANK is the built program (crates/leank/out holds it after `bin/leank` ran once). The first compares COUNT drawn lists (by
+LEANK is the built program (`dist/leank`). The first compares COUNT drawn lists (by
 default 500) of 50 edits each, `faults` texts with each kind of faulty line at each place and texts with each byte changed,
 `limits` the last clause and the last literal that there is room for and the first that there is not, and `long` texts of
 2^30 bytes and of one more (it writes 1 GB in a folder for temporary files). Each prints the differences; the status is 1 if

@@ -4,7 +4,7 @@
     bench/gains.py LEANK [--seconds N] [GROUP ...]
     bench/gains.py table FILE
 
-LEANK is the built program (crates/leank/out holds it after `bin/leank` ran once). GROUP is `yosys`, `abc`, `z3`, `drawn` or
+LEANK is the built program (`dist/leank`). GROUP is `yosys`, `abc`, `z3`, `drawn` or
 `built`; without it all are counted. Needs python3 and Debian's packages minisat and cadical; for the groups of tools yosys,
 berkeley-abc and z3 too. The first prints a row of tab-separated words for each formula, as in bench/figures/gains.tsv; `table`
 prints such a file as the tables of docs/GAINS.md.

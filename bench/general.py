@@ -3,7 +3,7 @@
 
     bench/general.py LEANK [KIND ...]
 
-LEANK is the built program (crates/leank/out holds it after `bin/leank` ran once). Needs python3. Each
+LEANK is the built program (`dist/leank`). Needs python3. Each
 figure is the least wall time of some runs; `reading` is what leank takes to read the formula alone. Both
 documents are checked. Nothing fails by time.
 """

@@ -10,20 +10,19 @@ The first prints what is wrong, and its status is 1 then:
 - the checks, behind the wall, stand on more than the ground, the texts and themselves, or a floor below the roof stands on them;
 - a crate that is no test stands on one that is;
 - the tables of docs/ARCHITECTURE.md have other crates or another order, or the README has other floors;
-- crates/test_house/stdin is not crates.txt, or docs/house.svg is not crates/test_house/stdout.
+- docs/house.svg is not the picture of crates.txt.
 
-`draw` copies crates.txt to crates/test_house/stdin, and draws the picture by the program crates/test_house/out/test_house, which is
-there after the gate or after `rt run` in that folder. The picture goes to crates/test_house/stdout, with which the gate compares,
-and to docs/house.svg. These are copies, since the gate takes no links in crates/. Needs python3.
+`draw` draws that picture: the crates as the floors of a house (SVG), from the lowest floor up, and the tests below the ground.
+Nobody else compares these, so run it whenever the map changes. Needs python3.
 """
 import os
 import re
-import shutil
-import subprocess
 import sys
 
+from house_picture import picture
+
 TOP = os.path.dirname(os.path.dirname(os.path.abspath(__file__)))
-COPIES = [("crates.txt", "crates/test_house/stdin"), ("crates/test_house/stdout", "docs/house.svg")]
+PICTURE = "docs/house.svg"
 
 
 def read(name):
@@ -89,20 +88,14 @@ def wrong_pages(floors):
         yield f"README.md: the rows of the floors are {rows}, and not {list(floors)}"
 
 
-def wrong_copies():
-    for one, other in COPIES:
-        if not os.path.isfile(os.path.join(TOP, other)) or read(one) != read(other):
-            yield f"{other} is not a copy of {one}"
+def wrong_picture():
+    if not os.path.isfile(os.path.join(TOP, PICTURE)) or read(PICTURE) != picture(read("crates.txt")):
+        yield f"{PICTURE} is not the picture of crates.txt: draw it anew"
 
 
 def draw():
-    folder = os.path.join(TOP, "crates", "test_house")
-    shutil.copyfile(os.path.join(TOP, "crates.txt"), os.path.join(folder, "stdin"))
-    with open(os.path.join(folder, "stdin"), "rb") as given:
-        drawn = subprocess.run([os.path.join(folder, "out", "test_house")], stdin=given, stdout=subprocess.PIPE, check=True)
-    for name in ("crates/test_house/stdout", "docs/house.svg"):
-        with open(os.path.join(TOP, name), "wb") as out:
-            out.write(drawn.stdout)
+    with open(os.path.join(TOP, PICTURE), "w", encoding="utf-8") as out:
+        out.write(picture(read("crates.txt")))
 
 
 def main():
@@ -111,7 +104,7 @@ def main():
     if sys.argv[1:]:
         sys.exit(__doc__)
     floors = floors_of(read("crates.txt"))
-    wrong = [*wrong_order(floors), *wrong_walls(floors), *wrong_folders(floors), *wrong_pages(floors), *wrong_copies()]
+    wrong = [*wrong_order(floors), *wrong_walls(floors), *wrong_folders(floors), *wrong_pages(floors), *wrong_picture()]
     print("\n".join(wrong) or f"{len(floors)} floors, {sum(map(len, floors.values()))} crates: all is told as it is")
     return 1 if wrong else 0
 

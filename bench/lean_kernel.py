@@ -3,7 +3,7 @@
 
     bench/lean_kernel.py LEANK [KIND ...]
 
-LEANK is the built program (crates/leank/out holds it after `bin/leank` ran once). Needs python3, cadical and
+LEANK is the built program (`dist/leank`). Needs python3, cadical and
 minisat. The plain program asks the solver for an autarky that sets a variable of the clauses that are left, takes
 out what it touches, and asks again until there is none. The kept clauses must be the same, and each document is
 checked. Nothing fails by time.

@@ -1,9 +1,9 @@
 #!/usr/bin/env python3
 """Measures clause learning beside minisat, in conflicts a second of the processor, each by its own count.
 
-    bench/learning.py TEST_SIZES [BUDGET] [KIND ...]
+    bench/learning.py TEST_SEARCH [BUDGET] [KIND ...]
 
-TEST_SIZES is the built program (crates/test_sizes/out holds it after `rt run` there). Needs python3, minisat and
+TEST_SEARCH is the built program (crates/test_search/out holds it after the gate, or after `rt run` there). Needs python3, minisat and
 GNU time. Clause learning stops after BUDGET conflicts (by default 20000), minisat after two seconds. Each rate is
 the best of three runs, by turns. Memory is how much more the program holds at most than with a budget of one
 conflict, for each literal of the learned clauses. Nothing fails by time.
@@ -38,23 +38,31 @@ KINDS = {
 }
 
 
-def timed(command):
+def asked(budget, file):
+    """What the program reads."""
+    return f"@ sizes\n{budget} {file}\n"
+
+
+def timed(command, given=""):
     """Seconds of the processor, and what the command prints."""
-    process = subprocess.Popen(command, stdout=subprocess.PIPE, stderr=subprocess.DEVNULL, text=True)
+    process = subprocess.Popen(
+        command, stdin=subprocess.PIPE, stdout=subprocess.PIPE, stderr=subprocess.DEVNULL, text=True)
+    process.stdin.write(given)
+    process.stdin.close()
     text = process.stdout.read()
     _, _, usage = os.wait4(process.pid, 0)
     return usage.ru_utime + usage.ru_stime, text
 
 
-def most_bytes(command):
+def most_bytes(command, given):
     """The most that a command holds. A child of Python would count what Python holds."""
-    done = subprocess.run(["/usr/bin/time", "-f", "%M", *command], capture_output=True, text=True)
+    done = subprocess.run(["/usr/bin/time", "-f", "%M", *command], input=given, capture_output=True, text=True)
     return int(done.stderr.split()[-1]) * 1024
 
 
 def told(text):
     """How many steps there are, and how many literals their clauses have."""
-    _, steps, literals = text.split()
+    _, steps, literals = text.splitlines()[-1].split()
     return int(steps), int(literals)
 
 
@@ -66,13 +74,13 @@ def measure(kind, program, budget, file):
     """Prints the rates, and the memory for each learned literal."""
     rates, others = [], []
     for _ in range(RUNS):
-        seconds, text = timed([program, budget, file])
+        seconds, text = timed([program], asked(budget, file))
         steps, literals = told(text)
         rates.append(steps / seconds)
         seconds, text = timed(["minisat", "-no-pre", "-cpu-lim=2", file])
         conflicts = minisat_conflicts(text)
         others.append(conflicts / seconds)
-    grown = most_bytes([program, budget, file]) - most_bytes([program, "1", file])
+    grown = most_bytes([program], asked(budget, file)) - most_bytes([program], asked("1", file))
     print(f"{kind}: {steps} conflicts, {max(rates):.0f} a second; minisat {conflicts}, {max(others):.0f}; "
           f"ratio {max(rates) / max(others):.2f}; {literals} literals learned, {grown / literals:.1f} bytes for each")
 

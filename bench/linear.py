@@ -4,7 +4,7 @@ the same checks in 128 bits, and reads and writes alike.
 
     bench/linear.py LEANK [KIND ...]
 
-LEANK is the built program (crates/leank/out holds it after `bin/leank` ran once). Needs python3 and
+LEANK is the built program (`dist/leank`). Needs python3 and
 g++. Both write the same bytes, or end with the same status; processor seconds and peak memory are the least
 of some runs. Nothing fails by time.
 """

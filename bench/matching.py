@@ -4,7 +4,7 @@ writes a document of the same kind, and `deficiency` beside `reduce matching`.
 
     bench/matching.py LEANK [KIND ...]
 
-LEANK is the built program (crates/leank/out holds it after `bin/leank` ran once). Needs python3 and
+LEANK is the built program (`dist/leank`). Needs python3 and
 g++. Each time is the least wall time of some runs; `reading` is what leank takes to read the formula
 alone. Beside it stand the processor seconds and the peak memory of one run. Both documents are checked.
 Nothing fails by time.

@@ -3,7 +3,7 @@
 
     bench/memory.py LEANK [WORD]
 
-LEANK is the built program (crates/leank/out holds it after `bin/leank` ran once). Needs gcc. Of each command, and each of
+LEANK is the built program (`dist/leank`). Needs gcc. Of each command, and each of
 its allocations (of the first 500, and then of every twentieth part), a run in which that one is refused ends as the run in
 which none is, or with 9. With 9 nothing stands on standard output, and on standard error stands `leank: out of memory`, or
 nothing, since there may be no memory for the words. Each other end is printed. The status is 1 if there is one, or if no

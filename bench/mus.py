@@ -5,7 +5,7 @@
     bench/mus.py tools LEANK [KIND ...]
     bench/mus.py families LEANK [KIND ...]
 
-LEANK is the built program (crates/leank/out holds it after `bin/leank` ran once). `drawn` goes through so many drawn formulas,
+LEANK is the built program (`dist/leank`). `drawn` goes through so many drawn formulas,
 by default 200, and `tools` through those of tool_formulas.py, by default the small ones: the judge of cores.py accepts each core, `verify` does, minisat,
 picosat and cadical find no model of the text as it stands, and one of it without any single clause; where leank finds a model,
 so do they. Where a budget is used up, the judge accepts the document and `check` does, with itself as the formula. A core of

@@ -4,7 +4,7 @@ C++ that does the same over flat tables, and the reading also beside cadical's.
 
     bench/pure.py LEANK [KIND ...]
 
-LEANK is the built program (crates/leank/out holds it after `bin/leank` ran once). Needs python3 and g++;
+LEANK is the built program (`dist/leank`). Needs python3 and g++;
 cadical is left out where there is none. Both write the same bytes; processor seconds and peak memory are the
 least of some runs, taken in turn. Nothing fails by time.
 """

@@ -5,7 +5,7 @@
     bench/rounds.py rows ROWS PRINTED
 
 `documents` judges each document of the class general that stands in a file, also among other lines. Such a document has
-all clauses that its chains name, so no formula is needed. `rows` judges what `test_general` or `test_parts` prints for
+all clauses that its chains name, so no formula is needed. `rows` judges what `test_search` or `test_parts` prints for
 its rows. A round is right if its steps are numbered one after another, each states the resolvent of its chain over the
 clauses without blocked variables and the steps before it, no step but the last of a finished round is empty, and each other
 one holds no complementary pair and no clause that was there before. Kept are the clauses whose variables are all blocked,
@@ -169,6 +169,9 @@ def judge_document(lines):
 
 JUDGED = ("kernel", "general", "general-workers", "alone")
 
+# The scripts that have these, by the words of their head lines.
+SCRIPTS = ("parts", "general")
+
 
 def printed_step(line):
     found = re.fullmatch(r"= step (\d+):((?: -?\d+)*) by (\d+)((?: on -?\d+ with \d+)*)", line)
@@ -204,6 +207,16 @@ def judge_row(row, lines):
     return True
 
 
+def judged_lines(name):
+    """The lines of a file that stand behind no head line, or behind that of a script with such rows."""
+    judged = True
+    for line in open(name).read().splitlines():
+        if line.startswith("@ "):
+            judged = line[2:] in SCRIPTS
+        elif judged:
+            yield line
+
+
 def rows_of(printed):
     row, lines = None, []
     for line in printed:
@@ -231,8 +244,8 @@ def main():
                     wrong += 1
                 judged += 1
     else:
-        given = {l for l in open(sys.argv[2]).read().splitlines() if not l.startswith("#")}
-        for row, lines in rows_of(open(sys.argv[3]).read().splitlines()):
+        given = {l for l in judged_lines(sys.argv[2]) if not l.startswith("#")}
+        for row, lines in rows_of(judged_lines(sys.argv[3])):
             if row not in given or row.split()[0] not in JUDGED:
                 continue
             try:

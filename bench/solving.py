@@ -3,7 +3,7 @@
 
     bench/solving.py LEANK [GROUP] [KIND ...]
 
-LEANK is the built program (crates/leank/out holds it after `bin/leank` ran once). GROUP is `families`, `tools` or `parts`;
+LEANK is the built program (`dist/leank`). GROUP is `families`, `tools` or `parts`;
 without it all three are measured. Needs python3 and Debian's packages minisat and cadical; `tools` needs yosys and berkeley-abc
 too. Prints rows of tables. Each figure is the least of three runs, by turns, or of one run that takes over 5 seconds; a
 run ends after 30 seconds of the processor, and `solve` may learn as many clauses as it wants. Seconds are those of the

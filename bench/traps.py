@@ -3,7 +3,7 @@
 
     bench/traps.py LEANK [--only WORD] [--growth]
 
-LEANK is the built program (crates/leank/out holds it after `bin/leank` ran once). Each input has at most 2 MB. For each
+LEANK is the built program (`dist/leank`). Each input has at most 2 MB. For each
 command that takes it stand the processor seconds, the peak of memory in MB and the status; what takes more than 3 seconds
 (5 for forged documents), or gets no answer in 60, is marked. With --growth each is run at a sixteenth and at a quarter of
 its size instead, under valgrind, which counts instructions (Debian: valgrind); a growth of more than 5 times is marked.

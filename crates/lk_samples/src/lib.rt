@@ -3,7 +3,6 @@
 #![tactic(auto)]
 
 mod checked;
-mod compared;
 mod drawn;
 mod gates;
 mod given;
@@ -12,10 +11,9 @@ mod told;
 mod written;
 
 pub use checked::{has_part, positions};
-pub use compared::{has_clauses, spells};
 pub use drawn::{Numbers, drawn_formula};
 pub use gates::{FirstItem, Meeting};
-pub use given::{append, formula_of, literals, push, set_of, sums};
+pub use given::{append, push, set_of};
 pub use lines::answer_lines;
 pub use lk_model::makes_clause;
 pub use told::{put_literals, put_round, put_rounds, put_steps};

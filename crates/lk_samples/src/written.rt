@@ -8,25 +8,58 @@ use lk_model::{Formula, Lit};
 use std::alloc::{AllocError, Global};
 use std::test::Fail;
 
+fn push_number(numbers: &mut Vec<u32>, word: &str) -> Result<(), AllocError> {
+    Ok(numbers.push(word.parse().unwrap_or(0))?)
+}
+
 /// The numbers that a text has, with blanks between them, and 0 for a word that is no number.
 pub fn numbers_of_text(alloc: Global, text: &str) -> Result<Vec<u32>, AllocError> {
     let mut numbers = Vec::new(alloc);
     for word in text.split_whitespace() {
-        numbers.push(word.parse().unwrap_or(0))?;
+        push_number(&mut numbers, word)?;
     }
     Ok(numbers)
 }
 
-/// Appends the literal of the number that a word writes, unless it is 0.
-fn push_word(lits: &mut Vec<Lit>, word: &str) -> Result<(), Fail> {
-    match word.parse()? {
-        0 => Ok(()),
-        number => push_literal(lits, number),
+/// The number that a word writes.
+fn number_of(word: &str) -> Result<i32, Fail> {
+    match word.parse() {
+        Ok(number) => Ok(number),
+        Err(_) => Err(Fail::from("no number")),
     }
 }
 
-/// The literals that a text has, with blanks between them. The word 0 stands for none, so that it
-/// writes the empty clause.
+/// The number that is so many further from 0 than another one.
+fn moved(number: i32, by: i32) -> i32 {
+    if number > 0 {
+        number.saturating_add(by)
+    } else {
+        number.saturating_sub(by)
+    }
+}
+
+/// Appends the literals from the first number to the last, away from 0.
+fn push_range(lits: &mut Vec<Lit>, first: i32, last: i32) -> Result<(), Fail> {
+    let mut number = first;
+    for _ in first.unsigned_abs()..last.unsigned_abs().saturating_add(1) {
+        push_literal(lits, number)?;
+        number = moved(number, 1);
+    }
+    Ok(())
+}
+
+/// Appends the literal that a word writes, or those from A to B for `A..B`; none for 0.
+fn push_word(lits: &mut Vec<Lit>, word: &str) -> Result<(), Fail> {
+    if word == "0" {
+        return Ok(());
+    }
+    let (first, last) = word.split_once("..").unwrap_or((word, word));
+    let first = number_of(first)?;
+    push_range(lits, first, number_of(last)?)
+}
+
+/// The literals that a text has, with blanks between them, `A..B` for those from A to B. The word 0 stands for none,
+/// so that it writes the empty clause.
 pub fn literals_of_text(alloc: Global, text: &str) -> Result<Vec<Lit>, Fail> {
     let mut lits = Vec::new(alloc);
     for word in text.split_whitespace() {
@@ -35,12 +68,36 @@ pub fn literals_of_text(alloc: Global, text: &str) -> Result<Vec<Lit>, Fail> {
     Ok(lits)
 }
 
-/// Appends the clause that a text has.
+/// Goes on to the next variables, or by -1 to those before.
+fn go_on(lits: &mut [Lit], by: i32) {
+    for l in lits.iter_mut() {
+        if let Some(other) = Lit::new(moved(l.get(), by)) {
+            *l = other;
+        }
+    }
+}
+
+/// Appends so many clauses, each over the variables behind those of the one before, or before them where the count
+/// is negative.
+fn push_row(formula: &mut Formula, lits: &mut [Lit], count: i32) -> Result<(), Fail>
+    ensures { formula.new.vars ≡ formula.old.vars }
+{
+    let by = count.signum();
+    for _ in 0..count.unsigned_abs() {
+        push(formula, lits)?;
+        go_on(lits, by);
+    }
+    Ok(())
+}
+
+/// Appends the clause that a text has, or the clauses of `CLAUSE * COUNT`.
 fn append_text(alloc: Global, formula: &mut Formula, text: &str) -> Result<(), Fail>
     ensures { formula.new.vars ≡ formula.old.vars }
 {
-    let clause = literals_of_text(alloc, text)?;
-    push(formula, clause.as_slice())
+    let (clause, count) = text.split_once("*").unwrap_or((text, "1"));
+    let count = number_of(count.trim())?;
+    let mut lits = literals_of_text(alloc, clause)?;
+    push_row(formula, lits.as_mut_slice(), count)
 }
 
 /// Appends the clauses that a text has, with commas between them; none where it is blank.
@@ -57,7 +114,8 @@ fn append_texts(alloc: Global, formula: &mut Formula, text: &str) -> Result<(), 
 }
 
 /// The formula over the variables from 1 to n with the clauses that a text has, with commas between
-/// them. A blank text has no clause.
+/// them. A blank text has no clause, and `CLAUSE * COUNT` has so many, each over the variables behind those of
+/// the one before, or before them where the count is negative.
 pub fn formula_of_text(alloc: Global, n: u32, text: &str) -> Result<Formula, Fail>
     ensures { IfOk result (λ f. f.vars ≡ n) }
 {

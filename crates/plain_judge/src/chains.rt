@@ -11,16 +11,12 @@ pub fn clause_at(f: &Formula, p: u32) -> &[Lit] {
 }
 
 /// Whether each literal of the first clause stands in the second.
-pub fn is_within(clause: &[Lit], other: &[Lit]) -> bool {
+pub(crate) fn is_within(clause: &[Lit], other: &[Lit]) -> bool {
     clause.iter().all(|l| other.contains(l))
 }
 
 /// The clause of an earlier step, where one has this number.
-pub fn step_clause(
-    alloc: Global,
-    earlier: &[Step],
-    k: u64,
-) -> Result<Option<Vec<Lit>>, AllocError> {
+fn step_clause(alloc: Global, earlier: &[Step], k: u64) -> Result<Option<Vec<Lit>>, AllocError> {
     for step in earlier {
         if step.number == k {
             return Ok(Some(Vec::from_slice(alloc, step.clause.as_slice())?));
@@ -53,7 +49,7 @@ fn join(lits: &mut Vec<Lit>, others: &[Lit], but: Lit) -> Result<(), AllocError>
 }
 
 /// The resolvent of two clauses on a literal of the first one, where there is one.
-pub fn resolvent(
+fn resolvent(
     alloc: Global,
     clause: &[Lit],
     other: &[Lit],
@@ -100,7 +96,7 @@ fn chain_clause(
 }
 
 /// Whether a step states the clause of its chain.
-fn is_stated(
+pub(crate) fn is_stated(
     alloc: Global,
     f: &Formula,
     earlier: &[Step],
@@ -114,7 +110,7 @@ fn is_stated(
 }
 
 /// Whether each step states the clause of its chain, and they are numbered from the number of clauses plus 1.
-pub fn are_stated(alloc: Global, f: &Formula, steps: &[Step]) -> Result<bool, AllocError> {
+pub(crate) fn are_stated(alloc: Global, f: &Formula, steps: &[Step]) -> Result<bool, AllocError> {
     let mut number = u64::from(f.len());
     for i in 0..steps.len() {
         number = number.saturating_add(1);

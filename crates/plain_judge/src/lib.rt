@@ -6,5 +6,5 @@ mod chains;
 mod rounds;
 
 pub use assignments::{MOST_VARS, has_model, is_model};
-pub use chains::{are_stated, clause_at, is_named, is_within, resolvent, step_clause};
-pub use rounds::{learns, lie_in, refutes};
+pub use chains::{clause_at, is_named};
+pub use rounds::{learns, lie_in, refutes, stand};

@@ -1,5 +1,5 @@
 //! The rounds of refutations, gone through step by step.
-use crate::chains::{are_stated, clause_at, is_named, is_within};
+use crate::chains::{are_stated, clause_at, is_named, is_stated, is_within};
 use lk_model::{Formula, Lit, Step};
 use std::alloc::{AllocError, Global};
 
@@ -77,4 +77,50 @@ pub fn learns(
         }
     }
     Ok(steps.len() as u64 == u64::from(conflicts) && are_stated(alloc, f, steps)?)
+}
+
+/// Whether the literals ascend by variable, and no variable stands twice.
+fn is_ascending(clause: &[Lit]) -> bool {
+    let mut last = 0;
+    for l in clause {
+        if l.var() <= last {
+            return false;
+        }
+        last = l.var();
+    }
+    true
+}
+
+/// Whether a step states the clause of its chain, in order, and the clause is empty, or new where it is to be new.
+fn step_stands(
+    alloc: Global,
+    f: &Formula,
+    earlier: &[Step],
+    step: &Step,
+    is_end: bool,
+) -> Result<bool, AllocError> {
+    let clause = step.clause.as_slice();
+    if clause.is_empty() != is_end || !is_ascending(clause) {
+        return Ok(false);
+    }
+    Ok((is_end || is_new(f, earlier, clause)) && is_stated(alloc, f, earlier, step)?)
+}
+
+/// Whether steps are numbered from a number on, and each states the clause of its chain, in order, which is new, but for
+/// the end of a refutation, which is empty.
+pub fn stand(
+    alloc: Global,
+    f: &Formula,
+    next: u64,
+    steps: &[Step],
+    is_refutation: bool,
+) -> Result<bool, AllocError> {
+    for i in 0..steps.len() {
+        let is_end = is_refutation && i + 1 == steps.len();
+        let is_numbered = steps[i].number == next.saturating_add(i as u64);
+        if !is_numbered || !step_stands(alloc, f, &steps[..i], &steps[i], is_end)? {
+            return Ok(false);
+        }
+    }
+    Ok(!is_refutation || !steps.is_empty())
 }

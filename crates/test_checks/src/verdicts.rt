@@ -1,67 +1,86 @@
-//! What the checker says, by several numbers of workers.
-ghost use Rattle.std.specs.Prelude.{◌≤◌, IsTrue};
+//! What the checker says of texts, by several numbers of workers.
+ghost use Rattle.std.specs.Prelude.{IfOk, IsTrue};
 ghost use Rattle.lk_model.specs.Documents.Form.{is_in_form};
 
-use lean_checker::{Verdict, VerdictText, check, put_verdict};
-use lk_model::{Document, Formula, OutOfMemory};
-use lk_outside::{Gate, OpenGate};
+use cert_text::read;
+use lean_checker::{Verdict, check, put_verdict};
+use lk_model::{Document, Formula, ReadStop};
+use lk_outside::OpenGate;
 use lk_samples::Meeting;
-use std::alloc::Global;
-use std::io::{self, Write};
+use std::alloc::{AllocError, Global};
 use std::test::Fail;
 use std::thread::Threads;
 
-/// The verdict on a document by so many workers.
-fn verdict_of<R: Threads + Sync, G: Gate>(
+/// The document that the bytes are the text of.
+pub(crate) fn document_of(alloc: Global, bytes: &[u8]) -> Result<Document, ReadStop>
+    ensures { IfOk result (λ d. IsTrue (is_in_form d)) }
+{
+    read(alloc, bytes)
+}
+
+/// Writes the line that tells a verdict.
+pub(crate) fn put_line(verdict: &Verdict, out: &mut String) -> Result<(), AllocError> {
+    let text = put_verdict(verdict);
+    out.push_str("= ")?;
+    for byte in &text.bytes[..text.len] {
+        out.push(char::from(*byte))?;
+    }
+    Ok(())
+}
+
+/// Tells the verdict of one, two and eight workers, which is one.
+fn tell_verdict<R: Threads + Sync>(
     rt: &R,
     alloc: Global,
-    gate: &G,
     f: &Formula,
     d: &Document,
-    workers: u32,
-) -> Result<Verdict, OutOfMemory>
-    requires { IsTrue (is_in_form d.now) }
-{
-    check(rt, alloc, gate, f, d, workers.max(1))
-}
-
-/// Prints the line that tells a verdict.
-fn print_text<R: Print>(rt: &R, text: &VerdictText) -> io::Result<()>
-    requires { text.now.len ≤ 64 }
-{
-    print!(rt; "= ")?;
-    io::writer(rt).write_all(&text.bytes[..text.len])
-}
-
-/// Prints the verdict of one, two and eight workers, which is one.
-pub(crate) fn print_verdict<R: Threads + Sync + AllocGlobal + Print>(
-    rt: &R,
-    f: &Formula,
-    d: &Document,
+    out: &mut String,
 ) -> Result<(), Fail>
     requires { IsTrue (is_in_form d.now) }
 {
-    let verdict = verdict_of(rt, rt.alloc(), &OpenGate, f, d, 1)?;
-    if verdict_of(rt, rt.alloc(), &OpenGate, f, d, 2)? != verdict {
-        println!(rt; "= another verdict by two workers")?;
+    let verdict = check(rt, alloc, &OpenGate, f, d, 1)?;
+    if check(rt, alloc, &OpenGate, f, d, 2)? != verdict {
+        out.push_str("= another verdict by two workers\n")?;
     }
-    if verdict_of(rt, rt.alloc(), &OpenGate, f, d, 8)? != verdict {
-        println!(rt; "= another verdict by eight workers")?;
+    if check(rt, alloc, &OpenGate, f, d, 8)? != verdict {
+        out.push_str("= another verdict by eight workers\n")?;
     }
-    Ok(print_text(rt, &put_verdict(&verdict))?)
+    Ok(put_line(&verdict, out)?)
 }
 
-/// Prints the verdict of two workers, and how often each half entered a gate that holds it until the other
-/// one has entered, and whether they met.
-pub(crate) fn print_meeting<R: Threads + Sync + AllocGlobal + Print>(
+/// Tells the verdict of two workers, and how often each half entered a gate that holds it until the other one has
+/// entered, and whether they met.
+fn tell_meeting<R: Threads + Sync>(
     rt: &R,
+    alloc: Global,
     f: &Formula,
     d: &Document,
+    out: &mut String,
 ) -> Result<(), Fail>
     requires { IsTrue (is_in_form d.now) }
 {
     let gate = Meeting::new();
-    let verdict = verdict_of(rt, rt.alloc(), &gate, f, d, 2)?;
-    print_text(rt, &put_verdict(&verdict))?;
-    Ok(println!(rt; "= entered {:?}; met {:?}", gate.times(), gate.met())?)
+    let verdict = check(rt, alloc, &gate, f, d, 2)?;
+    put_line(&verdict, out)?;
+    let (times, met) = (gate.times(), gate.met());
+    writeln!(out, "= entered {times:?}; met {met:?}")?;
+    Ok(())
+}
+
+/// Tells the verdict on the document that a text is, or the line at which it stops being one.
+pub(crate) fn tell_text<R: Threads + Sync>(
+    rt: &R,
+    alloc: Global,
+    meets: bool,
+    f: &Formula,
+    text: &str,
+    out: &mut String,
+) -> Result<(), Fail> {
+    match document_of(alloc, text.as_bytes()) {
+        Ok(d) if meets => tell_meeting(rt, alloc, f, &d, out)?,
+        Ok(d) => tell_verdict(rt, alloc, f, &d, out)?,
+        Err(ReadStop::Line(line)) => writeln!(out, "= line {line}")?,
+        Err(ReadStop::OutOfMemory) => out.push_str("= out of memory\n")?,
+    }
+    Ok(())
 }

@@ -1,110 +1,72 @@
-//! Asks the types and calls that the other crates stand on, as a script on standard input says. The expected answers
-//! can be worked out by hand from what the calls are to give.
+//! Asks the crates of the ground, as a script on standard input says, and prints what they answer through a sink over
+//! standard output.
 //!
-//! A line of the script is a word and the parts that the call is asked about, with ` | ` between them; it is printed
-//! again with what is answered. A line that begins with `#` is a remark.
+//! `@ ground` or `@ files` says what the lines behind it ask. Each line is printed again, and behind ` ->` what is
+//! answered; a blank one, a head and a remark, which begins with `#`, have no answer.
+//!
+//! - `@ ground`: a word and the parts that the call is asked about, with ` | ` between them. The expected answers can
+//!   be worked out by hand from what the calls are to give.
+//! - `@ files`: the shelf over files and the sink over streams. The expected answers are those of a plain program in
+//!   Python over the same files.
+//!   - `shelf CALLS` asks one shelf, with commas between the calls: `start NAME`, `read SIZE`, which shows the bytes of
+//!     one piece, and `all SIZE`, which reads to the end in pieces of that size.
+//!   - `sink NAME PIECES` writes the pieces into a file that is opened for writing, and is not made or cut for it.
+//!   - `reader NAME PIECES` writes them into a file that is opened for reading alone.
+//!   - `again TIMES LINE` is one of these lines, over files each of whose reads and writes is interrupted that many
+//!     times before it is made.
+//!   - `room TIMES SIZE PIECES` writes the pieces into that many bytes of memory, whose writes are interrupted so, and
+//!     shows how many calls the stream had, and the bytes.
 #![tactic(auto)]
 
 mod assignments;
-mod cuts;
+mod files;
+mod ground;
+mod interruptions;
+mod memory;
 mod model;
 mod numbers;
 mod occurrences;
 mod parts;
-mod positions;
 mod shelves;
 mod sinks;
+mod sums;
 
-use crate::parts::{Parts, parts_of};
-use lk_outside::{FileShelf, Shelf};
-use std::alloc::{AllocError, Global};
+use crate::sinks::print_all;
+use lk_outside::StdSink;
 use std::rt::Files;
 use std::test::Fail;
 
-/// Writes what is answered to a word and its parts, each answer behind a blank.
-fn put_answer(alloc: Global, word: &str, parts: Parts, out: &mut String) -> Result<(), Fail> {
-    match word {
-        "number" => Ok(numbers::put_number(parts, out)?),
-        "spell" => numbers::put_spelling(alloc, parts, out),
-        "line" => Ok(cuts::put_line(alloc, parts, out)?),
-        "word" => Ok(cuts::put_word(alloc, parts, out)?),
-        "values" => assignments::put_values(alloc, parts, out),
-        "clause" => assignments::put_clause(alloc, parts, out),
-        "first" => assignments::put_first(alloc, parts, out),
-        "compose" => assignments::put_composed(alloc, parts, out),
-        "extend" => assignments::put_extended(alloc, parts, out),
-        _ => put_model(alloc, word, parts, out),
-    }
-}
-
-/// Writes what the types answer, or the outside.
-fn put_model(alloc: Global, word: &str, parts: Parts, out: &mut String) -> Result<(), Fail> {
-    match word {
-        "literal" => Ok(model::put_literal(parts, out)?),
-        "variables" => Ok(model::put_variables(alloc, parts, out)?),
-        "formula" => model::put_formula(alloc, parts, out),
-        "without" => model::put_without(alloc, parts, out),
-        "list" => model::put_list(alloc, parts, out),
-        "set" => model::put_set(alloc, parts, out),
-        "at" => positions::put_at(alloc, parts, out),
-        "listed" => positions::put_listed(alloc, parts, out),
-        "occurs" => occurrences::put_occurrences(alloc, parts, out),
-        _ => put_outside(alloc, word, parts, out),
-    }
-}
-
-/// Writes what shelves and sinks answer.
-fn put_outside(alloc: Global, word: &str, parts: Parts, out: &mut String) -> Result<(), Fail> {
-    match word {
-        "shelf" => shelves::put_shelf(alloc, parts, out),
-        "sink" => sinks::put_sink(alloc, parts, out),
-        "stream" => sinks::put_stream(alloc, parts, out),
-        _ => Err(Fail::from("no word of a script")),
-    }
-}
-
-/// Writes what a start of a file answers.
-fn put_file<R: Files + Alloc>(
+/// A line of the script, with what is answered to it.
+fn answered<R: Files + AllocGlobal>(
     rt: &R,
-    alloc: Global,
-    name: &str,
-    out: &mut String,
-) -> Result<(), AllocError> {
-    let mut shelf = FileShelf::new(rt, alloc);
-    let answer = shelf.start(name);
-    write!(out, " {answer:?}")
-}
-
-/// Writes what is answered to a line of the script.
-fn put_line<R: Files + AllocGlobal>(rt: &R, line: &str, out: &mut String) -> Result<(), Fail> {
-    let (word, rest) = line.split_once(" ").unwrap_or((line, ""));
-    if word == "file" {
-        Ok(put_file(rt, rt.alloc(), rest, out)?)
-    } else {
-        put_answer(rt.alloc(), word, parts_of(rest), out)
+    is_about_files: bool,
+    line: &str,
+) -> Result<String, Fail> {
+    let mut out = String::from_str(rt.alloc(), line)?;
+    if !line.is_empty() && !line.starts_with("#") && !line.starts_with("@") {
+        out.push_str(" ->")?;
+        if is_about_files {
+            files::tell(rt, rt.alloc(), line, &mut out)?;
+        } else {
+            ground::tell(rt, rt.alloc(), line, &mut out)?;
+        }
     }
-}
-
-/// Prints a line of the script with what is answered.
-fn answer(rt: &HostRuntime, line: &str) -> Result<(), Fail> {
-    let mut out = String::new(rt.alloc());
-    put_line(rt, line, &mut out)?;
-    println!(rt; "{line} ->{out}")?;
-    Ok(())
-}
-
-/// Does what a line of the script says.
-fn take(rt: &HostRuntime, line: &str) -> Result<(), Fail> {
-    if line.is_empty() || line.starts_with("#") {
-        Ok(())
-    } else {
-        answer(rt, line)
-    }
+    out.push('\n')?;
+    Ok(out)
 }
 
 fn main(rt: HostRuntime) -> Result<(), Fail> {
+    let mut sink = StdSink::new(rt.stdout());
+    let mut is_about_files = false;
     for line in rt.lines(rt.alloc()) {
-        take(&rt, line?.as_str())?;
+        let line = line?;
+        if line.starts_with("@") {
+            is_about_files = line.as_str() == "@ files";
+        }
+        let text = answered(&rt, is_about_files, line.as_str())?;
+        if print_all(&mut sink, text.as_bytes()).is_err() {
+            return Err(Fail::from("standard output takes no more"));
+        }
     }
     Ok(())
 }

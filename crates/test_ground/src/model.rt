@@ -1,24 +1,22 @@
-//! Literals, formulas, lists and sets of variables.
-ghost use Rattle.std.specs.Prelude.{◌≡◌, length, IfOk};
+//! Literals, lists, sets of variables, and formulas.
+ghost use Rattle.std.specs.Prelude.{◌≡◌, length, IfOk, IfSome};
 
-use crate::parts::{Parts, number_of};
-use lk_model::{Formula, FormulaError, List, Lit, OutOfMemory, VarSet};
+use crate::occurrences::put_lists;
+use crate::parts::{Parts, number_of, put_numbers};
+use lk_model::{Formula, FormulaError, List, Lit, OutOfMemory, VarSet, rise_within};
 use lk_samples::{formula_of_text, numbers_of_text, put_literals, set_of};
 use std::alloc::{AllocError, Global};
 use std::test::Fail;
 
 /// `literal NUMBER`: the literal of this number.
 pub(crate) fn put_literal(parts: Parts, out: &mut String) -> Result<(), AllocError> {
-    put_option(literal_of(parts.first.parse().unwrap_or(0)), out)
+    let number = literal_of(parts.first.parse().unwrap_or(0));
+    write!(out, " {number:?}")
 }
 
 /// The number of the literal of a number.
 fn literal_of(number: i32) -> Option<i32> {
     Some(Lit::new(number)?.get())
-}
-
-fn put_option(number: Option<i32>, out: &mut String) -> Result<(), AllocError> {
-    write!(out, " {number:?}")
 }
 
 /// `variables N`: how many variables and clauses a new formula has.
@@ -36,52 +34,10 @@ fn sizes_of(alloc: Global, n: u32) -> Result<(u32, u32), FormulaError> {
     Ok((f.vars(), f.len()))
 }
 
-/// `formula N | CLAUSES`: how many variables and clauses it has, and its clauses.
-pub(crate) fn put_formula(alloc: Global, parts: Parts, out: &mut String) -> Result<(), Fail> {
-    let f = formula_of_text(alloc, number_of(parts.first), parts.second)?;
-    put_whole(&f, out)?;
-    Ok(())
-}
-
-/// `without N | CLAUSES | VARIABLES`: the formula without the literals on these.
-pub(crate) fn put_without(alloc: Global, parts: Parts, out: &mut String) -> Result<(), Fail> {
-    let rest = rest_of(alloc, number_of(parts.first), parts)?;
-    put_whole(&rest, out)?;
-    Ok(())
-}
-
-fn rest_of(alloc: Global, n: u32, parts: Parts) -> Result<Formula, Fail> {
-    let f = formula_of_text(alloc, n, parts.second)?;
-    let set = set_of_text(alloc, n, parts.third)?;
-    Ok(f.without(alloc, &set)?)
-}
-
-/// The set of the variables that a text has, of those from 1 to n.
-fn set_of_text(alloc: Global, n: u32, text: &str) -> Result<VarSet, Fail>
-    ensures { IfOk result (λ s. length s ≡ n) }
-{
-    let vars = numbers_of_text(alloc, text)?;
-    set_of(alloc, n, vars.as_slice())
-}
-
-/// Writes how many variables and clauses a formula has, and its clauses.
-pub(crate) fn put_whole(f: &Formula, out: &mut String) -> Result<(), AllocError> {
-    write!(out, " {} {}", f.vars(), f.len())?;
-    put_clauses(f, out)
-}
-
-fn put_clauses(f: &Formula, out: &mut String) -> Result<(), AllocError> {
-    for k in 1..f.len() + 1 {
-        out.push_str(";")?;
-        put_literals(f.clause(k), out)?;
-    }
-    Ok(())
-}
-
 /// `list NUMBERS`: the list of these.
 pub(crate) fn put_list(alloc: Global, parts: Parts, out: &mut String) -> Result<(), Fail> {
     let list = list_of(alloc, parts.first)?;
-    put_items(&list, out)?;
+    write!(out, " {:?} {}", list.as_slice(), list.len())?;
     Ok(())
 }
 
@@ -93,24 +49,92 @@ fn list_of(alloc: Global, text: &str) -> Result<List<u32>, OutOfMemory> {
     Ok(list)
 }
 
-fn put_items(list: &List<u32>, out: &mut String) -> Result<(), AllocError> {
-    write!(out, " {:?} {}", list.as_slice(), list.len())
-}
-
-/// `set N | VARIABLES`: for each variable from 1 to N whether the set of these has it.
-pub(crate) fn put_set(alloc: Global, parts: Parts, out: &mut String) -> Result<(), Fail> {
+/// `set N | VARIABLES` and `listed N | VARIABLES`: for each variable from 1 to N whether the set of these has it; as
+/// listed they have to be ascending.
+pub(crate) fn put_set(
+    alloc: Global,
+    word: &str,
+    parts: Parts,
+    out: &mut String,
+) -> Result<(), Fail> {
     let n = number_of(parts.first);
-    let set = set_of_text(alloc, n, parts.second)?;
-    put_members(&set, n, out)?;
+    let vars = numbers_of_text(alloc, parts.second)?;
+    match members_of(alloc, word, n, vars.as_slice())? {
+        Some(set) => put_members(&set, n, out)?,
+        None => out.push_str(" not ascending")?,
+    }
     Ok(())
 }
 
+/// The set of these variables, of those from 1 to n.
+fn members_of(alloc: Global, word: &str, n: u32, vars: &[u32]) -> Result<Option<VarSet>, Fail>
+    ensures { IfOk result (λ answer. IfSome answer (λ s. length s ≡ n)) }
+{
+    if word == "set" {
+        return Ok(Some(set_of(alloc, n, vars)?));
+    }
+    if rise_within(n, vars) {
+        return Ok(Some(VarSet::of(alloc, n, vars)?));
+    }
+    Ok(None)
+}
+
 /// Writes for each variable from 1 to n whether the set has it.
-pub(crate) fn put_members(set: &VarSet, n: u32, out: &mut String) -> Result<(), AllocError>
+fn put_members(set: &VarSet, n: u32, out: &mut String) -> Result<(), AllocError>
     requires { length set.now ≡ n }
 {
     for v in 0..n {
         write!(out, " {}", set.has(v + 1))?;
+    }
+    Ok(())
+}
+
+/// `formula N | CLAUSES`: how many variables and clauses it has, and its clauses. `without N | CLAUSES | VARIABLES`:
+/// the same of the formula without the literals on these. `at N | CLAUSES | POSITIONS`: the same of the clauses at
+/// these, and the variables that occur in them. `occurs N | CLAUSES`: where the literals occur.
+pub(crate) fn put_formula(
+    alloc: Global,
+    word: &str,
+    parts: Parts,
+    out: &mut String,
+) -> Result<(), Fail> {
+    let f = formula_of_text(alloc, number_of(parts.first), parts.second)?;
+    let numbers = numbers_of_text(alloc, parts.third)?;
+    match word {
+        "without" => put_without(alloc, &f, numbers.as_slice(), out),
+        "at" => Ok(put_part(alloc, &f, numbers.as_slice(), out)?),
+        "occurs" => Ok(put_lists(alloc, &f, out)?),
+        _ => Ok(put_whole(&f, out)?),
+    }
+}
+
+fn put_without(alloc: Global, f: &Formula, vars: &[u32], out: &mut String) -> Result<(), Fail> {
+    let set = set_of(alloc, f.vars(), vars)?;
+    put_whole(&f.without(alloc, &set)?, out)?;
+    Ok(())
+}
+
+fn put_part(
+    alloc: Global,
+    f: &Formula,
+    positions: &[u32],
+    out: &mut String,
+) -> Result<(), OutOfMemory> {
+    if !f.has_part(positions) {
+        out.push_str(" no positions")?;
+        return Ok(());
+    }
+    put_whole(&f.clauses_at(alloc, positions)?, out)?;
+    put_numbers(f.occurring(alloc, positions)?.as_slice(), out)?;
+    Ok(())
+}
+
+/// Writes how many variables and clauses a formula has, and its clauses.
+fn put_whole(f: &Formula, out: &mut String) -> Result<(), AllocError> {
+    write!(out, " {} {}", f.vars(), f.len())?;
+    for k in 1..f.len() + 1 {
+        out.push_str(";")?;
+        put_literals(f.clause(k), out)?;
     }
     Ok(())
 }

@@ -2,22 +2,14 @@
 ghost use Rattle.std.specs.Prelude.{◌≤◌, ◌<◌, ◌+◌, ◌*◌, length};
 ghost use Rattle.lk_model.specs.Limits.{max_vars};
 
-use crate::parts::{Parts, number_of};
+use crate::parts::put_numbers;
 use lk_model::{Formula, Lit, OutOfMemory};
-use lk_samples::formula_of_text;
 use occurrence_lists::OccurrenceLists;
 use std::alloc::{AllocError, Global};
-use std::test::Fail;
 
-/// `occurs N | CLAUSES`: how many clauses hold each literal, by rank, and for each variable the positions
-/// of those that hold it, its complement, and both lists together.
-pub(crate) fn put_occurrences(alloc: Global, parts: Parts, out: &mut String) -> Result<(), Fail> {
-    let f = formula_of_text(alloc, number_of(parts.first), parts.second)?;
-    put_lists(alloc, &f, out)?;
-    Ok(())
-}
-
-fn put_lists(alloc: Global, f: &Formula, out: &mut String) -> Result<(), OutOfMemory> {
+/// Writes how many clauses hold each literal, by rank, and for each variable the positions of those that hold it,
+/// its complement, and both lists together.
+pub(crate) fn put_lists(alloc: Global, f: &Formula, out: &mut String) -> Result<(), OutOfMemory> {
     let lists = OccurrenceLists::new(alloc, f)?;
     put_numbers(lists.counts(alloc)?.as_slice(), out)?;
     for v in 1..f.vars() + 1 {
@@ -34,8 +26,4 @@ fn put_variable(lists: &OccurrenceLists, v: u32, out: &mut String) -> Result<(),
     put_numbers(lists.positions(Lit::from_var(v, true)), out)?;
     put_numbers(lists.positions(Lit::from_var(v, false)), out)?;
     put_numbers(lists.positions_of_variable(v), out)
-}
-
-fn put_numbers(numbers: &[u32], out: &mut String) -> Result<(), AllocError> {
-    write!(out, " {numbers:?}")
 }

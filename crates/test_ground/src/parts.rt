@@ -1,4 +1,4 @@
-//! The parts of a line of the script.
+//! What a line of the script asks about, as texts, and what is answered, as words behind a blank.
 use std::alloc::{AllocError, Global};
 
 /// What a call is asked about: the texts between the bars, each empty where there is none.
@@ -33,11 +33,9 @@ pub(crate) fn number_of(text: &str) -> u32 {
     text.parse().unwrap_or(0)
 }
 
-/// The text that a part writes with `\n`, `\r` and `\t`.
-pub(crate) fn text_of(alloc: Global, written: &str) -> Result<String, AllocError> {
-    let ends = written.replace(alloc, "\\n", "\n")?;
-    let returns = ends.as_str().replace(alloc, "\\r", "\r")?;
-    returns.as_str().replace(alloc, "\\t", "\t")
+/// Writes numbers, behind a blank.
+pub(crate) fn put_numbers(numbers: &[u32], out: &mut String) -> Result<(), AllocError> {
+    write!(out, " {numbers:?}")
 }
 
 /// Writes bytes with escapes, behind a blank.

@@ -1,101 +1,104 @@
-//! Shelves in memory.
-ghost use Rattle.std.specs.Prelude.{IsTrue, IfOk, is_some};
+//! What a shelf over files answers to calls.
+ghost use Rattle.std.specs.Prelude.{ℕ, ◌<◌, length, IsTrue, IfOk, OnOk};
 
-use crate::parts::{Parts, number_of, put_bytes};
-use lk_model::{List, OutOfMemory};
-use lk_outside::{Bytes, MemoryShelf, Name, Shelf};
+use crate::sums::Summary;
+use lk_outside::{Failed, Shelf};
 use std::alloc::{AllocError, Global};
-use std::test::Fail;
 
-/// A text behind its name.
-fn file_of(alloc: Global, written: &str) -> Result<(Name, Bytes), OutOfMemory> {
-    let (name, text) = written.split_once(" ").unwrap_or((written, ""));
-    let name = Name::of(alloc, name)?;
-    let bytes = Bytes::of(alloc, text.as_bytes())?;
-    Ok((name, bytes))
-}
-
-/// The texts that a part has, each behind its name, with commas between them.
-fn files_of(alloc: Global, written: &str) -> Result<List<(Name, Bytes)>, OutOfMemory> {
-    let mut files = List::new(alloc);
-    for file in written.split(", ") {
-        files.push(file_of(alloc, file)?)?;
-    }
-    Ok(files)
-}
-
-/// The numbers of the calls that fail.
-pub(crate) fn fails_of(alloc: Global, written: &str) -> Result<List<u64>, OutOfMemory> {
-    let mut fails = List::new(alloc);
-    for word in written.split_whitespace() {
-        fails.push(u64::from(number_of(word)))?;
-    }
-    Ok(fails)
-}
-
-/// Reads into the piece, and writes what is answered, and the piece.
-fn put_read(
-    shelf: &mut MemoryShelf,
-    piece: &mut [u8; 4],
+/// `shelf CALLS`: asks for the calls, with commas between them, and writes what is answered to each.
+pub(crate) fn put_calls<S: Shelf>(
+    alloc: Global,
+    shelf: &mut S,
+    calls: &str,
     out: &mut String,
-) -> Result<(), AllocError>
-    requires { IsTrue (is_some shelf.old.unread) }
-    ensures { IsTrue (is_some shelf.new.unread) }
-{
-    let count = shelf.read(piece);
-    write!(out, " {count:?}")?;
-    put_bytes(piece.as_slice(), out)
-}
-
-/// Starts the text of a name, and writes what is answered; whether it is started then.
-fn put_start(shelf: &mut MemoryShelf, name: &str, out: &mut String) -> Result<bool, AllocError>
-    ensures { IfOk result (λ s. IsTrue s → IsTrue (is_some shelf.new.unread)) }
-{
-    let answer = shelf.start(name);
-    write!(out, " {answer:?}")?;
-    Ok(answer.is_ok())
-}
-
-/// Reads into the piece, or starts the text of a name; whether a text is started then.
-fn put_call(
-    shelf: &mut MemoryShelf,
-    started: bool,
-    call: &str,
-    piece: &mut [u8; 4],
-    out: &mut String,
-) -> Result<bool, AllocError>
-    requires { IsTrue started → IsTrue (is_some shelf.old.unread) }
-    ensures { IfOk result (λ s. IsTrue s → IsTrue (is_some shelf.new.unread)) }
-{
-    if call != "read" {
-        return put_start(shelf, call, out);
-    }
-    if started {
-        put_read(shelf, piece, out)?;
-    }
-    Ok(started)
-}
-
-fn put_calls(shelf: &mut MemoryShelf, calls: &str, out: &mut String) -> Result<(), AllocError> {
+) -> Result<(), AllocError> {
     let mut started = false;
-    let mut piece = *b"....";
-    for call in calls.split_whitespace() {
-        started = put_call(shelf, started, call, &mut piece, out)?;
+    for call in calls.split(", ") {
+        started = put_call(alloc, shelf, started, call, out)?;
+        out.push_str(";")?;
     }
     Ok(())
 }
 
-/// The shelf of so large a chunk with these failing calls and files.
-fn shelf_of(alloc: Global, parts: Parts) -> Result<MemoryShelf, OutOfMemory> {
-    let chunk = number_of(parts.first).max(1) as usize;
-    let fails = fails_of(alloc, parts.second)?;
-    let files = files_of(alloc, parts.third)?;
-    Ok(MemoryShelf::new(alloc, files, chunk, fails))
+/// Asks for a call, and writes what is answered; whether a text is started then. Nothing is read
+/// where none is.
+fn put_call<S: Shelf>(
+    alloc: Global,
+    shelf: &mut S,
+    started: bool,
+    call: &str,
+    out: &mut String,
+) -> Result<bool, AllocError>
+    requires { IsTrue started → IsTrue (S.started shelf.old) }
+    ensures { IfOk result (λ s. IsTrue s → IsTrue (S.started shelf.new)) }
+{
+    let (word, rest) = call.split_once(" ").unwrap_or((call, ""));
+    if word == "start" {
+        let answer = shelf.start(rest);
+        write!(out, " {answer:?}")?;
+        return Ok(answer.is_ok());
+    }
+    if !started {
+        out.push_str(" nothing is started")?;
+        return Ok(false);
+    }
+    let mut piece = vec![in alloc; 0u8; size_of(rest)]?;
+    if word == "all" {
+        put_all(shelf, piece.as_mut_slice(), out)
+    } else {
+        put_read(shelf, piece.as_mut_slice(), out)
+    }
 }
 
-/// `shelf CHUNK | FAILS | FILES | CALLS`: what a shelf answers to the calls, each a name to start or `read`.
-pub(crate) fn put_shelf(alloc: Global, parts: Parts, out: &mut String) -> Result<(), Fail> {
-    let mut shelf = shelf_of(alloc, parts)?;
-    put_calls(&mut shelf, parts.fourth, out)?;
+/// How many bytes a call asks for at a time: one at least.
+fn size_of(written: &str) -> usize
+    ensures { 0 < result }
+{
+    let size: u32 = written.parse().unwrap_or(1);
+    size.max(1) as usize
+}
+
+/// Reads once, and writes what is answered, with the bytes; whether the text is started still.
+fn put_read<S: Shelf>(shelf: &mut S, piece: &mut [u8], out: &mut String) -> Result<bool, AllocError>
+    requires started { IsTrue (S.started shelf.old) }
+    requires room { 0 < length piece.old }
+    ensures { IfOk result (λ s. IsTrue s → IsTrue (S.started shelf.new)) }
+{
+    let answer = shelf.read(piece);
+    write!(out, " {answer:?}")?;
+    if let Ok(count) = answer {
+        write!(out, " {}", piece[..count].escape_ascii())?;
+    }
+    Ok(answer.is_ok())
+}
+
+/// Reads to the end, and writes what was there; whether the text is started still.
+fn put_all<S: Shelf>(shelf: &mut S, piece: &mut [u8], out: &mut String) -> Result<bool, AllocError>
+    requires started { IsTrue (S.started shelf.old) }
+    requires room { 0 < length piece.old }
+    ensures { IfOk result (λ s. IsTrue s → IsTrue (S.started shelf.new)) }
+{
+    let mut text = Summary::new();
+    let end = read_all(shelf, piece, &mut text);
+    match end {
+        Ok(()) => text.put(out)?,
+        Err(_) => write!(out, " {end:?}")?,
+    }
+    Ok(end.is_ok())
+}
+
+/// Reads to the end.
+fn read_all<S: Shelf>(shelf: &mut S, piece: &mut [u8], text: &mut Summary) -> Result<(), Failed>
+    requires started { IsTrue (S.started shelf.old) }
+    requires room { 0 < length piece.old }
+    ensures { OnOk result (IsTrue (S.started shelf.new)) }
+{
+    for _ in 0..u64::MAX {
+        let count = shelf.read(piece)?;
+        if count == 0 {
+            break;
+        }
+        text.add(&piece[..count]);
+    }
     Ok(())
 }

@@ -1,13 +1,32 @@
-//! Sinks in memory and over a stream.
-use crate::parts::{Parts, number_of, put_bytes};
-use crate::shelves::fails_of;
-use lk_model::OutOfMemory;
-use lk_outside::{MemorySink, Sink, StdSink};
+//! What a sink answers to pieces, over streams and files.
+ghost use Rattle.std.specs.Prelude.{ℕ, ◌<◌};
+
+use crate::interruptions::Interrupted;
+use crate::parts::{Parts, number_of};
+use lk_outside::{Failed, Sink, StdSink};
 use std::alloc::{AllocError, Global};
+use std::fs;
+use std::fs::OpenOptions;
+use std::io::Write;
+use std::rt::Files;
 use std::test::Fail;
 
+/// Writes a whole text.
+pub(crate) fn print_all<S: Sink>(sink: &mut S, text: &[u8]) -> Result<(), Failed> {
+    let mut rest = text;
+    while !rest.is_empty() {
+        let count = sink.write(rest)?;
+        rest = &rest[count..];
+    }
+    Ok(())
+}
+
 /// Writes a piece, unless it is empty, and writes what is answered.
-fn put_write<S: Sink>(sink: &mut S, piece: &[u8], out: &mut String) -> Result<(), AllocError> {
+pub(crate) fn put_piece<S: Sink>(
+    sink: &mut S,
+    piece: &[u8],
+    out: &mut String,
+) -> Result<(), AllocError> {
     if piece.is_empty() {
         return Ok(());
     }
@@ -15,34 +34,15 @@ fn put_write<S: Sink>(sink: &mut S, piece: &[u8], out: &mut String) -> Result<()
     write!(out, " {answer:?}")
 }
 
-/// Writes the pieces, and writes what is answered to each, and what the sink has taken then.
-fn put_taken(sink: &mut MemorySink, pieces: &str, out: &mut String) -> Result<(), AllocError> {
+/// Writes the pieces into a sink over that stream, and writes what is answered to each.
+fn put_pieces<W: Write + Drop>(
+    stream: W,
+    pieces: &str,
+    out: &mut String,
+) -> Result<(), AllocError> {
+    let mut sink = StdSink::new(stream);
     for piece in pieces.split_whitespace() {
-        put_write(sink, piece.as_bytes(), out)?;
-        put_bytes(sink.bytes(), out)?;
-    }
-    Ok(())
-}
-
-/// The sink of so much room that takes so much at a time.
-fn sink_of(alloc: Global, parts: Parts) -> Result<MemorySink, OutOfMemory> {
-    let room = number_of(parts.first) as usize;
-    let chunk = number_of(parts.second).max(1) as usize;
-    MemorySink::new(alloc, room, chunk, fails_of(alloc, parts.third)?)
-}
-
-/// `sink ROOM | CHUNK | FAILS | PIECES`: what a sink answers to the pieces, and what it has taken then.
-pub(crate) fn put_sink(alloc: Global, parts: Parts, out: &mut String) -> Result<(), Fail> {
-    let mut sink = sink_of(alloc, parts)?;
-    put_taken(&mut sink, parts.fourth, out)?;
-    Ok(())
-}
-
-/// Writes the pieces into a sink over this room, and writes what is answered to each.
-fn put_over(room: &mut [u8], pieces: &str, out: &mut String) -> Result<(), AllocError> {
-    let mut sink = StdSink::new(room);
-    for piece in pieces.split_whitespace() {
-        put_write(&mut sink, piece.as_bytes(), out)?;
+        put_piece(&mut sink, piece.as_bytes(), out)?;
     }
     Ok(())
 }
@@ -50,6 +50,41 @@ fn put_over(room: &mut [u8], pieces: &str, out: &mut String) -> Result<(), Alloc
 /// `stream ROOM | PIECES`: what a sink over so many bytes answers to the pieces.
 pub(crate) fn put_stream(alloc: Global, parts: Parts, out: &mut String) -> Result<(), Fail> {
     let mut room = vec![in alloc; 0u8; number_of(parts.first) as usize]?;
-    put_over(room.as_mut_slice(), parts.second, out)?;
+    put_pieces(room.as_mut_slice(), parts.second, out)?;
     Ok(())
+}
+
+/// `sink NAME PIECES`: the file of that name is opened for writing. `reader NAME PIECES`: it is opened for reading
+/// alone.
+pub(crate) fn put_file<R: Files>(
+    rt: &R,
+    word: &str,
+    rest: &str,
+    out: &mut String,
+) -> Result<(), AllocError> {
+    let (name, pieces) = rest.split_once(" ").unwrap_or((rest, ""));
+    let opened = if word == "sink" {
+        OpenOptions::new().write(true).open(rt, name)
+    } else {
+        fs::open(rt, name)
+    };
+    match opened {
+        Ok(file) => put_pieces(file, pieces, out),
+        Err(_) => out.push_str(" does not open"),
+    }
+}
+
+/// `room TIMES SIZE PIECES`: so many bytes of memory, whose writes are interrupted so many times.
+pub(crate) fn put_room(
+    alloc: Global,
+    times: u32,
+    rest: &str,
+    out: &mut String,
+) -> Result<(), AllocError> {
+    let (size, pieces) = rest.split_once(" ").unwrap_or((rest, ""));
+    let mut room = vec![in alloc; b'.'; number_of(size) as usize]?;
+    let mut stream = Interrupted::new(room.as_mut_slice(), times);
+    put_pieces(&mut stream, pieces, out)?;
+    let calls = stream.calls;
+    write!(out, ", {calls} calls: {}", room.as_slice().escape_ascii())
 }

@@ -4,7 +4,7 @@ ghost use Rattle.lk_model.specs.Formulas.Lean.{are_positions};
 ghost use Rattle.bipartite_match.specs.Matchings.{IsMaximum};
 
 use bipartite_match::{Matching, Reached, maximum, reach};
-use lk_model::{Formula, MatchRow, MatchingResult, OutOfMemory, Own};
+use lk_model::{Formula, MatchRow, MatchingResult, OutOfMemory};
 use matching_kernel::matching_kernel;
 use std::alloc::{AllocError, Global};
 
@@ -19,30 +19,14 @@ pub(crate) fn pairs(m: &Matching) -> usize {
     count
 }
 
-fn put_matching(of_clause: &[u32], of_var: &[u32], out: &mut String) -> Result<(), AllocError> {
-    writeln!(out, "= variables {of_clause:?}; positions {of_var:?}")
-}
-
-fn put_walks(
-    kept: &[u32],
-    escape: &[u32],
-    rank: &[u32],
-    out: &mut String,
-) -> Result<(), AllocError> {
-    writeln!(out, "= kept {kept:?}; escapes {escape:?}; ranks {rank:?}")
-}
-
-fn put_pairs(pairs: usize, kept: &[u32], out: &mut String) -> Result<(), AllocError> {
-    writeln!(out, "= {pairs} pairs; kept {kept:?}")
-}
-
 /// Writes a matching, or what alternating walks reach.
 fn put_reached(word: &str, m: &Matching, r: &Reached, out: &mut String) -> Result<(), AllocError> {
-    let kept = r.kept.as_slice();
+    let (kept, escape, rank) = (r.kept.as_slice(), r.escape.as_slice(), r.rank.as_slice());
+    let (of_clause, of_var) = (m.of_clause.as_slice(), m.of_var.as_slice());
     match word {
-        "matching" => put_matching(m.of_clause.as_slice(), m.of_var.as_slice(), out),
-        "walks" => put_walks(kept, r.escape.as_slice(), r.rank.as_slice(), out),
-        _ => put_pairs(pairs(m), kept, out),
+        "matching" => writeln!(out, "= variables {of_clause:?}; positions {of_var:?}"),
+        "walks" => writeln!(out, "= kept {kept:?}; escapes {escape:?}; ranks {rank:?}"),
+        _ => writeln!(out, "= {} pairs; kept {kept:?}", pairs(m)),
     }
 }
 
@@ -93,19 +77,17 @@ fn put_rows(rows: &[MatchRow], out: &mut String) -> Result<(), AllocError> {
     Ok(())
 }
 
-fn put_owners(own: &[Own], out: &mut String) -> Result<(), AllocError> {
-    writeln!(out, "= {own:?}")
-}
-
-fn put_kept(kept: &[u32], owners: usize, rows: usize, out: &mut String) -> Result<(), AllocError> {
-    writeln!(out, "= kept {kept:?}; {owners} owners; {rows} rows")
-}
-
 fn put_kernel(word: &str, k: &MatchingResult, out: &mut String) -> Result<(), AllocError> {
+    let (kept, own, rows) = (k.kept.as_slice(), k.own.as_slice(), k.rows.as_slice());
     match word {
-        "rows" => put_rows(k.rows.as_slice(), out),
-        "owners" => put_owners(k.own.as_slice(), out),
-        _ => put_kept(k.kept.as_slice(), k.own.len(), k.rows.len(), out),
+        "rows" => put_rows(rows, out),
+        "owners" => writeln!(out, "= {own:?}"),
+        _ => writeln!(
+            out,
+            "= kept {kept:?}; {} owners; {} rows",
+            own.len(),
+            rows.len()
+        ),
     }
 }
 

@@ -3,13 +3,12 @@ ghost use Rattle.std.specs.Prelude.{◌≡◌, IsTrue};
 ghost use Rattle.lk_model.specs.Formulas.Lean.{are_positions};
 ghost use Rattle.part_formula.specs.Decisions.{are_filled};
 
-use crate::general::budget_of;
-use crate::telling::put_decision;
+use crate::command::{Command, budget_of, formula};
 use check_rounds::misstated_step;
 use lk_model::Formula;
-use lk_samples::{formula_of_text, has_part, numbers_of_text};
+use lk_samples::{part_of_text, put_literals, put_round};
 use part_formula::{Decision, decide_part};
-use std::alloc::Global;
+use std::alloc::{AllocError, Global};
 use std::test::Fail;
 
 /// Whether no clause at the positions is empty.
@@ -24,24 +23,34 @@ fn is_filled(f: &Formula, part: &[u32]) -> bool
     filled
 }
 
-/// Tells what is decided of some positions of the formula over n variables with the clauses of a text, and of a
-/// refutation the first step that does not state the clause of its chain.
-pub(crate) fn tell_decision(
-    alloc: Global,
-    n: u32,
-    conflicts: u64,
-    texts: (&str, &str),
-    out: &mut String,
-) -> Result<(), Fail> {
-    let f = formula_of_text(alloc, n, texts.0)?;
-    let part = numbers_of_text(alloc, texts.1)?;
-    if !has_part(&f, &part) {
-        return Err(Fail::from("no part"));
+/// Writes what is decided: the literals of a model, or a round.
+fn put_decision(decision: &Decision, out: &mut String) -> Result<(), AllocError> {
+    match decision {
+        Decision::Model(set) => {
+            out.push_str("= model")?;
+            put_literals(set.as_slice(), out)?;
+            out.push('\n')
+        }
+        Decision::Refuted(round) => {
+            out.push_str("= refuted\n")?;
+            put_round(round, out)
+        }
+        Decision::Stopped(round) => {
+            out.push_str("= stopped\n")?;
+            put_round(round, out)
+        }
     }
+}
+
+/// Tells what is decided of some positions of a formula, and of a refutation the first step that does not state the
+/// clause of its chain.
+pub(crate) fn tell_decision(alloc: Global, c: &Command<'_>, out: &mut String) -> Result<(), Fail> {
+    let f = formula(alloc, c)?;
+    let part = part_of_text(alloc, &f, c.more)?;
     if !is_filled(&f, &part) {
         return Err(Fail::from("an empty clause"));
     }
-    let decision = decide_part(alloc, &f, &part, budget_of(conflicts)?)?;
+    let decision = decide_part(alloc, &f, &part, budget_of(c.second)?)?;
     put_decision(&decision, out)?;
     if let Decision::Refuted(round) = &decision {
         let step = misstated_step(alloc, &f, &part, round)?;

@@ -1,6 +1,7 @@
 //! Numbers with their indices added, in halves.
 ghost use Rattle.std.specs.Prelude.{◌≡◌, ◌+◌, ◌<◌, ◌≤◌, ◌^◌, ℕ, length, slice_index, IfOk};
 
+use crate::command::Command;
 use lk_model::{List, OutOfMemory};
 use lk_outside::OpenGate;
 use lk_samples::{FirstItem, Meeting, numbers_of_text};
@@ -32,45 +33,6 @@ fn with_index<R: Threads + Sync, G: Gate>(
     )
 }
 
-/// Tells the numbers with their indices.
-fn tell_sums<R: Threads + Sync>(
-    rt: &R,
-    alloc: Global,
-    numbers: &[u32],
-    workers: u32,
-    out: &mut String,
-) -> Result<(), Fail>
-    requires few { length numbers.now < 2 ^ 32 }
-    requires workers { 1 ≤ workers }
-{
-    let sums = with_index(rt, alloc, &OpenGate, numbers, workers)?;
-    writeln!(out, "= {:?}", sums.as_slice())?;
-    Ok(())
-}
-
-/// Tells whether the halves meet at a gate.
-fn tell_meeting<R: Threads + Sync>(
-    rt: &R,
-    alloc: Global,
-    numbers: &[u32],
-    workers: u32,
-    out: &mut String,
-) -> Result<(), Fail>
-    requires few { length numbers.now < 2 ^ 32 }
-    requires workers { 1 ≤ workers }
-{
-    let gate = Meeting::new();
-    let sums = with_index(rt, alloc, &gate, numbers, workers)?;
-    writeln!(
-        out,
-        "= {:?}; entered {:?}; met {:?}",
-        sums.as_slice(),
-        gate.times(),
-        gate.met()
-    )?;
-    Ok(())
-}
-
 /// Tells whether half 1 waits for the first number.
 fn tell_sides<R: Threads + Sync>(
     rt: &R,
@@ -100,22 +62,28 @@ fn tell_sides<R: Threads + Sync>(
     Ok(())
 }
 
-/// Tells what a command answers, with so many workers, on the numbers of a text.
+/// Tells the numbers of a text with their indices, and of `meet` whether the halves meet at a gate.
 pub(crate) fn tell_halves<R: Threads + Sync>(
     rt: &R,
     alloc: Global,
-    word: &str,
-    workers: u32,
-    text: &str,
+    c: &Command<'_>,
     out: &mut String,
 ) -> Result<(), Fail> {
-    let numbers = numbers_of_text(alloc, text)?;
-    if workers == 0 || numbers.len() > 1000 {
+    let numbers = numbers_of_text(alloc, c.text)?;
+    if c.first == 0 || numbers.len() > 1000 {
         return Err(Fail::from("no workers, or too many numbers"));
     }
-    match word {
-        "meet" => tell_meeting(rt, alloc, &numbers, workers, out),
-        "sides" => tell_sides(rt, alloc, &numbers, workers, out),
-        _ => tell_sums(rt, alloc, &numbers, workers, out),
+    if c.word == "sides" {
+        return tell_sides(rt, alloc, &numbers, c.first, out);
     }
+    if c.word == "halves" {
+        let sums = with_index(rt, alloc, &OpenGate, &numbers, c.first)?;
+        writeln!(out, "= {:?}", sums.as_slice())?;
+        return Ok(());
+    }
+    let gate = Meeting::new();
+    let sums = with_index(rt, alloc, &gate, &numbers, c.first)?;
+    write!(out, "= {:?}; entered {:?}", sums.as_slice(), gate.times())?;
+    writeln!(out, "; met {:?}", gate.met())?;
+    Ok(())
 }

@@ -1,8 +1,8 @@
-use Rattle.std.proofs.Common.{IsTrue, is_some}
+use Rattle.std.proofs.Common.{IsTrue}
 use Rattle.test_ground.proofs.shelves.put_calls.Given as goal
 
 abbrev pub invariant-loop-call : goal.invariant-loop-call
-invariant-loop-call l =
-    (goal.iterator-loop-call).can_next l.call-iterator ×
-    (goal.iterator-loop-call).is_finite l.call-iterator ×
-    (IsTrue l.started → IsTrue (is_some l.shelf.unread))
+invariant-loop-call g l =
+    (goal.iterator-loop-call g).can_next l.call-iterator ×
+    (goal.iterator-loop-call g).is_finite l.call-iterator ×
+    (IsTrue l.started → IsTrue (g.S.Shelf.started l.shelf))

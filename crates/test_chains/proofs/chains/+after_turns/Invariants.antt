@@ -1,5 +1,0 @@
-use Rattle.std.proofs.Common.{length}
-use Rattle.test_chains.proofs.chains.+after_turns.Given as goal
-
-abbrev pub decreases-after_turns : goal.decreases-after_turns
-decreases-after_turns l = length l.turns.now

@@ -1,0 +1,75 @@
+//! Joins what is found in the parts of formulas. Kernels are those worked out by hand, or found in the whole formula;
+//! general results are those of a plain program in Python, which looks each number up.
+//!
+//! - `kernel N; CLAUSES` tells the matching kernel of a formula, found in each part by itself: the kept
+//!   positions, the own lines and the variables of the rows.
+//! - `general M; RESULTS` joins general results for the parts of a formula of M clauses, with bars between
+//!   them, and tells the result as such a text (`src/given.rt`), or that they cannot be joined.
+//! - `drawn N` compares the kernels of so many drawn formulas with those that are found in one piece.
+use crate::command::{Command, formula};
+use crate::given::{put_general, results_of_text};
+use crate::joinable::joined;
+use crate::joining::kernel_by_parts;
+use lk_samples::{drawn_formula, positions};
+use matching_kernel::matching_kernel;
+use std::alloc::Global;
+use std::test::Fail;
+
+/// Tells the matching kernel of a formula.
+fn tell_kernel(alloc: Global, c: &Command<'_>, out: &mut String) -> Result<(), Fail> {
+    let f = formula(alloc, c)?;
+    let r = kernel_by_parts(alloc, &f)?;
+    write!(out, "= kept {:?}; own", r.kept.as_slice())?;
+    for o in r.own.as_slice() {
+        write!(out, " {}:{}", o.pos, o.var)?;
+    }
+    out.push_str("; rows")?;
+    for row in r.rows.as_slice() {
+        write!(out, " {}", row.var)?;
+    }
+    out.push('\n')?;
+    Ok(())
+}
+
+/// Tells what the results of a text are, joined.
+fn tell_general(alloc: Global, c: &Command<'_>, out: &mut String) -> Result<(), Fail> {
+    let found = results_of_text(alloc, c.text)?;
+    match joined(alloc, c.first, found)? {
+        Some(r) => put_general(&r, out)?,
+        None => out.push_str("= not joinable\n")?,
+    }
+    Ok(())
+}
+
+/// Whether the kernel of a formula that a seed draws is the one that is found in one piece.
+fn is_whole(alloc: Global, seed: u32) -> Result<bool, Fail> {
+    let f = drawn_formula(alloc, 20, seed, 16)?;
+    let all = positions(alloc, &f)?;
+    let whole = matching_kernel(alloc, &f, all.as_slice())?;
+    let joined = kernel_by_parts(alloc, &f)?;
+    Ok(
+        joined.kept.as_slice() == whole.kept.as_slice()
+            && joined.own.len() == whole.own.len()
+            && joined.rows.len() == whole.rows.len(),
+    )
+}
+
+/// Tells how many of so many drawn formulas have the same kernel in one piece.
+fn tell_drawn(alloc: Global, count: u32, out: &mut String) -> Result<(), Fail> {
+    let mut same = 0u32;
+    for seed in 0..count {
+        same = same.wrapping_add(u32::from(is_whole(alloc, seed)?));
+    }
+    writeln!(out, "= the same in {same} of {count}")?;
+    Ok(())
+}
+
+/// Tells what a command asks for.
+pub(crate) fn tell(alloc: Global, c: &Command<'_>, out: &mut String) -> Result<(), Fail> {
+    match c.word {
+        "kernel" => tell_kernel(alloc, c, out),
+        "general" => tell_general(alloc, c, out),
+        "drawn" => tell_drawn(alloc, c.first, out),
+        _ => Ok(()),
+    }
+}

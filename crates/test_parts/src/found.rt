@@ -1,0 +1,67 @@
+//! What is found of a formula in each way, as a text that can be compared.
+ghost use Rattle.std.specs.Prelude.{◌≤◌};
+
+use crate::command::budget_of;
+use crate::judging::{put_judged, put_mus};
+use crate::lines::{put_general, put_solved};
+use kernel_solve::solve;
+use lk_model::Formula;
+use lk_outside::{Gate, OpenGate};
+use mus_core::minimal;
+use part_kernels::{general_by_parts, matching_by_parts};
+use std::alloc::Global;
+use std::test::Fail;
+use std::thread::Threads;
+
+/// A formula, what is looked for in it, and by how many learned clauses for each single decision.
+#[derive(Drop)]
+pub(crate) struct Search<'a> {
+    /// `matching` and `general`: its kernel. `judged` and `solution`: whether it has a model, as what is said of the answer
+    /// and as a whole. Else a core, in the way of a command.
+    pub way: &'a str,
+    pub formula: &'a Formula,
+    pub conflicts: u32,
+}
+
+/// What so many workers find with a gate.
+pub(crate) fn found_with<R: Threads + Sync, G: Gate>(
+    rt: &R,
+    alloc: Global,
+    gate: &G,
+    s: &Search<'_>,
+    workers: u32,
+) -> Result<String, Fail> {
+    let f = s.formula;
+    let workers = workers.max(1);
+    let budget = budget_of(s.conflicts)?;
+    let mut out = String::new(alloc);
+    match s.way {
+        "matching" => {
+            let found = matching_by_parts(rt, alloc, gate, f, workers)?;
+            write!(out, "= {:?}", found.kept.as_slice())?;
+        }
+        "general" => put_general(
+            &general_by_parts(rt, alloc, gate, f, budget, workers)?,
+            &mut out,
+        )?,
+        "solution" => put_solved(&solve(rt, alloc, gate, f, budget, workers)?, &mut out)?,
+        "judged" => put_judged(
+            alloc,
+            s,
+            &solve(rt, alloc, gate, f, budget, workers)?,
+            &mut out,
+        )?,
+        _ => put_mus(alloc, s, &minimal(alloc, f, budget)?, &mut out)?,
+    }
+    Ok(out)
+}
+
+/// What so many workers find with a gate that holds nothing.
+pub(crate) fn found<R: Threads + Sync>(
+    rt: &R,
+    alloc: Global,
+    s: &Search<'_>,
+    workers: u32,
+) -> Result<String, Fail> {
+    found_with(rt, alloc, &OpenGate, s, workers)
+}

@@ -1,0 +1,204 @@
+//! Whether answers are right, by a program that knows nothing of how they were found.
+use crate::found::Search;
+use crate::lines::{put_core, put_positions};
+use kernel_solve::Solved;
+use lk_model::{Formula, MusResult, Step, Without};
+use lk_samples::{has_part, put_literals, put_steps};
+use mus_core::Mus;
+use par_parts::parts;
+use plain_judge::{clause_at, has_model, is_model, is_named, learns, lie_in, refutes};
+use std::alloc::Global;
+use std::test::Fail;
+
+/// The number of the part, from 1 on, in which chains lie, and 0 where there is none.
+fn part_of(alloc: Global, f: &Formula, steps: &[Step]) -> Result<usize, Fail> {
+    let list = parts(alloc, f)?;
+    let mut number = 0usize;
+    for part in list.as_slice() {
+        number = number.wrapping_add(1);
+        if lie_in(f, part.as_slice(), steps) {
+            return Ok(number);
+        }
+    }
+    Ok(0)
+}
+
+/// Writes what is to be said of an answer: what it is, in which part the chains of its round lie, whether it is right.
+pub(crate) fn put_judged(
+    alloc: Global,
+    s: &Search<'_>,
+    solved: &Solved,
+    out: &mut String,
+) -> Result<(), Fail> {
+    let f = s.formula;
+    let (steps, right) = match solved {
+        Solved::Model(lits) => {
+            let right = is_model(f, lits.as_slice());
+            write!(out, "= model; right {right}")?;
+            return Ok(());
+        }
+        Solved::Refuted(round) => {
+            out.push_str("= refuted")?;
+            let steps = round.steps.as_slice();
+            (steps, refutes(alloc, f, s.conflicts, steps)?)
+        }
+        Solved::Unfinished(round) => {
+            out.push_str("= unfinished")?;
+            let steps = round.steps.as_slice();
+            (steps, learns(alloc, f, s.conflicts, steps)?)
+        }
+    };
+    let part = part_of(alloc, f, steps)?;
+    write!(out, " in part {part}; right {right}")?;
+    Ok(())
+}
+
+/// The position of the first empty clause, and 0 where there is none.
+pub(crate) fn first_empty(f: &Formula) -> u32 {
+    for p in 1..f.len() + 1 {
+        if f.clause(p).is_empty() {
+            return p;
+        }
+    }
+    0
+}
+
+/// Whether the clauses of a core have no model, by all assignments, and, where a clause is empty, it is the first such one.
+fn is_unsatisfiable(alloc: Global, f: &Formula, core: &[u32]) -> Result<bool, Fail> {
+    let empty = first_empty(f);
+    if !has_part(f, core) || (empty > 0 && core != [empty].as_slice()) {
+        return Ok(false);
+    }
+    let clauses = f.clauses_at(alloc, core)?;
+    Ok(!has_model(&clauses))
+}
+
+/// Whether some chain of these steps names a position.
+fn is_named_in(steps: &[Step], p: u32) -> bool {
+    for step in steps {
+        if is_named(step, u64::from(p)) {
+            return true;
+        }
+    }
+    false
+}
+
+/// Whether the chains of a round name the positions of a core and no others.
+fn names_just(f: &Formula, r: &MusResult) -> bool {
+    for p in 1..f.len() + 1 {
+        if is_named_in(r.round.steps.as_slice(), p) != r.core.as_slice().contains(&p) {
+            return false;
+        }
+    }
+    true
+}
+
+/// Whether the literals rise on variables of the formula, and make each literal of the clause at their position false,
+/// and satisfy each other clause of the core.
+fn is_witness(f: &Formula, core: &[u32], without: &Without) -> bool {
+    let mut low = 0;
+    for l in without.lits.as_slice() {
+        if l.var() <= low {
+            return false;
+        }
+        low = l.var();
+    }
+    for p in core {
+        let (clause, own) = (clause_at(f, *p), *p == without.pos);
+        let mut hits = 0usize;
+        for l in clause {
+            let wanted = if own { l.negated() } else { *l };
+            hits = hits.wrapping_add(usize::from(without.lits.as_slice().contains(&wanted)));
+        }
+        if hits < (if own { clause.len() } else { 1 }) {
+            return false;
+        }
+    }
+    low <= f.vars()
+}
+
+/// Whether there is a witness for each position of the core, in their order.
+fn has_witnesses(f: &Formula, r: &MusResult) -> bool {
+    let (core, withouts) = (r.core.as_slice(), r.without.as_slice());
+    if core.len() != withouts.len() {
+        return false;
+    }
+    for i in 0..core.len() {
+        if withouts[i].pos != core[i] || !is_witness(f, core, &withouts[i]) {
+            return false;
+        }
+    }
+    true
+}
+
+/// Whether no clause is empty, and the texts are the clauses at some positions.
+fn are_texts(f: &Formula, part: &[u32], texts: &Formula) -> bool {
+    if !has_part(f, part) || first_empty(f) > 0 {
+        return false;
+    }
+    if texts.vars() != f.vars() || texts.len() as usize != part.len() {
+        return false;
+    }
+    for i in 0..part.len() {
+        if clause_at(texts, i as u32 + 1) != clause_at(f, part[i]) {
+            return false;
+        }
+    }
+    true
+}
+
+/// Whether it is a minimally unsatisfiable core, with a refutation of as many learned clauses as are allowed.
+fn is_core(alloc: Global, s: &Search<'_>, r: &MusResult) -> Result<bool, Fail> {
+    let f = s.formula;
+    if !has_witnesses(f, r) || !names_just(f, r) {
+        return Ok(false);
+    }
+    Ok(
+        is_unsatisfiable(alloc, f, r.core.as_slice())?
+            && refutes(alloc, f, s.conflicts, r.round.steps.as_slice())?,
+    )
+}
+
+/// Writes an answer in the way of a command, and whether it is right.
+pub(crate) fn put_mus(
+    alloc: Global,
+    s: &Search<'_>,
+    mus: &Mus,
+    out: &mut String,
+) -> Result<(), Fail> {
+    let f = s.formula;
+    let whole = matches!(s.way, "find" | "told");
+    let right = match mus {
+        Mus::Core(r) => {
+            put_core(s.way, r, out)?;
+            is_core(alloc, s, r)?
+        }
+        Mus::Model(lits) => {
+            out.push_str("= model")?;
+            if whole {
+                put_literals(lits.as_slice(), out)?;
+                out.push('\n')?;
+            }
+            is_model(f, lits.as_slice())
+        }
+        Mus::Unfinished { part, texts, round } => {
+            out.push_str("= unfinished")?;
+            if whole {
+                out.push_str(" over")?;
+                put_positions(part.as_slice(), out)?;
+                out.push('\n')?;
+            }
+            if s.way == "find" {
+                put_steps(round.steps.as_slice(), out)?;
+            }
+            are_texts(f, part.as_slice(), texts)
+                && learns(alloc, texts, s.conflicts, round.steps.as_slice())?
+        }
+    };
+    match s.way {
+        "find" => {}
+        "told" => writeln!(out, "= right {right}")?,
+        _ => write!(out, "; right {right}")?,
+    }
+    Ok(())
+}

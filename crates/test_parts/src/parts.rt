@@ -1,0 +1,64 @@
+//! The parts of formulas, work on lists in halves, and kernels by parts.
+//!
+//! - `parts N; CLAUSES` tells the parts of a formula.
+//! - `parts-without N; CLAUSES; VARIABLES` tells the parts of the formula without the literals on these.
+//! - `units N` counts the parts of a unit clause for each of so many variables, and `chain N` those of the
+//!   clauses of two neighbouring ones, each four times.
+//! - `halves N; NUMBERS` adds to each number its index, with so many workers.
+//! - `meet N; NUMBERS` does it with a gate that holds each half until the other one has entered, and tells
+//!   how often each half entered and whether it met the other one.
+//! - `sides N; NUMBERS` does it with a gate that holds half 1 until the first number was worked on, and
+//!   tells whether it was.
+//! - `kernel N; CLAUSES` tells the positions of the matching kernel of a formula as one worker finds it, and
+//!   whether 2, 3, 8 and 64 workers find the same.
+//! - `workers N; CLAUSES` tells it as two workers find it, with the gate that holds each half.
+//! - `general N C; CLAUSES` tells what one worker finds of the general kernel of a formula by at most C
+//!   learned clauses for each part: the kept positions and the literals that are set, or `unfinished`, then
+//!   each round with its steps; and whether 2, 3 and 8 workers find the same.
+//! - `general-workers N C; CLAUSES` tells it as two workers find it, with the gate that holds each half.
+//! - `alone N C; CLAUSES; POSITIONS` tells what is found so in the part at these positions, in a formula of its
+//!   own, and whether the same is found in the whole formula.
+//! - `alone-drawn N C` compares the two for each part of so many drawn formulas.
+//! - `matching N; CLAUSES; POSITIONS` tells the matching kernel of the part at these positions, found in a formula
+//!   of its own: the kept positions, own lines as position:variable, rows as variable:own:escape:rank, and
+//!   whether the same is found in the whole formula.
+//! - `matching-end N` tells it of the last six clauses behind a unit clause for each of so many variables.
+//! - `matching-drawn N` compares the two for each part, and for each third position, of so many drawn formulas.
+//! - `decide N C; CLAUSES; POSITIONS` tells whether the clauses at these positions have a model, as found by at
+//!   most C learned clauses: its literals, a refutation, or a round that stopped.
+//! - `squares N C` tells of parts of four clauses over two of N variables each, where N + 1 is a prime, whose
+//!   numbers are scattered, how much is kept by how many rounds and steps, whether two workers find the same,
+//!   and compares one part of each 20 as `alone` does.
+//! - `fours N` counts the kept clauses of parts of one variable each: four unit clauses, which are kept, or
+//!   one, which is not, in turn.
+//! - `groups N; CLAUSES` tells the parts of a formula over 40 variables in at most so many groups.
+use crate::alone::{tell_alone, tell_drawn};
+use crate::command::Command;
+use crate::deciding::tell_decision;
+use crate::halves::tell_halves;
+use crate::lists::tell_parts;
+use crate::workers::{tell_fours, tell_met, tell_same, tell_squares};
+use std::alloc::Global;
+use std::test::Fail;
+use std::thread::Threads;
+
+/// Tells what a command asks for.
+pub(crate) fn tell<R: Threads + Sync>(
+    rt: &R,
+    alloc: Global,
+    c: &Command<'_>,
+    out: &mut String,
+) -> Result<(), Fail> {
+    match c.word {
+        "parts" | "parts-without" | "groups" | "units" | "chain" => tell_parts(alloc, c, out),
+        "halves" | "meet" | "sides" => tell_halves(rt, alloc, c, out),
+        "kernel" | "general" => tell_same(rt, alloc, c, out),
+        "workers" | "general-workers" => tell_met(rt, alloc, c, out),
+        "alone" | "matching" | "matching-end" => tell_alone(alloc, c, out),
+        "alone-drawn" | "matching-drawn" => tell_drawn(alloc, c, out),
+        "decide" => tell_decision(alloc, c, out),
+        "squares" => tell_squares(rt, alloc, c, out),
+        "fours" => tell_fours(rt, alloc, c, out),
+        _ => Ok(()),
+    }
+}

@@ -1,0 +1,129 @@
+//! Budgets around the edges of turns: what orders answer by turns, beside what each answers by itself.
+use crate::asking::{Asked, Way, answer};
+use cdcl_core::{By, Decided};
+use std::alloc::Global;
+use std::test::Fail;
+
+/// The usual orders by themselves, as they take turns.
+pub(crate) const USUAL: [Way; 2] = [
+    Way::One {
+        by: By::Number,
+        last: false,
+    },
+    Way::One {
+        by: By::Connection,
+        last: true,
+    },
+];
+
+/// All orders by themselves, as they take turns.
+pub(crate) const ALL: [Way; 3] = [
+    Way::One {
+        by: By::Occurrences,
+        last: true,
+    },
+    Way::One {
+        by: By::Number,
+        last: false,
+    },
+    Way::One {
+        by: By::Connection,
+        last: true,
+    },
+];
+
+/// What is answered.
+#[derive(Clone, Copy, PartialEq)]
+enum Told {
+    /// There is a model.
+    Sat,
+    /// A refutation of so many steps.
+    Refuted(usize),
+    /// So many steps, without an end.
+    Stopped(usize),
+}
+
+/// What is answered.
+fn answered(alloc: Global, asked: &Asked, way: Way, next: u64, budget: u64) -> Result<Told, Fail> {
+    match answer(alloc, asked, way, next, budget)? {
+        Decided::Sat(_) => Ok(Told::Sat),
+        Decided::Refuted(log) => Ok(Told::Refuted(log.len())),
+        Decided::Stopped(log) => Ok(Told::Stopped(log.len())),
+    }
+}
+
+/// The least budget that is enough, if it is less than a bound, and else the bound.
+fn enough(alloc: Global, asked: &Asked, way: Way, next: u64, bound: u32) -> Result<u64, Fail> {
+    for budget in 1..bound {
+        if !matches!(
+            answered(alloc, asked, way, next, u64::from(budget))?,
+            Told::Stopped(_)
+        ) {
+            return Ok(u64::from(budget));
+        }
+    }
+    Ok(u64::from(bound))
+}
+
+/// The place of the order that answers first within a budget, by the budgets that are enough for each, or none. Each has
+/// as many clauses as a turn allows, and then so many more, at least one; the others begin behind the first one's turn.
+fn winner(enough: &[u64], turn: u64, further: u64, budget: u64) -> Option<usize> {
+    let mut pause = turn.min(budget);
+    let leading = enough.first().copied().unwrap_or(0);
+    if pause == budget && leading > pause {
+        return None;
+    }
+    for _ in 0..1000u32 {
+        for place in 0..enough.len() {
+            if enough[place] <= pause {
+                return Some(place);
+            }
+        }
+        if pause == budget {
+            return None;
+        }
+        pause = pause.saturating_add(further.max(1)).min(budget);
+    }
+    None
+}
+
+/// For each order the least budget that is enough, if it is less than a bound, and else the bound.
+fn all_enough(
+    alloc: Global,
+    asked: &Asked,
+    orders: &[Way],
+    next: u64,
+    bound: u32,
+) -> Result<Vec<u64>, Fail> {
+    let mut budgets = Vec::new(alloc);
+    for order in orders {
+        budgets.push(enough(alloc, asked, *order, next, bound)?)?;
+    }
+    Ok(budgets)
+}
+
+/// Of how many budgets up to a bound the answer by turns is that of the order that answers first, or a stop.
+pub(crate) fn right_budgets(
+    alloc: Global,
+    asked: &Asked,
+    orders: &[Way],
+    way: Way,
+    bound: u32,
+) -> Result<u32, Fail> {
+    let next = u64::from(asked.formula.len()) + 1;
+    let budgets = all_enough(alloc, asked, orders, next, bound.saturating_add(1))?;
+    let (turn, further) = way.lengths();
+    let mut right = 0u32;
+    for budget in 0..bound {
+        let budget = u64::from(budget) + 1;
+        let first = winner(budgets.as_slice(), turn, further, budget);
+        let wanted = match first.and_then(|place| orders.get(place)) {
+            Some(order) => answered(alloc, asked, *order, next, budget)?,
+            None => Told::Stopped(budget as usize),
+        };
+        if answered(alloc, asked, way, next, budget)? == wanted {
+            right = right.saturating_add(1);
+        }
+    }
+    Ok(right)
+}
