@@ -1,8 +1,8 @@
 //! What `edits` answers.
 //!
 //! The matching of the live clauses stays maximum from edit to edit by at most one search for each, so that what an
-//! edit costs besides the kernel that is written is this search. A counter, whose ledger the functions that search do
-//! not know, shows it.
+//! edit costs besides the kernel that is written is this search. A counter shows how many searches were made with it;
+//! its ledger is unknown to the functions that search.
 ghost use Rattle.std.specs.Prelude.{◌≡◌, ◌+◌, ◌≤◌, None, length, IfOk, OnOk, IsTrue};
 ghost use Rattle.edit_text.specs.LiveClauses.{live_of};
 ghost use Rattle.edit_text.specs.Edits.{CanBeMade, after, fault_of, is_edit_over, states};

@@ -19,7 +19,7 @@ use Rattle.bipartite_match.specs.Matchings.{IsMatching, IsMaximum}
 use Rattle.bipartite_match.specs.Walks.{IsReached, unmatched}
 use Rattle.bipartite_match.proofs.Numbers.{within, rising_once}
 use Rattle.matching_kernel.specs.ReachedLaw.{ReachedLaw}
-use Rattle.deficiency.specs.Deficiency.{AreOwners, HasSurplus, IsMaxDeficiency, pairs_of}
+use Rattle.deficiency.specs.Deficiency.{AreOwners, HasDeficiency, IsMaxDeficiency, pairs_of}
 use Rattle.deficiency.proofs.Bounds.{owned_of, deficiency_law}
 use Rattle.deficiency.proofs.Counts.{split_by, within_count}
 use Rattle.deficiency.proofs.Pairs.{has_pair, pairs_own, pairs_rise}
@@ -48,9 +48,9 @@ one_clause F part m v w rise a b e =
     let same = rising_once 0 (length F.clauses) part a.index b.index rise a.inside b.inside (a.pos ∙ e ∙ sym b.pos) in
     sym a.var ∙ ap (λ k. get_or m.of_clause k 0) same ∙ b.var
 
-pub reached_surplus : (F : Cnf) (m : Matching) (r : Reached) (d : ℕ) → is_formula F ≡ true → are_positions F (positions_of F) ≡ true
-    → IsMaximum F (positions_of F) m → IsReached F (positions_of F) m r → length (pairs_of (positions_of F) m.of_clause) + d ≡ length F.clauses → HasSurplus F r.kept d
-reached_surplus F m r d form rise most h n =
+pub reached_deficiency : (F : Cnf) (m : Matching) (r : Reached) (d : ℕ) → is_formula F ≡ true → are_positions F (positions_of F) ≡ true
+    → IsMaximum F (positions_of F) m → IsReached F (positions_of F) m r → length (pairs_of (positions_of F) m.of_clause) + d ≡ length F.clauses → HasDeficiency F r.kept d
+reached_deficiency F m r d form rise most h n =
     let atmost = deficiency_law.bound F own d r.kept form (pairs_own F part m rise most.matching) n h.positions in
     let vars = no_more (λ v. get_or m.of_var (v - 1) 0) (variables_at F r.kept) (filter has r.kept) (Differ-filter (variable_occurs F r.kept) (variables_to F.vars) (Differ-range 1 F.vars))
     (record {
@@ -109,17 +109,17 @@ whole_kernel F kept k = record { positions = k.positions; lean = k.lean; largest
 pub record IsAttained (F : Cnf) (r : Reached) (own : List Own) (d : ℕ) : Type 0 where
   pub is_value : IsMaxDeficiency F d
   pub is_kernel : Kernel class.Matching F r.kept
-  pub has_it : HasSurplus F r.kept d
+  pub has_it : HasDeficiency F r.kept d
   pub owners : AreOwners F own
 
 pub is_attained : ReachedLaw → (F : Cnf) (m : Matching) (r : Reached) (own : List Own) (d : ℕ) → is_formula F ≡ true → IsWithinLimits F → are_positions F (positions_of F) ≡ true
     → IsMaximum F (positions_of F) m → IsReached F (positions_of F) m r → own ≡ pairs_of (positions_of F) m.of_clause → length own + d ≡ length F.clauses → IsAttained F r own d
 is_attained law F m r own d form limits rise most h e n =
     let owners = subst (λ (o : List Own). AreOwners F o) (sym e) (pairs_own F (positions_of F) m rise most.matching) in
-    let surplus = reached_surplus F m r d form rise most h (subst (λ (o : List Own). length o + d ≡ length F.clauses) e n) in
+    let there = reached_deficiency F m r d form rise most h (subst (λ (o : List Own). length o + d ≡ length F.clauses) e n) in
     record {
-      is_value = deficiency_law.exact F own d r.kept form owners n h.positions surplus;
+      is_value = deficiency_law.exact F own d r.kept form owners n h.positions there;
       is_kernel = whole_kernel F r.kept (law.kernel F (positions_of F) m r form limits rise most h);
-      has_it = surplus;
+      has_it = there;
       owners = owners;
     }

@@ -1,8 +1,8 @@
 //! The files and streams of the system as shelves and sinks.
 //!
 //! What a shelf or sink tells has none of their bytes. Beside it `file` and `stream` say that the bytes that came are
-//! the next ones of the file, and that those that went are the first ones of the piece, where the library that calls
-//! the system knows them. What is said of a run over them rests on the contracts of that library.
+//! the next ones of the file, and that those that went are the first ones of the piece, for every library whose
+//! contracts tell the bytes. The kit's own tells none of a real file; the code is the same.
 ghost use Rattle.std.specs.Prelude.{◌≡◌, ◌≢◌, ◌↔◌, ℕ, ◌<◌, ◌≤◌, length, IsTrue, IsErr, IsErrOf, IfOk, OnOk, false};
 ghost use Rattle.std.specs.Prelude.{IfSome, None, Some, Err, is_some};
 ghost use Rattle.std.specs.Io.KnownBytes.{ReadConsumes, WriteAppends};

@@ -22,7 +22,7 @@ pub record IsCore (F : Cnf) (core : List ℕ) (r : Round) (without : List Withou
   pub literals : IsTrue (list_all (is_without F.vars) without)
   pub satisfied : IsTrue (list_all (satisfies_others F core) without)
 
--- The clauses have no model, each set of them that lacks one has one, and they are in the general kernel.
+-- The clauses have no model, each smaller set of them has one, and they are in the general kernel.
 pub record CoreLaw : Type 0 where
   pub minimal : (F : Cnf) (core : List ℕ) (r : Round) (without : List Without) → IsCore F core r without
       → IsMinimallyUnsatisfiable F (among core)

@@ -6,7 +6,7 @@ use Rattle.lk_model.specs.Texts.Lines.{Word}
 use Rattle.lk_model.specs.Texts.PlainText.{line, ended, number_words}
 use Rattle.lk_model.specs.declared.class.Class.TheVariants.{Matching}
 use Rattle.lk_model.specs.declared.document.Own.{Own}
-use Rattle.deficiency.specs.Deficiency.{IsMaxDeficiency, HasSurplus, AreOwners}
+use Rattle.deficiency.specs.Deficiency.{IsMaxDeficiency, HasDeficiency, AreOwners}
 use Rattle.command_endings.specs.declared.status.Status.{Status}
 use Rattle.command_endings.specs.declared.status.Status.TheVariants.{Done}
 
@@ -30,7 +30,7 @@ pub record WritesDeficiency (F : Cnf) (written : List ℕ) : Type 0 where
   pub own : List Own
   pub greatest : IsMaxDeficiency F value
   pub kernel : Kernel Matching F kept
-  pub has_it : HasSurplus F kept value
+  pub has_it : HasDeficiency F kept value
   pub owners : AreOwners F own
   pub all_but : length own + value ≡ length F.clauses
   pub written_is : written ≡ flat_map line (lines_of value kept own)

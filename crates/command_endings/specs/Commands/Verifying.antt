@@ -34,7 +34,7 @@ pub record IsRefuted (F : Cnf) (round : Round) : Type 0 where
   pub no_model : IsUnsatisfiable F (all_of F)
   pub used : (kept : List ℕ) → Kernel General F kept → Within (among (used_positions F round)) (among kept)
 
--- A core shows that the formula has no model: its clauses have none, each set of them that lacks one has one, and they are in the
+-- A core shows that the formula has no model: its clauses have none, each smaller set of them has one, and they are in the
 -- general kernel.
 pub record IsMinimalCore (F : Cnf) (core : List ℕ) : Type 0 where
   pub no_model : IsUnsatisfiable F (all_of F)

@@ -11,7 +11,7 @@
 ghost use Rattle.std.specs.Prelude.{◌≡◌, ◌+◌, ◌≤◌, length, map, filter, zip, IfOk};
 ghost use Rattle.lk_model.specs.Formulas.Lean.{Kernel};
 ghost use Rattle.lk_model.specs.declared.class.Class.TheVariants.{Matching};
-ghost use Rattle.deficiency.specs.Deficiency.{AreOwners, HasSurplus, IsMaxDeficiency, pairs_of};
+ghost use Rattle.deficiency.specs.Deficiency.{AreOwners, HasDeficiency, IsMaxDeficiency, pairs_of};
 
 use bipartite_match::{maximum, reach};
 use lk_model::{Formula, List, OutOfMemory, Own};
@@ -34,7 +34,7 @@ pub struct Deficiency {
 pub fn max_deficiency(alloc: Global, f: &Formula) -> Result<Deficiency, OutOfMemory>
     ensures value { IfOk result (λ d. IsMaxDeficiency f.now d.value) }
     ensures kept { IfOk result (λ d. Kernel Matching f.now d.kept) }
-    ensures kept_has_it { IfOk result (λ d. HasSurplus f.now d.kept d.value) }
+    ensures kept_has_it { IfOk result (λ d. HasDeficiency f.now d.kept d.value) }
     ensures own { IfOk result (λ d. AreOwners f.now d.own) }
     ensures own_all_but { IfOk result (λ d. length d.own + d.value ≡ length f.now.clauses) }
 {

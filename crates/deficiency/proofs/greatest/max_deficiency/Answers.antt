@@ -6,7 +6,7 @@ use Rattle.bipartite_match.specs.Matchings.{IsMaximum}
 use Rattle.bipartite_match.specs.Walks.{IsReached}
 use Rattle.deficiency.specs.Deficiency.{pairs_of}
 use Rattle.deficiency.proofs.Attained.{IsAttained, is_attained, pairs_fit}
-use Rattle.deficiency.proofs.surplus.max_deficiency.Goals as goal
+use Rattle.deficiency.proofs.greatest.max_deficiency.Goals as goal
 
 pub left_of-requires : goal.left_of-requires
 left_of-requires c =
