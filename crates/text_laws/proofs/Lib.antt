@@ -6,3 +6,4 @@ pub mod Plain
 pub mod Comments
 pub mod Spelling
 pub mod CoreSpelling
+pub mod SpelledFormulas

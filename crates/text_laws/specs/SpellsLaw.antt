@@ -1,5 +1,6 @@
--- What leank writes is DIMACS: a formula in plain text, a document, and a minimally unsatisfiable core.
-use Rattle.std.specs.Prelude.{◌≤◌, length, IsTrue}
+-- What a text spells is a formula; and what leank writes is DIMACS: a formula in plain text, a document, and a minimally
+-- unsatisfiable core.
+use Rattle.std.specs.Prelude.{ℕ, ◌≤◌, List, length, IsTrue}
 use Rattle.lk_model.specs.Limits.{max_bytes}
 use Rattle.lk_model.specs.Formulas.Formula.{Cnf, is_formula, IsWithinLimits}
 use Rattle.lk_model.specs.Texts.PlainText.{plain_text}
@@ -15,6 +16,10 @@ use Rattle.lk_model.specs.declared.document.MusAnswer.{MusAnswer}
 abbrev pub texts_of : Document → Cnf
 texts_of (Done d) = d.texts
 texts_of (Unfinished d) = d.texts
+
+-- what a text spells is a formula: its clauses hold literals over its variables, each once
+abbrev pub FormulaLaw : Type 0
+FormulaLaw = (text : List ℕ) (F : Cnf) → Spells text F → IsTrue (is_formula F)
 
 -- the plain text of a formula within the limits spells it, where it is not too long to be read
 abbrev pub PlainLaw : Type 0

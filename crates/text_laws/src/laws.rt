@@ -1,5 +1,11 @@
 //! Laws over the definitions.
-ghost use Rattle.text_laws.specs.SpellsLaw.{PlainLaw, SpellsLaw, CoreSpellsLaw};
+ghost use Rattle.text_laws.specs.SpellsLaw.{FormulaLaw, PlainLaw, SpellsLaw, CoreSpellsLaw};
+
+/// What a text spells is a formula over its variables.
+#[tactic(auto, using(crate::proofs::SpelledFormulas::spelled_form))]
+pub fn formula_law()
+    ensures { FormulaLaw }
+{}
 
 /// The plain text of a formula within the limits spells it, where it is not too long to be read.
 #[tactic(auto, using(crate::proofs::Plain::plain_law))]

@@ -1,6 +1,6 @@
-//! Laws of the texts that leank writes: they are DIMACS.
+//! Laws of the texts that spell formulas, and of those that leank writes: they are DIMACS.
 #![tactic(auto)]
 
 mod laws;
 
-pub use laws::{core_spells_law, plain_law, spells_law};
+pub use laws::{core_spells_law, formula_law, plain_law, spells_law};

@@ -6,7 +6,6 @@ pub mod ExtendOutcomes
 pub mod LinearOutcomes
 pub mod GeneralOutcomes
 pub mod DemoOutcomes
-pub mod SpelledFormulas
 pub mod ModelOrNone
 pub mod SolveOutcomes
 pub mod VerifyOutcomes

@@ -9,6 +9,7 @@ use Rattle.command_words.specs.Lawful.{Request, request_of}
 use Rattle.command_words.specs.Settings.{Options}
 use Rattle.command_words.specs.declared.command.Command.TheVariants.{Solve}
 use Rattle.command_inputs.specs.Inputs.{Told}
+use Rattle.text_laws.proofs.SpelledFormulas.{spelled_form}
 use Rattle.command_endings.specs.Commands.Solving.{IsEnough, HasModel, HasNoModel, WritesModel, WritesRefutation, WritesUnfinished, Answers}
 use Rattle.command_endings.specs.Statuses.{code}
 use Rattle.command_endings.specs.declared.status.Status.{Status}
@@ -20,7 +21,6 @@ use Rattle.workbench.specs.SolveOutcomes.{IsSatisfied, IsRefuted, IsUndecided, S
 use Rattle.workbench.proofs.GeneralOutcomes.{first_faulty, told_text}
 use Rattle.workbench.proofs.ModelOrNone.{model_or_none}
 use Rattle.workbench.proofs.Outcomes.{result_of, input_of, only, not_spelled}
-use Rattle.workbench.proofs.SpelledFormulas.{spelled_form}
 
 -- WHAT A STATUS TELLS
 

@@ -3,13 +3,12 @@ use Rattle.std.proofs.Common.{◌≡◌, ℕ, zero, suc, Bool, true, false, cond
 use Rattle.std.specs.List.{slice_split, list_all, onto_first}
 use Rattle.std.specs.Ordering.{int_eq}
 use Rattle.std.proofs.lemmas.Bool.{and_from, le-leb}
-use Rattle.std.specs.Prelude.{IsTrue}
 use Rattle.lk_model.specs.Lists.{is_zero}
 use Rattle.lk_model.specs.Formulas.Literal.{variable, is_literal, is_clause}
-use Rattle.lk_model.specs.Formulas.Formula.{Cnf, is_formula}
-use Rattle.lk_model.specs.Texts.Dimacs.{Spells, without_empty_last, runs_of, without_repeats}
+use Rattle.lk_model.specs.Texts.Dimacs.{without_empty_last, runs_of, without_repeats}
 use Rattle.lk_model.proofs.Booleans.{and_true}
 use Rattle.lk_model.proofs.Literals.{once_distinct}
+use Rattle.text_laws.specs.SpellsLaw.{FormulaLaw}
 
 -- RUNS
 
@@ -72,7 +71,7 @@ once_clauses n (c ∷ runs) h =
 
 -- ALL CLAUSES
 
-pub spelled_form : (text : List ℕ) (F : Cnf) → Spells text F → IsTrue (is_formula F)
+pub spelled_form : FormulaLaw
 spelled_form text F s =
     subst (λ (clauses : List (List ℤ)). list_all (is_clause F.vars) clauses ≡ true) (sym s.clauses)
     (once_clauses F.vars (runs_of s.numbers) (last_literals F.vars (slice_split is_zero s.numbers) (split_literals F.vars s.numbers s.variables)))
