@@ -16,48 +16,59 @@ fn sees(flag: &AtomicBool) -> bool {
     false
 }
 
-/// Holds each half until the other one has entered.
+/// Holds a half each time until the other one has entered as often.
 #[derive(Drop)]
 pub struct Meeting {
-    has_entered: [AtomicBool; 2],
     times: [AtomicU32; 2],
-    has_met: [AtomicBool; 2],
+    times_met: [AtomicU32; 2],
 }
 
 impl Meeting {
     /// The gate that no half has entered.
     pub fn new() -> Meeting {
         Meeting {
-            has_entered: [AtomicBool::new(false), AtomicBool::new(false)],
             times: [AtomicU32::new(0), AtomicU32::new(0)],
-            has_met: [AtomicBool::new(false), AtomicBool::new(false)],
+            times_met: [AtomicU32::new(0), AtomicU32::new(0)],
         }
     }
 
     /// How often each half entered.
     pub fn times(&self) -> [u32; 2] {
-        [
-            self.times[0].load(Ordering::SeqCst),
-            self.times[1].load(Ordering::SeqCst),
-        ]
+        counts(&self.times)
     }
 
-    /// Whether each half met the other one.
+    /// How often each half met the other one.
+    pub fn times_met(&self) -> [u32; 2] {
+        counts(&self.times_met)
+    }
+
+    /// Whether each half entered, and met the other one each time.
     pub fn met(&self) -> [bool; 2] {
+        let (times, met) = (self.times(), self.times_met());
         [
-            self.has_met[0].load(Ordering::SeqCst),
-            self.has_met[1].load(Ordering::SeqCst),
+            times[0] > 0 && met[0] == times[0],
+            times[1] > 0 && met[1] == times[1],
         ]
     }
+}
+
+/// The counts of both halves.
+fn counts(halves: &[AtomicU32; 2]) -> [u32; 2] {
+    [
+        halves[0].load(Ordering::SeqCst),
+        halves[1].load(Ordering::SeqCst),
+    ]
 }
 
 impl Gate for Meeting {
     fn enter(&self, half: u32) {
         let (own, other) = if half == 0 { (0, 1) } else { (1, 0) };
-        self.times[own].fetch_add(1, Ordering::SeqCst);
-        self.has_entered[own].store(true, Ordering::SeqCst);
-        if sees(&self.has_entered[other]) {
-            self.has_met[own].store(true, Ordering::SeqCst);
+        let before = self.times[own].fetch_add(1, Ordering::SeqCst);
+        for _ in 0..TURNS {
+            if self.times[other].load(Ordering::SeqCst) > before {
+                self.times_met[own].fetch_add(1, Ordering::SeqCst);
+                return;
+            }
         }
     }
 }

@@ -8,21 +8,27 @@ use lk_model::{Formula, Lit};
 use std::alloc::{AllocError, Global};
 use std::test::Fail;
 
-fn push_number(numbers: &mut Vec<u32>, word: &str) -> Result<(), AllocError> {
-    Ok(numbers.push(word.parse().unwrap_or(0))?)
+/// The number that a text writes, and 0 if it writes none.
+pub fn number_of(text: &str) -> u32 {
+    text.trim().parse().unwrap_or(0)
+}
+
+/// The number of 64 bits that a text writes, and 0 if it writes none.
+pub fn large_number_of(text: &str) -> u64 {
+    text.trim().parse().unwrap_or(0)
 }
 
 /// The numbers that a text has, with blanks between them, and 0 for a word that is no number.
 pub fn numbers_of_text(alloc: Global, text: &str) -> Result<Vec<u32>, AllocError> {
     let mut numbers = Vec::new(alloc);
     for word in text.split_whitespace() {
-        push_number(&mut numbers, word)?;
+        numbers.push(number_of(word))?;
     }
     Ok(numbers)
 }
 
-/// The number that a word writes.
-fn number_of(word: &str) -> Result<i32, Fail> {
+/// The number with a sign that a word writes.
+fn signed_number_of(word: &str) -> Result<i32, Fail> {
     match word.parse() {
         Ok(number) => Ok(number),
         Err(_) => Err(Fail::from("no number")),
@@ -54,8 +60,8 @@ fn push_word(lits: &mut Vec<Lit>, word: &str) -> Result<(), Fail> {
         return Ok(());
     }
     let (first, last) = word.split_once("..").unwrap_or((word, word));
-    let first = number_of(first)?;
-    push_range(lits, first, number_of(last)?)
+    let first = signed_number_of(first)?;
+    push_range(lits, first, signed_number_of(last)?)
 }
 
 /// The literals that a text has, with blanks between them, `A..B` for those from A to B. The word 0 stands for none,
@@ -95,7 +101,7 @@ fn append_text(alloc: Global, formula: &mut Formula, text: &str) -> Result<(), F
     ensures { formula.new.vars ≡ formula.old.vars }
 {
     let (clause, count) = text.split_once("*").unwrap_or((text, "1"));
-    let count = number_of(count.trim())?;
+    let count = signed_number_of(count.trim())?;
     let mut lits = literals_of_text(alloc, clause)?;
     push_row(formula, lits.as_mut_slice(), count)
 }

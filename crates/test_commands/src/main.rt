@@ -2,7 +2,12 @@
 //! answers and writes. The expected output was worked out by hand, or computed by plain programs in Python from
 //! the definitions; `README.md` says which of the rows.
 //!
-//! A line of the script is one of these; `#` begins a remark.
+//! A line `@ NAME` of the input chooses what the lines behind it are: `commands`, as below, `verdicts` (`src/built.rt`), `checks`
+//! (`src/checks.rt`) or `demos` (`src/demos.rt`). `#` begins a remark. A line of the last three is printed again, and behind it
+//! what is told of it, in lines that begin with `=`; of documents the verdict of one worker, with which those of two and of
+//! eight are compared.
+//!
+//! A line of `@ commands` is one of these:
 //!
 //! - `new`: no text is there, nothing fails, and bytes move in chunks of 8 and 16.
 //! - `text NAME TEXT`: the text stands under that name. `\n` ends a line of it, `\r` is a return
@@ -19,7 +24,12 @@
 //! that failed is told as `failed`.
 #![tactic(auto)]
 
+mod built;
 mod calls;
+mod checks;
+mod demos;
+mod documents;
+mod extending;
 mod outside;
 mod runs;
 mod script;
@@ -31,7 +41,26 @@ use crate::verdicts::print_verdict;
 use std::test::Fail;
 use std::thread::Threads;
 
-/// Does what a line of the script says.
+/// What lines are.
+#[derive(Clone, Copy)]
+enum Driver {
+    Commands,
+    Verdicts,
+    Checks,
+    Demos,
+}
+
+/// The driver of a name.
+fn driver_of(name: &str) -> Driver {
+    match name {
+        "verdicts" => Driver::Verdicts,
+        "checks" => Driver::Checks,
+        "demos" => Driver::Demos,
+        _ => Driver::Commands,
+    }
+}
+
+/// Does what a line of the commands says.
 fn take<R: Threads + Sync + AllocGlobal + Print>(
     rt: &R,
     script: &mut Script,
@@ -47,13 +76,39 @@ fn take<R: Threads + Sync + AllocGlobal + Print>(
     }
 }
 
+/// Prints a line, and what is told of it.
+fn print_told<R: Threads + Sync + AllocGlobal + Print>(
+    rt: &R,
+    driver: Driver,
+    line: &str,
+) -> Result<(), Fail> {
+    let mut out = String::new(rt.alloc());
+    if !line.starts_with("#") && !line.starts_with("@") {
+        match driver {
+            Driver::Verdicts => built::tell(rt, rt.alloc(), line, &mut out)?,
+            Driver::Checks => checks::tell(rt, rt.alloc(), line, &mut out)?,
+            _ => demos::tell(rt.alloc(), line, &mut out)?,
+        }
+    }
+    print!(rt; "{line}\n{out}")?;
+    Ok(())
+}
+
 /// Does what the lines of the script say.
 fn take_lines<R: Threads + Sync + AllocGlobal + Print + Input>(
     rt: &R,
     script: &mut Script,
 ) -> Result<(), Fail> {
+    let mut driver = Driver::Commands;
     for line in rt.lines(rt.alloc()) {
-        take(rt, script, line?.as_str())?;
+        let line = line?;
+        if let Some(name) = line.strip_prefix("@ ") {
+            driver = driver_of(name);
+        }
+        match driver {
+            Driver::Commands => take(rt, script, line.as_str())?,
+            _ => print_told(rt, driver, line.as_str())?,
+        }
     }
     Ok(())
 }

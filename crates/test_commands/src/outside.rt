@@ -100,9 +100,9 @@ pub(crate) fn outside_of<'a>(
     calls: &'a Calls,
 ) -> Result<Outside<'a>, OutOfMemory> {
     Ok(Outside {
-        shelf: shelf_of(alloc, script, calls)?,
         out: sink_of(alloc, &script.out, "out", calls)?,
         say: sink_of(alloc, &script.say, "say", calls)?,
+        shelf: shelf_of(alloc, script, calls)?,
     })
 }
 

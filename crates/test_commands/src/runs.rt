@@ -33,8 +33,8 @@ pub(crate) fn print_calls<R: Threads + Sync + AllocGlobal + Print>(
     calls.print(rt)
 }
 
-/// The same as `print_run` at a gate that holds each half of the work until the other one has entered, and
-/// how often each has entered and whether it met the other.
+/// The same as `print_run` at a gate that holds a half of the work each time until the other one has entered as often, and
+/// how often each has entered and whether it met the other each time.
 pub(crate) fn print_meeting<R: Threads + Sync + AllocGlobal + Print>(
     rt: &R,
     script: &mut Script,
@@ -55,10 +55,20 @@ fn print_over<R: Threads + Sync + AllocGlobal + Print, G: Gate>(
     gate: &G,
 ) -> Result<(), Fail> {
     let mut outside = outside_of(rt.alloc(), script, calls)?;
-    let status = run_line(rt, line, &mut outside, gate)?;
-    print_left(rt, line, status, &outside)?;
-    replace(&mut script.written, outside.out.bytes())?;
-    Ok(())
+    print_within(rt, line, &mut outside, &mut script.written, gate)
+}
+
+/// Runs the commands with the words of a line, prints what they leave, and holds what was written.
+fn print_within<R: Threads + Sync + AllocGlobal + Print, G: Gate>(
+    rt: &R,
+    line: &str,
+    outside: &mut Outside<'_>,
+    written: &mut Vec<u8>,
+    gate: &G,
+) -> Result<(), Fail> {
+    let status = run_line(rt, line, outside, gate)?;
+    print_left(rt, line, status, outside)?;
+    Ok(replace(written, outside.out.bytes())?)
 }
 
 /// Puts bytes in the place of others.

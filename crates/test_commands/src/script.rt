@@ -82,7 +82,7 @@ impl Script {
     /// Takes a line that runs nothing: its first word, and the rest.
     pub(crate) fn take(&mut self, alloc: Global, word: &str, rest: &str) -> Result<(), Fail> {
         match word {
-            "" | "#" => {}
+            "" | "#" | "@" => {}
             "new" => self.restart(),
             "text" => return self.put(alloc, rest),
             "keep" => return self.keep(alloc, rest),

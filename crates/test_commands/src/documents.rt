@@ -48,8 +48,8 @@ fn tell_verdict<R: Threads + Sync>(
     Ok(put_line(&verdict, out)?)
 }
 
-/// Tells the verdict of two workers, and how often each half entered a gate that holds it until the other one has
-/// entered, and whether they met.
+/// Tells the verdict of two workers, and how often each half entered a gate that holds it each time until the other one
+/// has entered as often, and whether it met the other one each time.
 fn tell_meeting<R: Threads + Sync>(
     rt: &R,
     alloc: Global,

@@ -1,4 +1,4 @@
-//! Documents that are built from their parts, as texts. The expected verdicts were worked out by hand from the
+//! `@ verdicts`: documents that are built from their parts, as texts. The expected verdicts were worked out by hand from the
 //! definitions of the checks.
 //!
 //! `matching N; CLAUSES; KEPT; SET; OWN; ROWS` has the number of variables, the clauses with commas between
@@ -8,9 +8,9 @@
 //! `extend CLASS N M; PROTECT; KEPT; SET; LINES; N; CLAUSES; MODEL` has a document without lines of its class:
 //! the numbers that it states, its protected variables or `none`, the kept positions, the set line and the
 //! clause lines; then the formula, and the literals of a model that is to be extended.
+use crate::documents::tell_text;
 use crate::extending::tell_extension;
-use crate::verdicts::tell_text;
-use lk_samples::{formula_of_text, numbers_of_text};
+use lk_samples::{formula_of_text, number_of, numbers_of_text};
 use std::alloc::{AllocError, Global};
 use std::test::Fail;
 use std::thread::Threads;
@@ -43,21 +43,8 @@ fn put_list(head: &str, words: &str, out: &mut String) -> Result<(), AllocError>
     put_lines(head, words, " 0", out)
 }
 
-/// Writes the document over a formula that a line `matching` has.
-fn put_matching(alloc: Global, text: &str, out: &mut String) -> Result<(), Fail> {
-    let (vars, text) = split(text);
-    let (clauses, text) = split(text);
-    let (kept, text) = split(text);
-    let (set, text) = split(text);
-    let (own, rows) = split(text);
-    let m = formula_of_text(alloc, vars.trim().parse()?, clauses)?.len();
-    let positions = numbers_of_text(alloc, kept)?;
-    writeln!(out, "c leank 1 matching\nc formula {vars} {m}")?;
-    put_list("c keep ", kept, out)?;
-    put_list("c set ", set, out)?;
-    put_lines("c own ", own, "", out)?;
-    put_lines("c row ", rows, "", out)?;
-    writeln!(out, "p cnf {vars} {}", positions.len())?;
+/// Writes the clauses of a text that stand at these positions.
+fn put_kept(clauses: &str, positions: &[u32], out: &mut String) -> Result<(), AllocError> {
     let mut p = 0u32;
     for clause in clauses.split(",") {
         p = p.wrapping_add(1);
@@ -66,6 +53,22 @@ fn put_matching(alloc: Global, text: &str, out: &mut String) -> Result<(), Fail>
         }
     }
     Ok(())
+}
+
+/// Writes the document over a formula of so many clauses that a line `matching` has.
+fn put_matching(alloc: Global, m: u32, text: &str, out: &mut String) -> Result<(), AllocError> {
+    let (vars, text) = split(text);
+    let (clauses, text) = split(text);
+    let (kept, text) = split(text);
+    let (set, text) = split(text);
+    let (own, rows) = split(text);
+    writeln!(out, "c leank 1 matching\nc formula {vars} {m}")?;
+    put_list("c keep ", kept, out)?;
+    put_list("c set ", set, out)?;
+    put_lines("c own ", own, "", out)?;
+    put_lines("c row ", rows, "", out)?;
+    writeln!(out, "p cnf {vars} {}", kept.split_whitespace().count())?;
+    put_kept(clauses, numbers_of_text(alloc, kept)?.as_slice(), out)
 }
 
 /// Writes the lines that begin a document of a class: its version, and the numbers that it states.
@@ -98,6 +101,20 @@ fn put_extended<'a>(text: &'a str, out: &mut String) -> Result<&'a str, AllocErr
     Ok(text)
 }
 
+/// Tells the verdict on the document of a line `matching`.
+fn tell_matching<R: Threads + Sync>(
+    rt: &R,
+    alloc: Global,
+    parts: &str,
+    out: &mut String,
+) -> Result<(), Fail> {
+    let (vars, rest) = split(parts);
+    let f = formula_of_text(alloc, number_of(vars), split(rest).0)?;
+    let mut text = String::new(alloc);
+    put_matching(alloc, f.len(), parts, &mut text)?;
+    tell_text(rt, alloc, false, &f, text.as_str(), out)
+}
+
 /// Tells the verdict on the document of a line, or of the model that it is to extend.
 pub(crate) fn tell<R: Threads + Sync>(
     rt: &R,
@@ -105,15 +122,10 @@ pub(crate) fn tell<R: Threads + Sync>(
     line: &str,
     out: &mut String,
 ) -> Result<(), Fail> {
-    let mut text = String::new(alloc);
     match line.split_once(" ") {
-        Some(("matching", parts)) => {
-            put_matching(alloc, parts, &mut text)?;
-            let (vars, parts) = split(parts);
-            let f = formula_of_text(alloc, vars.trim().parse()?, split(parts).0)?;
-            tell_text(rt, alloc, false, &f, text.as_str(), out)
-        }
+        Some(("matching", parts)) => tell_matching(rt, alloc, parts, out),
         Some(("extend", parts)) => {
+            let mut text = String::new(alloc);
             let behind = put_extended(parts, &mut text)?;
             tell_extension(alloc, text.as_str(), behind, out)
         }
