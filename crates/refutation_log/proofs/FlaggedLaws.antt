@@ -22,6 +22,16 @@ flagged_holds flags came h k = contains_filtered (is_flagged flags) came k ∙ a
     at true e = h k e
     at false e = refl
 
+-- no flag is left where those of its literals are taken back
+pub none_left : (flags flags' : List Bool) (came : List ℤ) → HaveCome flags came
+    → ((k : ℤ) → is_flagged flags' k ≡ (is_flagged flags k && not (contains (flagged flags came) k))) → HaveCome flags' []
+none_left flags flags' came h same k set =
+    absurd (never (is_flagged flags k) (ap (λ (b : Bool). is_flagged flags k && not b) (sym (flagged_holds flags came h k)) ∙ sym (same k) ∙ set))
+  where
+    never : (b : Bool) → (b && not b) ≡ true → ⊥
+    never true e = let f : ⊥ = cc in f
+    never false e = let f : ⊥ = cc in f
+
 -- a flag that is written
 pub flag_written : (flags : List Bool) (l : ℤ) (b : Bool) (k : ℤ) → rank_of l < length flags
     → is_flagged (set flags (rank_of l) b) k ≡ cond (int_eq k l) b (is_flagged flags k)

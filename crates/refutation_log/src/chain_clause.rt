@@ -3,26 +3,30 @@
 //! A turn takes one literal out and puts those of another clause in. With a flag for each literal that costs no more
 //! than to read the other clause, however long the clause of the chain has become; clauses that are kept in order would
 //! be merged at each turn. The literals that came are listed, so that the clause is found at the end, and the flags are
-//! taken back, without a look at any other literal. The flags stay from one chain to the next.
-ghost use Rattle.std.specs.Prelude.{◌≡◌, ◌<◌, ℤ, ◌&&◌, ◌∷◌, ◌++◌, [], not, length, IfOk, OnOk, IsTrue};
+//! taken back, without a look at any other literal. The list is a small vector, of which the finished clause is made in
+//! place. The flags stay from one chain to the next.
+ghost use Rattle.std.specs.Prelude.{◌≡◌, ◌<◌, ℤ, ◌&&◌, ◌∷◌, ◌++◌, [], not, length, OnOk, IsTrue};
 ghost use Rattle.std.specs.Ordering.{int_eq};
 ghost use Rattle.lk_model.specs.Formulas.Literal.{complement, contains, rank_of, is_clause, is_same_set};
 ghost use Rattle.lk_model.specs.Formulas.Crossed.{crossed_out};
 ghost use Rattle.lk_model.specs.Held.VariableSets.{is_in};
 ghost use Rattle.lk_model.specs.Chains.Chain.{without};
-ghost use Rattle.refutation_log.specs.Flagged.{is_flagged};
+ghost use Rattle.refutation_log.specs.Flagged.{is_flagged, flagged};
 ghost use Rattle.refutation_log.specs.SameClause.{HaveSame};
 
+use crate::work::Work;
 use lk_model::{Lit, OutOfMemory, VarSet};
+use smallvec::SmallVec;
 use std::alloc::Global;
 use std::marker::Model;
+use std::mem;
 
 /// A clause: a flag for each literal, by its rank, and the literals that came since it was empty. Contracts
 /// see those of them whose flag is set.
 #[derive(Drop)]
 pub(crate) struct FlaggedClause {
     flags: Vec<bool>,
-    came: Vec<Lit>,
+    came: SmallVec<Lit, 32>,
 }
 
 impl Model for FlaggedClause {
@@ -43,7 +47,7 @@ impl FlaggedClause {
     {
         FlaggedClause {
             flags: Vec::new(alloc),
-            came: Vec::new(alloc),
+            came: SmallVec::new(alloc),
         }
     }
 
@@ -51,7 +55,7 @@ impl FlaggedClause {
     pub fn clear(&mut self)
         ensures { self.new ≡ [] }
     {
-        unflag_all(&mut self.flags, &self.came);
+        unflag_all(&mut self.flags, self.came.as_slice());
         self.came.clear();
     }
 
@@ -141,18 +145,15 @@ impl FlaggedClause {
         unflag(&mut self.flags, l);
     }
 
-    /// Its literals, in the order in which they came; one that came more than once may stand there as often.
-    pub fn to_vec(&self) -> Result<Vec<Lit>, OutOfMemory>
-        ensures { IfOk result (λ v. v.items ≡ self.now) }
+    /// Moves its literals out, in order, and leaves it empty.
+    pub fn take(&mut self) -> Work
+        ensures same { IsTrue (is_same_set result self.old) }
+        ensures empty { self.new ≡ [] }
     {
-        let flags = self.flags.as_slice();
-        Ok(
-            self.came
-                .iter()
-                .copied()
-                .filter(|l| is_flagged(flags, *l))
-                .collect(*self.came.allocator())?,
-        )
+        keep_flagged(&mut self.came, &self.flags);
+        unflag_all(&mut self.flags, self.came.as_slice());
+        let alloc = *self.came.allocator();
+        Work::of_all(mem::replace(&mut self.came, SmallVec::new(alloc)))
     }
 
     // Puts a literal in.
@@ -196,6 +197,13 @@ fn unflag(flags: &mut Vec<bool>, l: Lit)
     if rank < flags.len() {
         flags[rank] = false;
     }
+}
+
+// Keeps the literals whose flags are set.
+fn keep_flagged(came: &mut SmallVec<Lit, 32>, flags: &[bool])
+    ensures { came.new.items ≡ flagged flags.now came.old.items }
+{
+    came.retain(|l| is_flagged(flags, *l));
 }
 
 // Takes the flags of literals back.

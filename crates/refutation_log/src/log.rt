@@ -206,8 +206,7 @@ impl Log {
         for turn in turns {
             self.take(over, *turn, flagged)?;
         }
-        let lits = flagged.to_vec()?;
-        Work::of_any(*self.steps.allocator(), &lits)
+        Ok(flagged.take())
     }
 
     // Begins with the clause that a number stands for.

@@ -1,8 +1,8 @@
 use Rattle.std.proofs.Common.{◌≡◌, ◌∙◌, ◌+◌, ◌<◌, ◌++◌, ◌∷◌, [], ℕ, Bool, List, false, length, take, get_or, count_by, ap, arith, sym, inl, inr}
 use Rattle.std.proofs.Math.ListN.{get_or-append}
 use Rattle.std.proofs.lemmas.Bool.{cases_eq}
-use Rattle.std.proofs.lemmas.List.{get_or_push, length_push}
-use Rattle.std.proofs.lemmas.List.Sums.{count_by_more_no, count_by_more_yes}
+use Rattle.std.proofs.lemmas.List.{get_or_push, length_push, length-take-le}
+use Rattle.std.proofs.lemmas.List.Sums.{count_by-le-length, count_by_more_no, count_by_more_yes}
 use Rattle.refutation_log.proofs.numbers.new_numbers.Goals as goal
 use Rattle.refutation_log.proofs.numbers.new_numbers.Goals.{then-is_kept, else-is_kept}
 
@@ -28,3 +28,14 @@ loop-is_kept-preserved c =
       ];
       each = each_more kept c.args.next c.loop-is_kept.number i c.loop-is_kept.numbers.items c.push.new.self.items c.in_ok-push.ensures.items inv.count inv.number inv.each;
     }
+
+pub overflow_add-number : goal.overflow_add-number
+overflow_add-number c =
+    let inv = c.loop-is_kept.invariant in
+    let i = c.loop-is_kept.is_kept-index in
+    omega (arith, inv.number, count_by-le-length (λ b. b) (take i c.args.kept.now), length-take-le i c.args.kept.now (omega arith), c.requires)
+
+pub returns : goal.returns
+returns c =
+    let inv = c.loop-is_kept.invariant in
+    record { count = omega (arith, inv.count); each = λ i lt. inv.each i (omega (arith, lt)) }

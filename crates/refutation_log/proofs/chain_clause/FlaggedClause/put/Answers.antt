@@ -11,7 +11,7 @@ returns-in_ok-push c =
     let came = c.self.inside.came.items in
     let l = c.args.l in
     subst (λ (old : List ℤ). HaveSame (flagged (set made c.rank.result true) c.push.new.self.items) (l ∷ old)) c.self.view_is
-    (subst (λ (ls : List ℤ). HaveSame (flagged (set made c.rank.result true) ls) (l ∷ flagged flags came)) (sym c.in_ok-push.ensures.items)
+    (subst (λ (ls : List ℤ). HaveSame (flagged (set made c.rank.result true) ls) (l ∷ flagged flags came)) (sym c.in_ok-push.ensures.ok)
     (subst (λ (r : ℕ). HaveSame (flagged (set made r true) (came ++ l ∷ [])) (l ∷ flagged flags came)) (sym c.rank.ensures.value)
     (put_new flags made came l c.self.invariant c.in_ok-make_flag.ensures.room c.in_ok-make_flag.ensures.same)))
 

@@ -1,7 +1,5 @@
-use Rattle.std.proofs.Common.{◌≡◌, ◌∙◌, ◌+◌, List, [], ℤ, Some, drop, subst, arith, IsSome, IsTrue}
+use Rattle.std.proofs.Common.{◌≡◌, ◌+◌, List, [], Some, drop, subst, arith, IsSome}
 use Rattle.std.proofs.lemmas.List.{drop_all}
-use Rattle.std.proofs.lemmas.Result.{IfOk-weaker}
-use Rattle.lk_model.specs.Formulas.Literal.{is_same_set}
 use Rattle.lk_model.specs.Chains.Chain.{Premises, after_turns, chain_clause}
 use Rattle.lk_model.specs.Held.VariableSets.{premises_of}
 use Rattle.lk_model.specs.declared.document.Turn.{Turn}
@@ -45,7 +43,4 @@ returns c =
     let flagged = c.loop-turn.flagged in
     let done : drop c.loop-turn.turn-index turns ≡ [] = drop_all c.loop-turn.turn-index turns (omega arith) in
     let same : IsSameClause (Some flagged) chain = subst (λ (ts : List Turn). IsSameClause (after_turns from flagged ts) chain) done c.loop-turn.invariant in
-    let lits : c.deref.result.now ≡ flagged = c.deref.ensures.value ∙ c.in_ok-lits.ensures in
-    IfOk-weaker c.of_any.result (λ w. IsTrue (is_same_set w c.deref.result.now)) (λ w. IsSameClause (Some w) chain)
-    (λ w h. same_clause-trans (Some w) (Some flagged) chain (subst (λ (ls : List ℤ). IsTrue (is_same_set w ls)) lits h) same)
-    c.of_any.ensures
+    same_clause-trans (Some c.take-2.result) (Some flagged) chain c.take-2.ensures.same same
