@@ -1,14 +1,9 @@
 -- The duals of a linear document.
-use Rattle.std.proofs.Common.{◌≡◌, ◌∙◌, ℕ, ◌<◌, ◌≤◌, Bool, true, false, not, ◌||◌, List, length, get_or, map, refl, ap, arith, ℤ, pos, Option, Some, None}
+use Rattle.std.proofs.Common.{◌≡◌, ◌∙◌, ℕ, ◌<◌, ◌≤◌, Bool, true, false, not, ◌||◌, List, length, get_or, map, refl, ap, arith, pos, Option, Some, None}
 use Rattle.std.specs.Prelude.{find, int_lt}
 use Rattle.std.specs.List.{list_all}
 use Rattle.std.specs.Option.{option_map_or}
 use Rattle.std.proofs.lemmas.Bool.{le-leb}
-use Rattle.std.proofs.lemmas.Int.{ints, to_z-of_z}
-use lib.Signed.{le_z}
-use mir.Syntax.{w128}
-use mir.Val.{SFits, of_z, to_z}
-use Rattle.exact_rows.proofs.Wides.{fits_in_range}
 use Rattle.std.proofs.lemmas.List.{get_or-map, length-map}
 use Rattle.lk_model.specs.Lists.{among, rises_within}
 use Rattle.lk_model.specs.Limits.{is_in_range}
@@ -39,13 +34,6 @@ dual_within m dual i d form lt =
     let b = rising_bounds 0 m (map (λ (y : Dual). y.pos) dual) i both.0 (omega (arith, lt, length-map dual (λ (y : Dual). y.pos))) in
     let at = get_or-map (λ (y : Dual). y.pos) dual i d 0 lt in
     record { first = omega (arith, b.0, at); last = omega (arith, b.1, at); range = all_at (λ (y : Dual). is_in_range y.y) dual i d both.1 lt }
-
--- a number that is read is at least 1 where it is not below
-pub read_least : (y : ℤ) → is_in_range y ≡ true → le_z (pos 1) (to_z w128 (of_z w128 y)) ≡ not (int_lt y (pos 1))
-read_least y range = let fits : SFits w128 y = fits_in_range y range in simp to_z-of_z (least y)
-  where
-    least : (z : ℤ) → le_z (pos 1) z ≡ not (int_lt z (pos 1))
-    least z = grind (arith, ints)
 
 -- a line fails by a test where it does by the flag of its opposite
 by_flag : (wanted : Bool) (t : Dual → Bool) (o : Option Dual) → line_fails wanted (option_map_or (λ (y : Dual). Some (not (t y))) o None) not ≡ line_fails wanted o t

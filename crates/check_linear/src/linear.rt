@@ -18,7 +18,7 @@ ghost use Rattle.check_linear.specs.Linear.{is_bad_stage, least_stage, weights_a
 ghost use Rattle.check_linear.specs.Linear.{is_bad_sign, AreDuals, signed, AreNumbers, AddsNumbers};
 ghost use Rattle.check_linear.specs.Linear.{is_unbalanced, numbers_of};
 
-use check_places::is_bad_dual;
+use check_places::{is_bad_dual, is_positive};
 use check_tables::{Span, Workers, kept_flags, occurring_at};
 use exact_rows::sign_of_sum;
 use lk_model::{DoneDocument, Dual, Formula, List, Lit, OutOfMemory, Stage, VarSet, Weight};
@@ -57,7 +57,7 @@ fn duals_of(alloc: Global, m: u32, dual: &[Dual]) -> Result<Vec<Option<bool>>, O
     let mut table = vec![in alloc; None; m as usize]?;
     for i in (0..dual.len()).rev() {
         let line = dual[i];
-        table[line.pos as usize - 1] = Some(line.y >= 1);
+        table[line.pos as usize - 1] = Some(is_positive(line.y));
     }
     Ok(table)
 }

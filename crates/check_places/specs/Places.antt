@@ -1,5 +1,5 @@
 -- What is asked of one place.
-use Rattle.std.specs.Prelude.{ℕ, ◌-◌, Bool, if◌then◌else◌, not, ◌&&◌, ◌||◌, ◌==◌, nat_lt, List, ℤ, Option, None, slice_index, slice_index_or}
+use Rattle.std.specs.Prelude.{ℕ, ◌-◌, ◌+◌, Bool, false, length, if◌then◌else◌, not, ◌&&◌, ◌||◌, ◌==◌, nat_lt, List, ℤ, Option, None, slice_index, slice_index_or}
 use Rattle.std.specs.List.{list_any}
 use Rattle.lk_model.specs.Formulas.Literal.{variable}
 use Rattle.lk_model.specs.Formulas.Assignment.{Assignment, makes_true, touches}
@@ -24,3 +24,7 @@ is_bad_owner φ kept owners first p clause = if slice_index owners (p - 1) == 0
 -- the position is kept and has no dual, or has one and is not kept, or one below 1
 abbrev pub is_bad_dual : List Bool → List (Option Bool) → ℕ → Bool
 is_bad_dual kept table p = line_fails (is_flagged kept p) (slice_index_or table (p - 1) None) not
+
+-- the step is the last one, or has a mark
+abbrev pub is_reached : List Bool → ℕ → Bool
+is_reached marks i = (i + 1 == length marks) || slice_index_or marks i false

@@ -3,12 +3,16 @@
 
 mod answers;
 mod common;
+mod flags;
 mod linear;
 mod matching;
+mod rounds;
 mod tables;
 
 pub use answers::first_answer;
 pub use common::{first_set, is_misplaced};
-pub use linear::{is_amiss, is_bad_dual};
+pub use flags::has_any;
+pub use linear::{is_amiss, is_bad_dual, is_positive};
 pub use matching::{Owners, is_bad_owner};
+pub use rounds::is_reached;
 pub use tables::number_at;

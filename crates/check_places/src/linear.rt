@@ -1,5 +1,5 @@
 //! What is asked of a place for a linear document.
-ghost use Rattle.std.specs.Prelude.{◌≡◌, ◌≤◌, ◌<◌, length, if◌then◌else◌, not};
+ghost use Rattle.std.specs.Prelude.{◌≡◌, ◌≤◌, ◌<◌, length, if◌then◌else◌, not, int_lt, pos};
 ghost use Rattle.check_places.specs.Places.{is_bad_dual};
 
 /// Whether the dual of a position is missing, not wanted or below 1.
@@ -13,6 +13,13 @@ pub fn is_bad_dual(kept: &[bool], table: &[Option<bool>], p: u32) -> bool
         Some(above) => !kept[p as usize - 1] || !above,
         None => kept[p as usize - 1],
     }
+}
+
+/// Whether the number of a dual is at least 1.
+pub fn is_positive(y: i128) -> bool
+    ensures { result ≡ not (int_lt y (pos 1)) }
+{
+    y >= 1
 }
 
 /// Whether a line is missing where one is wanted, or stands where none is.

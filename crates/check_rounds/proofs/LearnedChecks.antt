@@ -27,7 +27,7 @@ use Rattle.check_rounds.specs.declared.steps.Rounds.{Rounds}
 use Rattle.check_rounds.specs.Blocking.{is_before}
 use Rattle.check_rounds.specs.Chains.{IsRoundAt, step_numbered, step_behind, is_unlearned}
 use Rattle.check_rounds.specs.Index.{list_of, IsListed, AreClausesListed, AreStepsListed, AreRoundsListed}
-use Rattle.check_rounds.specs.Learned.{AreKnown, IsKnown, are_open_but_last, is_clause_within, is_step_within}
+use Rattle.check_rounds.specs.Learned.{AreKnown, IsKnown, are_open_but_last, is_clause_within, is_step_within, shows_known}
 use Rattle.check_tables.specs.LiteralSets.{IsSetOf, has_literal}
 use Rattle.check_rounds.proofs.ChainChecks.{crossed_none, number_found, step_form}
 use Rattle.check_tables.proofs.FirstTables.{found_passes}
@@ -178,6 +178,21 @@ steps_found over known i c flags h inside set =
 
 -- ALL TOGETHER
 
+-- of three tests one passes at some literal where one of them passes at some literal
+any_of_three : (a b d : ℤ → Bool) (c : List ℤ) → list_any (λ l. a l || b l || d l) c ≡ (list_any a c || list_any b c || list_any d c)
+any_of_three a b d [] = refl
+any_of_three a b d (l ∷ c) =
+    ap (λ (t : Bool). (a l || b l || d l) || t) (any_of_three a b d c) ∙ turned (a l) (b l) (d l) (list_any a c) (list_any b c) (list_any d c)
+  where
+    turned : (x y z u v w : Bool) → ((x || y || z) || (u || v || w)) ≡ ((x || u) || (y || v) || (z || w))
+    turned true y z u v w = refl
+    turned false true z true v w = refl
+    turned false true z false v w = refl
+    turned false false true true v w = refl
+    turned false false true false true w = refl
+    turned false false true false false w = refl
+    turned false false false u v w = refl
+
 tautology_told : (n : ℕ) (c d : List ℤ) (flags : List Bool) → IsSetOf n c flags → list_all (is_literal n) d ≡ true → list_any (λ l. has_literal flags (complement l)) d ≡ list_any (λ l. contains c (complement l)) d
 tautology_told n c [] flags set all = refl
 tautology_told n c (l ∷ d) flags set all =
@@ -186,9 +201,7 @@ tautology_told n c (l ∷ d) flags set all =
 
 pub unlearned_is : (over : RoundAt) (known : Known) (i : ℕ) (s : Step) (flags : List Bool) → is_formula over.formula.now ≡ true → IsKnown over known → i < length over.steps.now → s ≡ get_or over.steps.now i s
     → IsSetOf over.formula.now.vars s.clause flags
-    → (list_any (λ l. has_literal flags (complement l)) s.clause || list_any (λ l. list_any (is_clause_within over flags) (list_of known.clauses l)) s.clause
-    || list_any (λ l. list_any (is_step_within over i flags) (list_of known.steps l)) s.clause)
-    ≡ is_unlearned (step_behind over (take i over.steps.now) s)
+    → list_any (shows_known over known i flags) s.clause ≡ is_unlearned (step_behind over (take i over.steps.now) s)
 unfolding is_learned
 unlearned_is over known i s flags form h inside is set =
     let n = over.formula.now.vars in
@@ -202,7 +215,8 @@ unlearned_is over known i s flags form h inside is set =
     && is_within (crossed_out (is_before over.round over.blocked_at.now) (clause_at over.formula.now p)) s.clause in
     let at_part = ap (list_any clause) (sym h.part) in
     let all : test s.clause ≡ (is_tautology s.clause || list_any clause over.part.now || list_any (λ (u : Step). is_within u.clause s.clause) (take i over.steps.now)) = λ m. a m || (b ∙ at_part) m || d m in
-    all ∙ learned_or (is_empty s.clause) (is_tautology s.clause) (list_any clause over.part.now) (list_any (λ (u : Step). is_within u.clause s.clause) (take i over.steps.now))
+    any_of_three (λ l. has_literal flags (complement l)) (λ l. list_any (is_clause_within over flags) (list_of known.clauses l)) (λ l. list_any (is_step_within over i flags) (list_of known.steps l)) s.clause
+    ∙ all ∙ learned_or (is_empty s.clause) (is_tautology s.clause) (list_any clause over.part.now) (list_any (λ (u : Step). is_within u.clause s.clause) (take i over.steps.now))
     (λ e. sym all ∙ ap test (none_left s.clause e))
   where
     learned_or : (e t x y : Bool) → (e ≡ true → (t || x || y) ≡ false) → (t || x || y) ≡ (not e && not (not e && not t && not x && not y))

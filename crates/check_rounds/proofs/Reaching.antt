@@ -1,5 +1,5 @@
 -- What a round reaches backwards, and its marks.
-use Rattle.std.proofs.Common.{◌≡◌, ◌∙◌, ℕ, zero, suc, ◌+◌, ◌-◌, ◌<◌, ◌≤◌, Bool, true, false, cond, ◌&&◌, ◌||◌, ◌==◌, List, [], ◌∷◌, ◌++◌, length, get_or, map, take, drop, refl, sym, ap, subst, arith, ℤ, inl, inr, slice_index, slice_index_or, get_or-set_same, get_or-set_other}
+use Rattle.std.proofs.Common.{◌≡◌, ◌∙◌, ℕ, zero, suc, ◌+◌, ◌-◌, ◌<◌, ◌≤◌, Bool, true, false, cond, ◌&&◌, ◌||◌, ◌==◌, List, [], ◌∷◌, ◌++◌, length, get_or, map, take, drop, refl, sym, ap, subst, arith, ℤ, inl, inr, slice_index, get_or-set_same, get_or-set_other}
 use Rattle.std.specs.Prelude.{replicate, slice_set, nat_le}
 use Rattle.std.specs.List.{list_all}
 use Rattle.std.proofs.lemmas.Bool.{cases_Bool, cases_eq, eqb-true, eq-eqb, ne_eqb, leb-true}
@@ -8,7 +8,7 @@ use Rattle.std.proofs.lemmas.List.Folds.{list_all-append}
 use Rattle.lk_model.specs.Lists.{among, is_between, is_empty}
 use Rattle.lk_model.specs.Laws.{last_number}
 use Rattle.lk_model.specs.Formulas.Literal.{mentions, is_literal}
-use Rattle.lk_model.specs.Formulas.Formula.{Cnf, variable_occurs, positions_of}
+use Rattle.lk_model.specs.Formulas.Formula.{Cnf, clause_at, variable_occurs, positions_of}
 use Rattle.lk_model.specs.Chains.Chain.{names_of}
 use Rattle.lk_model.specs.Chains.Rounds.{reached, is_refutation, used_positions}
 use Rattle.lk_model.specs.Documents.Form.{counts_from, is_step, is_turn, are_steps}
@@ -23,7 +23,9 @@ use Rattle.lk_model.proofs.ListTests.{all_at}
 use Rattle.lk_model.proofs.Variables.{occurs, position_with}
 use Rattle.lk_model.proofs.Clauses.{clause_past}
 use Rattle.kernel_laws.proofs.General.PartLaws.{is_position}
-use Rattle.check_rounds.specs.Blocking.{AreMarked, AreRoundSteps, BlocksRound, first_number}
+use Rattle.lk_model.proofs.Flags.{or_yes}
+use Rattle.check_places.specs.Places.{is_reached}
+use Rattle.check_rounds.specs.Blocking.{AreMarked, AreRoundSteps, BlocksClause, BlocksRound, first_number}
 
 -- NUMBERS
 
@@ -143,7 +145,7 @@ used_same F r known v same = same_tests (variable_occurs F known v) (variable_oc
 
 -- a number that is known past the positions, where the marks tell of it
 past_marked : (F : Cnf) (k first count number : ℕ) (known before : List ℕ) (marks after : List Bool) (table : List ℕ) → length F.clauses < number
-    → length after ≡ length marks → ((i : ℕ) → i < count → slice_index_or after i false ≡ ((number == first + i) || among known (first + i)))
+    → length after ≡ length marks → ((i : ℕ) → i < count → is_reached after i ≡ ((number == first + i) || among known (first + i)))
     → AreMarked F k first count known before marks table → AreMarked F k first count (number ∷ known) before after table
 past_marked F k first count number known before marks after table past size told h = record {
   marks_size = size ∙ h.marks_size;
@@ -155,18 +157,42 @@ past_marked F k first count number known before marks after table past size told
 }
 
 -- a step more
-step_marked : (F : Cnf) (k first count number : ℕ) (known before : List ℕ) (marks : List Bool) (table : List ℕ) → length F.clauses < number → first ≤ number → number < first + count
+pub step_marked : (F : Cnf) (k first count number : ℕ) (known before : List ℕ) (marks : List Bool) (table : List ℕ) → length F.clauses < number → first ≤ number → number < first + count
     → AreMarked F k first count known before marks table → AreMarked F k first count (number ∷ known) before (slice_set marks (number - first) true) table
 step_marked F k first count number known before marks table past low high h =
     past_marked F k first count number known before marks (slice_set marks (number - first) true) table past (length-set marks (number - first) true) (λ i lt. elim (cases_eq i (number - first)) [
       | inl same ↦
-          ap (λ (j : ℕ). get_or (slice_set marks (number - first) true) j false) same
-          ∙ get_or-set_same marks (number - first) true false (omega (arith, low, high, h.marks_size))
+          ap (λ (b : Bool). (i + 1 == length (slice_set marks (number - first) true)) || b)
+          (ap (λ (j : ℕ). get_or (slice_set marks (number - first) true) j false) same ∙ get_or-set_same marks (number - first) true false (omega (arith, low, high, h.marks_size)))
+          ∙ or_yes (i + 1 == length (slice_set marks (number - first) true))
           ∙ ap (λ (b : Bool). b || among known (first + i)) (sym (eq-eqb number (first + i) (omega (arith, same, low))))
       | inr other ↦
-          get_or-set_other marks (number - first) i true false other ∙ h.marked i lt
+          (λ j. (i + 1 == length-set marks (number - first) true j) || get_or-set_other marks (number - first) i true false other j) ∙ h.marked i lt
           ∙ ap (λ (b : Bool). b || among known (first + i)) (sym (ne_eqb number (first + i) (λ e. other (omega (arith, e)))))
     ]) h
+
+-- a number for which nothing stands
+pub nothing_marked : (F : Cnf) (k first count number : ℕ) (known before : List ℕ) (marks : List Bool) (table : List ℕ) → length F.clauses < number → number < first
+    → AreMarked F k first count known before marks table → AreMarked F k first count (number ∷ known) before marks table
+nothing_marked F k first count number known before marks table past low h =
+    past_marked F k first count number known before marks marks table past refl
+    (λ i lt. h.marked i lt ∙ ap (λ (b : Bool). b || among known (first + i)) (sym (ne_eqb number (first + i) (λ e. omega (arith, e, low))))) h
+
+-- the clause at a position
+pub clause_marked : (F : Cnf) (k first count number : ℕ) (known before : List ℕ) (marks : List Bool) (table after : List ℕ) → number ≤ length F.clauses → length F.clauses < first
+    → BlocksClause F.vars k (clause_at F number) table after → AreMarked F k first count known before marks table → AreMarked F k first count (number ∷ known) before marks after
+clause_marked F k first count number known before marks table after inside past b h = record {
+  marks_size = h.marks_size;
+  table_size = b.size ∙ h.table_size;
+  marked = λ i lt. h.marked i lt ∙ ap (λ (t : Bool). t || among known (first + i)) (sym (ne_eqb number (first + i) (λ e. omega (arith, e, inside, past))));
+  blocked = λ v least most.
+      b.told v least most
+      ∙ either (mentions (clause_at F number) v) (variable_occurs F known v) (slice_index table (v - 1)) (slice_index before (v - 1)) (h.blocked v least most);
+}
+  where
+    either : (m o : Bool) (x y : ℕ) → x ≡ cond o k y → cond m k x ≡ cond (m || o) k y
+    either true o x y e = refl
+    either false o x y e = e
 
 -- the same numbers are known
 pub known_same : (F : Cnf) (k first count : ℕ) (known others before : List ℕ) (marks : List Bool) (table : List ℕ) → ((j : ℕ) → among known j ≡ among others j)
@@ -230,23 +256,28 @@ turn_marked F k first count name turns i t known before marks table lt is h =
 
 -- THE LOOP
 
--- at first the last step is marked
-pub last_marked : (F : Cnf) (k first : ℕ) (steps : List Step) (before : List ℕ) (marks : List Bool) → length F.clauses < first → counts_from first (map (λ (t : Step). t.number) steps) ≡ true → 0 < length steps
+-- at first the last step alone is reached
+pub last_reached : (F : Cnf) (k first : ℕ) (steps : List Step) (before : List ℕ) (marks : List Bool) → length F.clauses < first → counts_from first (map (λ (t : Step). t.number) steps) ≡ true → 0 < length steps
     → length before ≡ F.vars → marks ≡ replicate (length steps) false
-    → AreMarked F k (first_number steps) (length steps) (reached_from (last_number steps) (drop (length steps) steps)) before (slice_set marks (length steps - 1) true) before
-last_marked F k first steps before marks past counts some size is =
-    let none : AreMarked F k first (length steps) [] before (replicate (length steps) false) before = record {
+    → AreMarked F k (first_number steps) (length steps) (reached_from (last_number steps) (drop (length steps) steps)) before marks before
+last_reached F k first steps before marks past counts some size is =
+    let last = last_is first steps counts some in
+    let none : AreMarked F k first (length steps) (last_number steps ∷ []) before (replicate (length steps) false) before = record {
       marks_size = length-replicate (length steps) false;
       table_size = size;
-      marked = λ i lt. get_or-replicate (length steps) i false false lt;
-      blocked = λ v least most. refl;
+      marked = λ i lt.
+          (λ j. (i + 1 == length-replicate (length steps) false j) || get_or-replicate (length steps) i false false lt j)
+          ∙ ap (λ (b : Bool). b || false) (same_end i (length steps) (last_number steps) first some last);
+      blocked = λ v least most.
+          sym (ap (λ (c : List ℤ). cond (mentions c v || false) k (slice_index before (v - 1))) (clause_past F (last_number steps) (omega (arith, last, past))));
     } in
-    let last = last_is first steps counts some in
-    let one : AreMarked F k first (length steps) (last_number steps ∷ []) before (slice_set (replicate (length steps) false) (last_number steps - first) true) before =
-    step_marked F k first (length steps) (last_number steps) [] before (replicate (length steps) false) before (omega (arith, last, past)) (omega (arith, last)) (omega (arith, last, some)) none in
-    let at : last_number steps - first ≡ length steps - 1 = omega (arith, last) in
-    rw (first_is first steps counts some, drop_all (length steps) steps (omega arith), is)
-    (subst (λ (j : ℕ). AreMarked F k first (length steps) (last_number steps ∷ []) before (slice_set (replicate (length steps) false) j true) before) at one)
+    rw (first_is first steps counts some, drop_all (length steps) steps (omega arith), is) none
+  where
+    same_end : (i n last first : ℕ) → 0 < n → last ≡ first + (n - 1) → (i + 1 == n) ≡ (last == first + i)
+    same_end i n last first some e = elim (cases_eq (i + 1) n) [
+      | inl y ↦ eq-eqb (i + 1) n y ∙ sym (eq-eqb last (first + i) (omega (arith, y, e)))
+      | inr o ↦ ne_eqb (i + 1) n o ∙ sym (ne_eqb last (first + i) (λ x. o (omega (arith, x, e, some))))
+    ]
 
 -- before a step
 reached_more : (last : ℕ) (steps : List Step) (i j : ℕ) (s : Step) → j ≡ i + 1 → i < length steps → s ≡ get_or steps i s
@@ -256,7 +287,7 @@ reached_more last steps i j s next lt is =
 
 -- with a mark: what its chain names is marked too
 pub names_marked : (F : Cnf) (k first : ℕ) (steps : List Step) (i j : ℕ) (s : Step) (before : List ℕ) (marks after : List Bool) (table later : List ℕ) → counts_from first (map (λ (t : Step). t.number) steps) ≡ true
-    → j ≡ i + 1 → i < length steps → s ≡ get_or steps i s → slice_index_or marks i false ≡ true
+    → j ≡ i + 1 → i < length steps → s ≡ get_or steps i s → is_reached marks i ≡ true
     → AreMarked F k (first_number steps) (length steps) (reached_from (last_number steps) (drop j steps)) before marks table
     → ((known : List ℕ) → AreMarked F k (first_number steps) (length steps) known before marks table → AreMarked F k (first_number steps) (length steps) (names_of s ++ known) before after later)
     → AreMarked F k (first_number steps) (length steps) (reached_from (last_number steps) (drop i steps)) before after later
@@ -277,7 +308,7 @@ names_as F k f g m n names known before xs ys after table later e d x step h =
 
 -- and without one
 pub none_marked : (F : Cnf) (k first : ℕ) (steps : List Step) (i j : ℕ) (s : Step) (before : List ℕ) (marks : List Bool) (table : List ℕ) → counts_from first (map (λ (t : Step). t.number) steps) ≡ true
-    → j ≡ i + 1 → i < length steps → slice_index_or marks i false ≡ false
+    → j ≡ i + 1 → i < length steps → is_reached marks i ≡ false
     → AreMarked F k (first_number steps) (length steps) (reached_from (last_number steps) (drop j steps)) before marks table
     → AreMarked F k (first_number steps) (length steps) (reached_from (last_number steps) (drop i steps)) before marks table
 none_marked F k first steps i j d before marks table counts next lt marked h =

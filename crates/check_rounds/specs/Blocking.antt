@@ -10,6 +10,7 @@ use Rattle.lk_model.specs.Chains.Rounds.{is_refutation, used_positions}
 use Rattle.lk_model.specs.Documents.Form.{counts_from, is_step}
 use Rattle.lk_model.specs.declared.document.Step.{Step}
 use Rattle.lk_model.specs.declared.document.Round.{Round}
+use Rattle.check_places.specs.Places.{is_reached}
 
 -- the round is whole, and a clause that it uses holds the variable
 abbrev pub blocks : Cnf → Round → ℕ → Bool
@@ -47,12 +48,12 @@ abbrev pub first_number : List Step → ℕ
 first_number [] = 0
 first_number (s ∷ steps) = s.number
 
--- Marked are the steps of a round, numbered from `first` on, whose numbers are known; and the variables of the known
+-- Reached are the steps of a round, numbered from `first` on, whose numbers are known; and the variables of the known
 -- positions have k in the table, where the others have what they had.
 pub record AreMarked (F : Cnf) (k first count : ℕ) (known before : List ℕ) (marks : List Bool) (table : List ℕ) : Type 0 where
   pub marks_size : length marks ≡ count
   pub table_size : length table ≡ F.vars
-  pub marked : (i : ℕ) → i < count → slice_index_or marks i false ≡ among known (first + i)
+  pub marked : (i : ℕ) → i < count → is_reached marks i ≡ among known (first + i)
   pub blocked : (v : ℕ) → 1 ≤ v → v ≤ F.vars → slice_index table (v - 1) ≡ (if variable_occurs F known v then k else slice_index before (v - 1))
 
 -- the variables of a clause have k in the table, and the others what they had

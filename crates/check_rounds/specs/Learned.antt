@@ -1,8 +1,9 @@
 -- What a learned clause might contain, by the flags of its literals and the lists of these.
-use Rattle.std.specs.Prelude.{◌≡◌, ◌+◌, ◌*◌, ℕ, Bool, true, false, not, ◌&&◌, List, [], ◌∷◌, length, IsTrue}
-use Rattle.std.specs.List.{list_all}
+use Rattle.std.specs.Prelude.{◌≡◌, ◌+◌, ◌*◌, ℕ, Bool, true, false, not, ◌&&◌, ◌||◌, List, ℤ, [], ◌∷◌, length, IsTrue}
+use Rattle.std.specs.List.{list_all, list_any}
 use Rattle.std.specs.Option.{option_map_or}
 use Rattle.lk_model.specs.Lists.{is_empty}
+use Rattle.lk_model.specs.Formulas.Literal.{complement}
 use Rattle.lk_model.specs.Formulas.Formula.{clause_at, positions_of}
 use Rattle.lk_model.specs.Formulas.Crossed.{crossed_out}
 use Rattle.lk_model.specs.declared.document.Step.{Step}
@@ -12,7 +13,7 @@ use Rattle.check_rounds.specs.declared.learned.Known.{Known}
 use Rattle.check_rounds.specs.declared.steps.Rounds.{Rounds}
 use Rattle.check_rounds.specs.Blocking.{is_before}
 use Rattle.check_rounds.specs.Chains.{IsRoundAt, step_numbered}
-use Rattle.check_rounds.specs.Index.{AreClausesListed, AreRoundsListed, AreStepsListed}
+use Rattle.check_rounds.specs.Index.{list_of, AreClausesListed, AreRoundsListed, AreStepsListed}
 use Rattle.check_tables.specs.LiteralSets.{has_literal}
 
 -- no clause but the last one is empty
@@ -48,3 +49,10 @@ is_clause_within over flags p = let left = crossed_out (is_before over.round ove
 -- the number is that of a step before the place, and all literals of its clause have flags
 abbrev pub is_step_within : RoundAt → ℕ → List Bool → ℕ → Bool
 is_step_within over i flags k = option_map_or (λ (s : Step). list_all (has_literal flags) s.clause) (step_numbered over i k) false
+
+-- the complement of the literal has a flag, or a clause of the formula or of an earlier step that is listed under the literal
+-- stands within the flags
+abbrev pub shows_known : RoundAt → Known → ℕ → List Bool → ℤ → Bool
+shows_known over known i flags l = has_literal flags (complement l)
+    || list_any (is_clause_within over flags) (list_of known.clauses l)
+    || list_any (is_step_within over i flags) (list_of known.steps l)

@@ -16,6 +16,7 @@ ghost use Rattle.lk_model.specs.Checks.RoundChecks.{not_blocked};
 ghost use Rattle.check_rounds.specs.Blocking.{AreBlocks, AreRoundSteps, AreMarked, BlocksClause, BlocksRound};
 ghost use Rattle.check_rounds.specs.Blocking.{is_before, is_unblocked, first_number};
 
+use check_places::is_reached;
 use check_tables::{Workers, occurring_at};
 use lk_model::{DoneDocument, Formula, Lit, OutOfMemory, Round, Step, VarSet};
 use lk_outside::Gate;
@@ -116,10 +117,9 @@ fn block_reached(
     ensures { OnOk result (BlocksRound f.now k (record { steps = steps.now }) table.old table.new) }
 {
     let mut marks = vec![in alloc; false; steps.len()]?;
-    marks[steps.len() - 1] = true;
     let first = first_number(steps);
     for i in (0..steps.len()).rev() {
-        if marks[i] {
+        if is_reached(&marks, i) {
             mark_names(f, k, first, &steps[i], &mut marks, table);
         }
     }

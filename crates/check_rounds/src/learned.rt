@@ -7,7 +7,7 @@
 ghost use Rattle.std.specs.Prelude.{◌≡◌, ◌<◌, ◌+◌, ◌*◌, ◌&&◌, ◌||◌, not, [], length, slice_index_or, take, IfOk};
 ghost use Rattle.std.specs.Prelude.{IsTrue};
 ghost use Rattle.std.specs.List.{list_all, list_any};
-ghost use Rattle.lk_model.specs.Formulas.Literal.{complement, is_literal, variable};
+ghost use Rattle.lk_model.specs.Formulas.Literal.{is_literal, variable};
 ghost use Rattle.lk_model.specs.Formulas.Formula.{positions_of, is_formula};
 ghost use Rattle.lk_model.specs.Formulas.Crossed.{no_variable};
 ghost use Rattle.lk_model.specs.Documents.Documents.{steps_of};
@@ -19,6 +19,7 @@ ghost use Rattle.check_rounds.specs.Blocking.{AreBlocks, is_before};
 ghost use Rattle.check_rounds.specs.Chains.{IsRoundAt, is_unlearned, step_behind};
 ghost use Rattle.check_rounds.specs.Index.{list_of, AreClausesListed, AreRoundsListed};
 ghost use Rattle.check_rounds.specs.Learned.{AreKnown, IsKnown, are_open_but_last, is_clause_within, is_step_within};
+ghost use Rattle.check_rounds.specs.Learned.{shows_known};
 ghost use Rattle.check_tables.specs.LiteralSets.{IsSetOf, has_literal};
 ghost use Rattle.check_rounds.specs.Steps.{AreRounds, first_step, is_step_place};
 
@@ -135,8 +136,8 @@ fn is_unlearned(over: &RoundAt, known: &Known, i: usize, held: &mut LiteralSet) 
     contains
 }
 
-/// Whether a clause with flags up is a tautology, or contains a clause of the formula or of an earlier
-/// step.
+/// Whether a literal of a clause with flags up shows that the clause is a tautology, or contains a clause of
+/// the formula or of an earlier step.
 fn contains_known(
     over: &RoundAt,
     known: &Known,
@@ -148,49 +149,31 @@ fn contains_known(
     requires place { i < length over.now.steps.now }
     requires clause { IsTrue (list_all (is_literal over.now.formula.now.vars) clause.now) }
     requires held { length held.now ≡ 2 * over.now.formula.now.vars + 2 }
-    ensures test { result ≡ (list_any (λ l. has_literal held.now (complement l)) clause.now
-        || list_any (λ l. list_any (is_clause_within over.now held.now) (list_of known.now.clauses l)) clause.now
-        || list_any (λ l. list_any (is_step_within over.now i held.now) (list_of known.now.steps l)) clause.now) }
+    ensures test { result ≡ list_any (shows_known over.now known.now i held.now) clause.now }
     ensures formula { IsTrue (is_formula over.now.formula.now) }
 {
     let n = over.formula.vars();
-    has_complements(n, clause, held)
-        || contains_clause(n, over, known, clause, held)
-        || contains_step(n, over, known, i, clause, held)
-}
-
-/// Whether the flag of a complement of a clause's literal is up.
-fn has_complements(n: u32, clause: &[Lit], held: &LiteralSet) -> bool
-    requires clause { IsTrue (list_all (is_literal n) clause.now) }
-    requires held { length held.now ≡ 2 * n + 2 }
-    ensures { result ≡ list_any (λ l. has_literal held.now (complement l)) clause.now }
-{
-    clause.iter().any(|l| has_complement(n, held, *l))
-}
-
-fn has_complement(n: u32, held: &LiteralSet, l: Lit) -> bool
-    requires literal { IsTrue (is_literal n l) }
-    requires held { length held.now ≡ 2 * n + 2 }
-    ensures { result ≡ has_literal held.now (complement l) }
-{
-    held.has(l.negated())
-}
-
-/// Whether a clause of the formula that is listed under a literal of this one stands within the flags.
-fn contains_clause(n: u32, over: &RoundAt, known: &Known, clause: &[Lit], held: &LiteralSet) -> bool
-    requires known { IsKnown over.now known.now }
-    requires vars { n ≡ over.now.formula.now.vars }
-    requires clause { IsTrue (list_all (is_literal n) clause.now) }
-    requires held { length held.now ≡ 2 * n + 2 }
-    ensures { result ≡ list_any
-        (λ l. list_any (is_clause_within over.now held.now) (list_of known.now.clauses l)) clause.now }
-{
     clause
         .iter()
-        .any(|l| lists_clause(n, over, known, held, *l))
+        .any(|l| shows_known(n, over, known, i, held, *l))
 }
 
-/// Whether such a clause is listed under a literal.
+/// Whether the flag of a literal's complement is up, or a clause of the formula or of an earlier step that is
+/// listed under the literal stands within the flags.
+fn shows_known(n: u32, over: &RoundAt, known: &Known, i: usize, held: &LiteralSet, l: Lit) -> bool
+    requires known { IsKnown over.now known.now }
+    requires place { i < length over.now.steps.now }
+    requires vars { n ≡ over.now.formula.now.vars }
+    requires literal { IsTrue (is_literal n l) }
+    requires held { length held.now ≡ 2 * n + 2 }
+    ensures { result ≡ shows_known over.now known.now i held.now l }
+{
+    held.has(l.negated())
+        || lists_clause(n, over, known, held, l)
+        || lists_step(n, over, known, i, held, l)
+}
+
+/// Whether a clause of the formula that is listed under a literal stands within the flags.
 fn lists_clause(n: u32, over: &RoundAt, known: &Known, held: &LiteralSet, l: Lit) -> bool
     requires known { IsKnown over.now known.now }
     requires vars { n ≡ over.now.formula.now.vars }
@@ -253,29 +236,7 @@ fn is_uncrossed(k: usize, blocks: &[usize], l: Lit) -> bool
     !is_before(k, blocks, l.var())
 }
 
-/// Whether a clause of an earlier step that is listed under a literal of this one stands within the flags.
-fn contains_step(
-    n: u32,
-    over: &RoundAt,
-    known: &Known,
-    i: usize,
-    clause: &[Lit],
-    held: &LiteralSet,
-) -> bool
-    requires known { IsKnown over.now known.now }
-    requires place { i < length over.now.steps.now }
-    requires vars { n ≡ over.now.formula.now.vars }
-    requires clause { IsTrue (list_all (is_literal n) clause.now) }
-    requires held { length held.now ≡ 2 * n + 2 }
-    ensures { result ≡ list_any
-        (λ l. list_any (is_step_within over.now i held.now) (list_of known.now.steps l)) clause.now }
-{
-    clause
-        .iter()
-        .any(|l| lists_step(n, over, known, i, held, *l))
-}
-
-/// Whether such a clause is listed under a literal.
+/// Whether a clause of an earlier step that is listed under a literal stands within the flags.
 fn lists_step(n: u32, over: &RoundAt, known: &Known, i: usize, held: &LiteralSet, l: Lit) -> bool
     requires known { IsKnown over.now known.now }
     requires place { i < length over.now.steps.now }

@@ -1,9 +1,7 @@
 -- Sets of literals, by a flag at the rank of each.
-use Rattle.std.specs.Prelude.{◌≡◌, ◌≤◌, ℕ, ◌+◌, ◌*◌, Bool, false, true, not, List, filter, length, ℤ, IsTrue, slice_index_or, slice_set}
+use Rattle.std.specs.Prelude.{◌≡◌, ◌≤◌, ℕ, ◌+◌, ◌*◌, Bool, false, true, not, List, filter, length, ℤ, IsTrue, slice_set}
 use Rattle.lk_model.specs.Formulas.Literal.{contains, is_literal, rank_of}
-
-abbrev pub has_literal : List Bool → ℤ → Bool
-has_literal flags l = slice_index_or flags (rank_of l) false
+pub use Rattle.check_places.specs.Flags.{has_literal}
 
 abbrev pub with_literal : List Bool → ℤ → List Bool
 with_literal flags l = slice_set flags (rank_of l) true

@@ -4,6 +4,7 @@ ghost use Rattle.std.specs.List.{list_all, list_any};
 ghost use Rattle.lk_model.specs.Formulas.Literal.{is_literal, rank_of};
 ghost use Rattle.check_tables.specs.LiteralSets.{has_literal, with_literal, without_literal, less, IsSetOf};
 
+use check_places::has_any;
 use lk_model::{Lit, LitTable, OutOfMemory};
 use std::alloc::Global;
 use std::marker::Model;
@@ -108,6 +109,6 @@ impl LiteralSet {
         requires { All (λ l. rank_of l < length self.now) literals.now }
         ensures { result ≡ list_any (has_literal self.now) literals.now }
     {
-        literals.iter().any(|l| self.has(*l))
+        has_any(&self.flags, literals)
     }
 }

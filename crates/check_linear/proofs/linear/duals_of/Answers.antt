@@ -1,9 +1,13 @@
 use Rattle.std.proofs.Common.{◌≡◌, ◌+◌, ◌-◌, ◌<◌, Bool, not, length, get_or, drop, subst, sym, arith, pos, Some, None}
 use Rattle.std.specs.Prelude.{int_lt, slice_set}
+use Rattle.std.proofs.lemmas.Int.{to_z-of_z}
+use mir.Syntax.{w128}
+use mir.Val.{SFits}
+use Rattle.exact_rows.proofs.Wides.{fits_in_range}
 use Rattle.lk_model.specs.declared.document.Dual.{Dual}
 use Rattle.check_linear.specs.Linear.{AreDuals}
 use Rattle.kernel_laws.proofs.FirstTables.{first_more}
-use Rattle.check_linear.proofs.DualChecks.{dual_within, read_least}
+use Rattle.check_linear.proofs.DualChecks.{dual_within}
 use Rattle.check_linear.proofs.linear.duals_of.Goals as goal
 
 -- what stands where there is no dual
@@ -29,5 +33,7 @@ loop-i-preserved c =
     let next : c.loop-i.i ≡ i + 1 = omega arith in
     let y : Dual = get_or dual i no_dual in
     let line = dual_within c.args.m dual i no_dual c.requires inside in
-    subst (λ (b : Bool). AreDuals c.args.m (drop i dual) (slice_set c.loop-i.table.items (y.pos - 1) (Some b))) (sym (read_least y.y line.range))
+    let fits : SFits w128 y.y = fits_in_range y.y line.range in
+    let told : c.is_positive.result ≡ not (int_lt y.y (pos 1)) = simp to_z-of_z at c.is_positive.ensures in
+    subst (λ (b : Bool). AreDuals c.args.m (drop i dual) (slice_set c.loop-i.table.items (y.pos - 1) (Some b))) (sym told)
     (first_more c.args.m (λ (z : Dual). z.pos) (λ (z : Dual). Some (not (int_lt z.y (pos 1)))) None None dual i c.loop-i.i no_dual c.loop-i.table.items next inside line.first line.last c.loop-i.invariant)

@@ -1,18 +1,18 @@
-use Rattle.std.proofs.Common.{◌≡◌, ◌+◌, ◌-◌, ◌<◌, ◌∙◌, List, Bool, true, false, sym, subst, arith, rules, length, slice_index_or, [], drop}
+use Rattle.std.proofs.Common.{◌≡◌, ◌+◌, ◌-◌, ◌<◌, ◌∙◌, List, Bool, true, false, sym, ap, subst, arith, rules, length, [], drop}
 use Rattle.std.specs.Prelude.{replicate}
-use Rattle.std.proofs.lemmas.List.{get_or_default}
 use Rattle.lk_model.specs.Chains.Chain.{names_of}
 use Rattle.lk_model.specs.Laws.{last_number}
+use Rattle.check_places.specs.Places.{is_reached}
 use Rattle.check_rounds.specs.Blocking.{AreMarked, first_number}
 use Rattle.kernel_laws.proofs.Overwritten.{whole}
-use Rattle.check_rounds.proofs.Reaching.{reached_from, number_at, first_is, refutes_some, last_marked, names_marked, names_as, none_marked, round_marked}
+use Rattle.check_rounds.proofs.Reaching.{reached_from, number_at, first_is, refutes_some, last_reached, names_marked, names_as, none_marked, round_marked}
 use Rattle.check_rounds.proofs.blocking.block_reached.Goals as goal
 
 pub loop-i-init : goal.loop-i-init
 loop-i-init c =
     let steps = c.args.steps.now in
     let items : c.in_ok-marks.marks.items ≡ replicate (length steps) false = search rules in
-    last_marked c.args.f.now c.args.k c.requires.steps.first steps c.args.table.now c.in_ok-marks.marks.items
+    last_reached c.args.f.now c.args.k c.requires.steps.first steps c.args.table.now c.in_ok-marks.marks.items
     c.requires.steps.past c.requires.steps.numbered (refutes_some steps c.requires.whole) c.requires.size items
 
 pub mark_names-requires-clause-number : goal.mark_names-requires-clause-number
@@ -23,8 +23,8 @@ mark_names-requires-clause-number c =
     let first = first_is c.requires.steps.first steps c.requires.steps.numbered (omega (arith, inside)) in
     omega (arith, number, first, inside, c.first_number-first.ensures, c.deref_mut.ensures.len, c.loop-i.invariant.marks_size)
 
-pub loop-i-preserved-then-index : goal.loop-i-preserved-then-index
-loop-i-preserved-then-index c =
+pub loop-i-preserved-then-is_reached : goal.loop-i-preserved-then-is_reached
+loop-i-preserved-then-is_reached c =
     let F = c.args.f.now in
     let steps = c.args.steps.now in
     let i = c.loop-i.i - 1 in
@@ -32,8 +32,7 @@ loop-i-preserved-then-index c =
     let next : c.loop-i.i ≡ i + 1 = omega arith in
     let inv = c.loop-i.invariant in
     let marks = c.loop-i.marks.items in
-    let up : slice_index_or marks i false ≡ true =
-    get_or_default marks i false c.index.result.now (omega (arith, inside, inv.marks_size)) ∙ sym c.index.ensures ∙ c.if-index.true in
+    let up : is_reached marks i ≡ true = ap (λ (ms : List Bool). is_reached ms i) (sym c.deref.ensures.value) ∙ sym c.is_reached.ensures ∙ c.if-is_reached.true in
     let size : length c.mark_names.new.marks ≡ c.loop-i.marks.len = omega (arith, c.mark_names.ensures.marks_size, c.deref_mut.ensures.len, c.loop-i.marks.ok.0) in
     let count : length c.deref_mut.result.now ≡ length steps = omega (arith, c.deref_mut.ensures.len, inv.marks_size, c.loop-i.marks.ok.0) in
     let same = whole c.loop-i.marks.len c.mark_names.new.marks marks size (omega (arith, size, c.loop-i.marks.ok.0)) in
@@ -52,8 +51,7 @@ loop-i-preserved c =
     let next : c.loop-i.i ≡ i + 1 = omega arith in
     let inv = c.loop-i.invariant in
     let marks = c.loop-i.marks.items in
-    let down : slice_index_or marks i false ≡ false =
-    get_or_default marks i false c.index.result.now (omega (arith, inside, inv.marks_size)) ∙ sym c.index.ensures ∙ c.if-index.false in
+    let down : is_reached marks i ≡ false = ap (λ (ms : List Bool). is_reached ms i) (sym c.deref.ensures.value) ∙ sym c.is_reached.ensures ∙ c.if-is_reached.false in
     none_marked F c.args.k c.requires.steps.first steps i c.loop-i.i (record { number = 0; clause = []; first = 0; turns = [] }) c.args.table.now marks c.loop-i.table c.requires.steps.numbered next inside down inv
 
 pub returns : goal.returns

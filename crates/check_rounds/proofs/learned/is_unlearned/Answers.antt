@@ -1,11 +1,10 @@
-use Rattle.std.proofs.Common.{◌≡◌, ◌∙◌, ◌||◌, List, ℤ, [], true, ap, sym, subst}
+use Rattle.std.proofs.Common.{◌≡◌, ◌∙◌, List, ℤ, [], true, ap, sym, subst}
 use Rattle.std.specs.List.{list_all, list_any}
-use Rattle.lk_model.specs.Formulas.Literal.{is_literal, complement}
+use Rattle.lk_model.specs.Formulas.Literal.{is_literal}
 use Rattle.lk_model.specs.declared.document.Step.{Step}
 use Rattle.lk_model.proofs.Rounds.{step_literals}
-use Rattle.check_tables.specs.LiteralSets.{IsSetOf, has_literal}
-use Rattle.check_rounds.specs.Index.{list_of}
-use Rattle.check_rounds.specs.Learned.{is_clause_within, is_step_within}
+use Rattle.check_tables.specs.LiteralSets.{IsSetOf}
+use Rattle.check_rounds.specs.Learned.{shows_known}
 use Rattle.check_rounds.proofs.ChainChecks.{step_form, one_step}
 use Rattle.check_tables.proofs.LiteralSetLemmas.{all_within, all_less}
 use Rattle.check_rounds.proofs.LearnedChecks.{unlearned_is}
@@ -45,9 +44,7 @@ returns-clause-test c s is =
     let same : c.as_slice-clause.result.now ≡ s.clause = c.as_slice-clause.ensures ∙ ap (λ (u : Step). u.clause) (sym c.index-over-i.is ∙ one_step over.steps.now c.args.i r s c.requires.place c.index-over-i.is is) in
     let lits = subst (λ (ls : List ℤ). list_all (is_literal n) ls ≡ true) (sym same) (step_literals n s (step_form over c.args.i s c.requires.known.round c.requires.place is)) in
     let set = subst (λ (ls : List ℤ). IsSetOf n ls c.add_all.new.self) same (c.add_all.ensures.added n [] lits c.requires.held) in
-    let told = subst (λ (ls : List ℤ). c.contains_known-contains.result ≡ (list_any (λ l. has_literal c.add_all.new.self (complement l)) ls
-    || list_any (λ l. list_any (is_clause_within over c.add_all.new.self) (list_of c.args.known.now.clauses l)) ls
-    || list_any (λ l. list_any (is_step_within over c.args.i c.add_all.new.self) (list_of c.args.known.now.steps l)) ls)) same c.contains_known-contains.ensures.test in
+    let told = subst (λ (ls : List ℤ). c.contains_known-contains.result ≡ list_any (shows_known over c.args.known.now c.args.i c.add_all.new.self) ls) same c.contains_known-contains.ensures.test in
     told ∙ unlearned_is over c.args.known.now c.args.i s c.add_all.new.self c.contains_known-contains.ensures.formula c.requires.known c.requires.place is set
 
 pub returns-clause-held : goal.returns-clause-held
