@@ -4,6 +4,7 @@ pub mod LinearSteps
 pub mod PartForms
 pub mod PartSteps
 pub mod DraftSteps
+pub mod ClauseLines
 pub mod CleanLines
 pub mod Completed
 pub mod Runs

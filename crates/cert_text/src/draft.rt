@@ -3,7 +3,7 @@ use crate::part::Part;
 use lk_model::{Formula, List, Lit};
 
 /// Which line is due, that is, to come next.
-#[derive(Clone, Copy, PartialEq, Eq)]
+#[derive(Clone, Copy)]
 pub(crate) enum LineDue {
     Format,
     Sizes,

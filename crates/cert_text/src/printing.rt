@@ -7,19 +7,19 @@ ghost use Rattle.lk_model.specs.Documents.Text.{class_lines, class_word, documen
 ghost use Rattle.lk_model.specs.declared.document.Document.TheVariants.{Done};
 ghost use Rattle.cert_text.specs.Printed.{found_lines};
 
-mod formula;
+mod entry;
 mod front;
 mod linear;
 mod matching;
 mod pure;
 mod unfinished;
 
-use self::formula::put_formula;
 use self::front::put_first_lines;
 use self::linear::put_linear;
 use self::matching::put_matching;
 use self::pure::put_pure;
 use self::unfinished::put_unfinished;
+use formula_text::put_formula;
 use line_text::{put_literal_line, put_number_line};
 use lk_model::{Body, Document, DoneDocument, OutOfMemory};
 use round_text::put_rounds;

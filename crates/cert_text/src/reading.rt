@@ -87,7 +87,10 @@ fn finish(draft: Draft) -> Result<Option<Document>, OutOfMemory>
 fn has_ended(draft: &Draft) -> bool
     ensures { result ≡ (is_at_clauses draft.now.due && length draft.now.texts.clauses == clause_count draft.now) }
 {
-    draft.due == LineDue::Clauses && draft.texts.len() as usize == clause_count(draft)
+    match draft.due {
+        LineDue::Clauses => draft.texts.len() as usize == clause_count(draft),
+        _ => false,
+    }
 }
 
 /// The document of a draft whose lines were all read.

@@ -2,7 +2,6 @@
 ghost use Rattle.std.specs.Prelude.{◌≡◌, ◌≤◌, IfOk, true};
 ghost use Rattle.lk_model.specs.Limits.{max_vars, max_clauses};
 ghost use Rattle.line_text.specs.Fields.{fields};
-ghost use Rattle.line_text.specs.SizeLines.{is_problem};
 ghost use Rattle.cert_text.specs.Drafts.{clause_count, due_then, due_first, next_format, next_sizes, next_protect};
 ghost use Rattle.cert_text.specs.Drafts.{next_keep, next_set, next_learned, next_body, next_clause, next_draft};
 ghost use Rattle.cert_text.specs.Drafts.{protect_of, format_words};
@@ -11,9 +10,8 @@ ghost use Rattle.line_text.specs.Taking.{IsTaken};
 
 use crate::draft::{Draft, LineDue};
 use crate::part::{Part, is_finished, may_end, part_of, take_part};
-use line_text::{
-    behind, first_field, literals_in, numbers_in, one_number, read_clause, two_numbers,
-};
+use formula_text::{is_problem, take_clause};
+use line_text::{behind, first_field, literals_in, numbers_in, one_number, two_numbers};
 use lk_model::{Formula, FormulaError, List, MAX_CLAUSES, MAX_VARS, OpenClause, OutOfMemory};
 use std::alloc::Global;
 
@@ -47,7 +45,7 @@ pub(crate) fn take_line(
         LineDue::Set => take_set(alloc, draft, line),
         LineDue::Learned => Ok(take_learned(draft, line)),
         LineDue::Body => take_body(alloc, draft, line),
-        LineDue::Clauses => take_clause(draft, growing, line),
+        LineDue::Clauses => take_text(draft, growing, line),
     }
 }
 
@@ -219,26 +217,13 @@ pub(crate) fn clause_count(draft: &Draft) -> usize
     }
 }
 
-/// Whether the line is the problem line of the clauses.
-fn is_problem(draft: &Draft, line: &[u8]) -> bool
-    ensures { result ≡ is_problem draft.now.vars (clause_count draft.now) (fields line.now) }
-{
-    let Some(rest) = behind(line, b"p", b"cnf") else {
-        return false;
-    };
-    match two_numbers(rest, MAX_VARS, MAX_CLAUSES) {
-        Some((vars, count)) => vars == draft.vars && count as usize == clause_count(draft),
-        None => false,
-    }
-}
-
 /// Takes a line of the body, or the problem line behind the last one.
 fn take_body(alloc: Global, draft: &mut Draft, line: &[u8]) -> Result<bool, OutOfMemory>
     requires { draft.old.vars ≤ max_vars }
     ensures taken { IfOk result (λ taken. IsTaken (next_body draft.old (fields line.now)) taken draft.new) }
     ensures vars { draft.new.vars ≡ draft.old.vars }
 {
-    if !is_problem(draft, line) {
+    if !is_problem(line, draft.vars, clause_count(draft)) {
         return take_part(alloc, &mut draft.part, line, draft.vars, draft.clauses);
     }
     if !may_end(&draft.part) {
@@ -249,28 +234,12 @@ fn take_body(alloc: Global, draft: &mut Draft, line: &[u8]) -> Result<bool, OutO
 }
 
 /// Takes the line of a clause, by an open clause that has no literal before and after.
-fn take_clause(
-    draft: &mut Draft,
-    growing: &mut OpenClause,
-    line: &[u8],
-) -> Result<bool, OutOfMemory>
+fn take_text(draft: &mut Draft, growing: &mut OpenClause, line: &[u8]) -> Result<bool, OutOfMemory>
     requires small { IsSmall draft.old }
     requires growing { IsReady draft.old growing.old }
     ensures taken { IfOk result (λ taken. IsTaken (next_clause draft.old (fields line.now)) taken draft.new) }
     ensures ready { IfOk result (λ taken. IsReadyAgain taken draft.new growing.new) }
 {
-    if draft.texts.len() as usize >= clause_count(draft) {
-        return Ok(false);
-    }
-    if !read_clause(growing, line)? {
-        return Ok(false);
-    }
-    match draft.texts.push_clause(growing.literals()) {
-        Ok(()) => {
-            growing.clear();
-            Ok(true)
-        }
-        Err(FormulaError::Limit) => Ok(false),
-        Err(FormulaError::OutOfMemory) => Err(OutOfMemory),
-    }
+    let count = clause_count(draft);
+    take_clause(&mut draft.texts, growing, line, count)
 }

@@ -1,10 +1,11 @@
 //! The first lines of a document.
 ghost use Rattle.std.specs.Prelude.{◌≡◌, ◌++◌, ◌∷◌, [], OnOk, codes};
 ghost use Rattle.std.specs.List.{flat_map};
-ghost use Rattle.lk_model.specs.Texts.PlainText.{line, number_words};
+ghost use Rattle.lk_model.specs.Texts.PlainText.{line};
 ghost use Rattle.lk_model.specs.Documents.Text.{comment, first_lines, protect_lines, version};
 
-use line_text::{put, put_keyword, put_number, put_number_line, put_word};
+use formula_text::put_size_line;
+use line_text::{put_keyword, put_number_line, put_word};
 use lk_model::{List, OutOfMemory};
 
 /// Appends the lines of the format and of the sizes, and that of the protected variables where there is
@@ -41,15 +42,6 @@ fn put_format_line(out: &mut Vec<u8>, version: &[u8], word: &[u8]) -> Result<(),
     put_keyword(out, b"leank")?;
     put_word(out, version, b' ')?;
     put_word(out, word, b'\n')
-}
-
-fn put_size_line(out: &mut Vec<u8>, vars: u32, clauses: u32) -> Result<(), OutOfMemory>
-    ensures { OnOk result (out.new.items
-        ≡ out.old.items ++ line (comment (codes "formula") (number_words (vars ∷ clauses ∷ [])))) }
-{
-    put(out, b"c formula ")?;
-    put_number(out, u64::from(vars), b' ')?;
-    put_number(out, u64::from(clauses), b'\n')
 }
 
 fn put_protect_lines(out: &mut Vec<u8>, protect: &Option<List<u32>>) -> Result<(), OutOfMemory>

@@ -5,7 +5,7 @@ ghost use Rattle.lk_model.specs.Texts.PlainText.{line};
 ghost use Rattle.lk_model.specs.Documents.Text.{class_lines, own_line, row_line};
 ghost use Rattle.lk_model.specs.declared.document.Body.TheVariants.{Matching};
 
-use line_text::{put, put_number};
+use super::entry::put_entry_line;
 use lk_model::{MatchRow, OutOfMemory, Own};
 
 /// Appends a line for each owned variable, and then one for each row.
@@ -34,9 +34,7 @@ fn put_owns(out: &mut Vec<u8>, owns: &[Own]) -> Result<(), OutOfMemory>
 fn put_own(out: &mut Vec<u8>, own: Own) -> Result<(), OutOfMemory>
     ensures { OnOk result (out.new.items ≡ out.old.items ++ line (own_line own)) }
 {
-    put(out, b"c own ")?;
-    put_number(out, u64::from(own.pos), b' ')?;
-    put_number(out, u64::from(own.var), b'\n')
+    put_entry_line(out, b"own", &[own.pos], own.var)
 }
 
 fn put_rows(out: &mut Vec<u8>, rows: &[MatchRow]) -> Result<(), OutOfMemory>
@@ -52,9 +50,5 @@ fn put_rows(out: &mut Vec<u8>, rows: &[MatchRow]) -> Result<(), OutOfMemory>
 fn put_row(out: &mut Vec<u8>, row: MatchRow) -> Result<(), OutOfMemory>
     ensures { OnOk result (out.new.items ≡ out.old.items ++ line (row_line row)) }
 {
-    put(out, b"c row ")?;
-    put_number(out, u64::from(row.var), b' ')?;
-    put_number(out, u64::from(row.own), b' ')?;
-    put_number(out, u64::from(row.escape), b' ')?;
-    put_number(out, u64::from(row.rank), b'\n')
+    put_entry_line(out, b"row", &[row.var, row.own, row.escape], row.rank)
 }

@@ -5,7 +5,8 @@ ghost use Rattle.lk_model.specs.Texts.PlainText.{line};
 ghost use Rattle.lk_model.specs.Documents.Text.{class_lines, pair_line};
 ghost use Rattle.lk_model.specs.declared.document.Body.TheVariants.{Pure};
 
-use line_text::{put, put_literal_line, put_number};
+use super::entry::put_entry_line;
+use line_text::put_literal_line;
 use lk_model::{Lit, OutOfMemory, Pair};
 
 /// Appends the order, and a line for each pair.
@@ -30,8 +31,5 @@ fn put_pairs(out: &mut Vec<u8>, pairs: &[Pair]) -> Result<(), OutOfMemory>
 fn put_pair(out: &mut Vec<u8>, pair: Pair) -> Result<(), OutOfMemory>
     ensures { OnOk result (out.new.items ≡ out.old.items ++ line (pair_line pair)) }
 {
-    put(out, b"c pair ")?;
-    put_number(out, u64::from(pair.var), b' ')?;
-    put_number(out, u64::from(pair.with), b' ')?;
-    put_number(out, u64::from(pair.against), b'\n')
+    put_entry_line(out, b"pair", &[pair.var, pair.with], pair.against)
 }

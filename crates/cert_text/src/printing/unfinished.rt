@@ -5,8 +5,8 @@ ghost use Rattle.lk_model.specs.Texts.PlainText.{line, number_words};
 ghost use Rattle.lk_model.specs.Documents.Text.{comment, document_lines};
 ghost use Rattle.lk_model.specs.declared.document.Document.TheVariants.{Unfinished};
 
-use super::formula::put_formula;
 use super::front::put_first_lines;
+use formula_text::put_formula;
 use line_text::{put, put_number};
 use lk_model::{OpenDocument, OutOfMemory};
 use round_text::put_rounds;

@@ -2,7 +2,11 @@ use Rattle.std.proofs.Common.{◌∙◌, ap, sym}
 use Rattle.std.specs.Option.{option_copied}
 use Rattle.lk_model.specs.declared.document.MatchRow.{MatchRow}
 use Rattle.line_text.proofs.LastOnes.{last_read}
+use Rattle.cert_text.proofs.EntryWords.{none_read}
 use Rattle.cert_text.proofs.read_matching.last_var.Goals as goal
 
 pub returns-in-Some : goal.returns-in-Some
 returns-in-Some c = last_read (λ (r : MatchRow). r.var) c.args.rows.now c.in-Some.row.now (sym c.last.ensures.value ∙ ap option_copied c.in-Some.is)
+
+pub returns-in-None : goal.returns-in-None
+returns-in-None c = none_read (λ (r : MatchRow). r.var) c.args.rows.now (sym c.last.ensures.value ∙ ap option_copied c.in-None.is)
