@@ -1,9 +1,10 @@
 -- Searches that take turns.
-use Rattle.std.specs.Prelude.{◌≡◌, ℕ, ◌<◌, ◌≤◌, List, length, slice_index_or, Option, Some, None}
+use Rattle.std.specs.Prelude.{◌≡◌, ◌==◌, ℕ, ◌<◌, ◌≤◌, if◌then◌else◌, List, length, slice_index_or, Option, Some, None}
 use Rattle.std.specs.List.{AllWithin}
 use Rattle.lk_model.specs.declared.crossed.Crossed.{Crossed}
 use Rattle.cdcl_core.specs.declared.decided.End.{End}
 use Rattle.cdcl_core.specs.declared.search.Search.{Search}
+use Rattle.cdcl_core.specs.declared.turns.By.{By}
 use Rattle.cdcl_core.specs.declared.turns.Turns.{Turns}
 use Rattle.cdcl_core.specs.declared.players.Player.{Player}
 use Rattle.cdcl_core.specs.declared.players.Won.{Won}
@@ -13,6 +14,16 @@ use Rattle.cdcl_core.specs.Searching.{IsSearch, decided_by}
 -- the turns have the same lengths; which order begins, and the values that are kept, may be others
 abbrev pub HasLengthsOf : Turns → Turns → Type 0
 HasLengthsOf turns others = (turns.first ≡ others.first) × (turns.further ≡ others.further)
+
+-- the turns in which the third order, if there is one, changes places with the one that begins
+abbrev pub led_by_third : Turns → Option By → Turns
+led_by_third turns None = turns
+led_by_third turns (Some third) = record turns { by = third; third = Some turns.by }
+
+-- the turns in which the order at a place, counted from 0, changes places with the one that begins
+abbrev pub led_by : Turns → ℕ → Turns
+led_by turns place =
+    if place == 1 then record turns { by = turns.second; second = turns.by } else (if place == 2 then led_by_third turns turns.third else turns)
 
 -- a search that has learned at most so many clauses, in steps that are numbered from `next`
 pub record IsWithin (over : Crossed) (next pause : ℕ) (s : Search) : Type 0 where

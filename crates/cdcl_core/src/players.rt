@@ -86,6 +86,7 @@ fn begin(
     requires crossed { IsCrossed over.now }
     requires past { length over.now.formula.now.clauses < next }
     ensures some { OnOk result (0 < length players.new.items) }
+    ensures behind { OnOk result (length players.new.items ≡ length players.old.items + 1) }
     ensures within { (pause : ℕ) → AreWithin over.now next pause players.old.items →
         OnOk result (AreWithin over.now next pause players.new.items) }
 {

@@ -4,11 +4,11 @@
 //! another. So searches, each with an order of its own, go on by turns, each from where it paused. No search starts
 //! again, and none learns from the others: what is answered is what one of them answers by itself (algorithms that are
 //! run side by side: Huberman, Lukose and Hogg, "An Economics Approach to Hard Computational Problems", 1997).
-ghost use Rattle.std.specs.Prelude.{◌≡◌, ◌+◌, ◌-◌, ◌<◌, ◌^◌, length, IfOk, OnErr};
+ghost use Rattle.std.specs.Prelude.{◌≡◌, ◌+◌, ◌-◌, ◌<◌, ◌^◌, length, Some, None, IfOk, OnErr};
 ghost use Rattle.lk_model.specs.Held.VariableSets.{IsCrossed};
 ghost use Rattle.variable_orders.specs.VariableOrders.{IsOrderOver};
 ghost use Rattle.cdcl_core.specs.Decision.{IsDecided};
-ghost use Rattle.cdcl_core.specs.Players.{HasLengthsOf};
+ghost use Rattle.cdcl_core.specs.Players.{HasLengthsOf, led_by};
 
 use crate::decided::Decided;
 use crate::players::{Bounds, play};
@@ -77,6 +77,8 @@ impl Turns {
     /// The usual turns: the numbers, which begin, and the connection. No values are kept.
     pub fn new() -> Turns
         ensures by { result.by ≡ By.Number }
+        ensures second { result.second ≡ By.Connection }
+        ensures third { result.third ≡ None }
         ensures first { result.first ≡ 512 }
         ensures further { result.further ≡ 512 }
     {
@@ -93,6 +95,8 @@ impl Turns {
     /// Turns of all three orders: that of the occurrences begins. They have the usual lengths, and no values are kept.
     pub fn of_all_orders() -> Turns
         ensures by { result.by ≡ By.Occurrences }
+        ensures second { result.second ≡ By.Number }
+        ensures third { result.third ≡ Some By.Connection }
         ensures first { result.first ≡ 512 }
         ensures further { result.further ≡ 512 }
     {
@@ -111,6 +115,8 @@ impl Turns {
     /// the search that answered the call before.
     pub fn keeping(alloc: Global, n: u32, first: u64, further: u64) -> Result<Turns, OutOfMemory>
         ensures by { IfOk result (λ turns. turns.by ≡ By.Occurrences) }
+        ensures second { IfOk result (λ turns. turns.second ≡ By.Number) }
+        ensures third { IfOk result (λ turns. turns.third ≡ Some By.Connection) }
         ensures first { IfOk result (λ turns. turns.first ≡ first) }
         ensures further { IfOk result (λ turns. turns.further ≡ further) }
     {
@@ -135,7 +141,8 @@ impl Turns {
 
     /// Keeps the values of the search that answered, if values are kept.
     fn keep(&mut self, signs: Signs)
-        ensures { HasLengthsOf self.new self.old }
+        ensures lengths { HasLengthsOf self.new self.old }
+        ensures others { self.new ≡ record self.old { kept = self.new.kept } }
     {
         if let Signs::Last(values) = signs {
             if self.kept.is_some() {
@@ -146,7 +153,8 @@ impl Turns {
 
     /// Lets the order at a place, counted from 0, begin from now on.
     fn lead(&mut self, place: usize)
-        ensures { HasLengthsOf self.new self.old }
+        ensures lengths { HasLengthsOf self.new self.old }
+        ensures led { self.new ≡ led_by self.old place }
     {
         let by = self.by;
         if place == 1 {
@@ -164,8 +172,8 @@ impl Turns {
 
 /// As `decide`, by orders that take turns: each learns at most `budget` clauses, and if all do, the answer is that of
 /// the order that began. If `budget` is at most the first turn, only that one is tried. The order that answered begins
-/// in a further call with these turns, with its values if they are kept. Where a call fails, the turns are as they
-/// were.
+/// in a further call with these turns, with its values if they are kept. (No clause says which order answers, which one
+/// begins, and which values are kept; tests do.) Where a call fails, the turns are as they were.
 pub fn decide_by_turns(
     alloc: Global,
     over: &Crossed,
