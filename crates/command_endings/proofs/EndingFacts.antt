@@ -11,3 +11,7 @@ by_one P S (Ok e) p f = f e p
 pub by_three : (P Q R S : Ending → Type 0) (r : Result Ending OutOfMemory) → IfOk r P → IfOk r Q → IfOk r R → ((e : Ending) → P e → Q e → R e → S e) → IfOk r S
 by_three P Q R S (Err e) p q t f = tt
 by_three P Q R S (Ok e) p q t f = f e p q t
+
+pub by_five : (P Q R A B S : Ending → Type 0) (r : Result Ending OutOfMemory) → IfOk r P → IfOk r Q → IfOk r R → IfOk r A → IfOk r B → ((e : Ending) → P e → Q e → R e → A e → B e → S e) → IfOk r S
+by_five P Q R A B S (Err e) p q t a b f = tt
+by_five P Q R A B S (Ok e) p q t a b f = f e p q t a b

@@ -5,6 +5,7 @@ pub mod KernelSizes
 pub mod Counted
 pub mod LinearEndings
 pub mod Listing
+pub mod Problems
 pub mod GeneralEndings
 pub mod DemoEndings
 pub mod Extensions

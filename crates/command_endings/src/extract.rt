@@ -7,14 +7,12 @@ ghost use Rattle.command_words.specs.OptionRows.{values_of};
 ghost use Rattle.command_endings.specs.Answering.{IsAnswer};
 
 use crate::ending::Ending;
-use crate::reduce_general::unfinished;
-use crate::solve::{answered, one_round};
+use crate::solve::{answered, unfinished_round};
 use crate::status::Status;
 use answer_check::Answer;
 use command_words::{Command, Options};
 use lk_model::{Formula, MusAnswer, MusResult, OutOfMemory};
 use mus_core::{Mus, minimal};
-use reductions::open_document_of;
 use std::alloc::Global;
 
 /// A minimally unsatisfiable core of a formula, or a model, or the unfinished document of a search that used up its
@@ -34,11 +32,7 @@ pub fn answer(alloc: Global, formula: Formula, options: &Options<'_>) -> Result<
             part: _,
             texts,
             round,
-        } => {
-            let rounds = one_round(alloc, round)?;
-            let document = open_document_of(texts, None, conflicts.get(), rounds);
-            unfinished(alloc, document)
-        }
+        } => unfinished_round(alloc, texts, conflicts, round),
     }
 }
 

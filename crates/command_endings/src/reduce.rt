@@ -1,7 +1,11 @@
 //! What `reduce` answers, but for the class general.
-ghost use Rattle.std.specs.Prelude.{◌≡◌, [], IfOk};
+ghost use Rattle.std.specs.Prelude.{◌≡◌, [], IfOk, IsTrue};
 ghost use Rattle.lk_model.specs.Documents.Text.{text_of};
+ghost use Rattle.lk_model.specs.Formulas.Formula.{is_formula, IsWithinLimits};
+ghost use Rattle.lk_model.specs.Formulas.Lean.{are_positions};
 ghost use Rattle.lk_model.specs.declared.document.Document.TheVariants.{Done as Finished};
+ghost use Rattle.reductions.specs.Founds.{document_of};
+ghost use Rattle.reductions.specs.Protecting.{line_of};
 ghost use Rattle.command_words.specs.OptionRows.{values_of};
 ghost use Rattle.command_endings.specs.Answering.{IsAnswer};
 ghost use Rattle.command_endings.specs.LinearStops.{TellsStop};
@@ -15,7 +19,7 @@ use command_words::{Command, Options};
 use linear_kernel::LinearStop;
 use lk_model::{Document, DoneDocument, Formula, OutOfMemory};
 use lk_outside::Gate;
-use reductions::{find_linear, find_matching, find_pure};
+use reductions::{Found, Problem, find_linear, find_matching, find_pure};
 use std::alloc::Global;
 use std::thread::Threads;
 
@@ -28,9 +32,14 @@ pub fn answer_pure(
     ensures { IfOk result (IsAnswer Command.ReducePure (values_of options.now) (formula, tt)) }
 {
     let problem = problem_of(alloc, formula, options.protect)?;
-    let found = find_pure(alloc, problem.left())?;
-    let document = problem.document(alloc, found)?;
-    written(alloc, document)
+    match find_pure(alloc, problem.left()) {
+        Ok(found) => reduced(alloc, problem, found),
+        Err(OutOfMemory) => {
+            // A drop by a call is proved once. Each exit would spell it out.
+            drop(problem);
+            Err(OutOfMemory)
+        }
+    }
 }
 
 /// The document of the matching kernel of a formula.
@@ -44,9 +53,13 @@ pub fn answer_matching<R: Threads + Sync, G: Gate>(
     ensures { IfOk result (IsAnswer Command.ReduceMatching (values_of options.now) (formula, tt)) }
 {
     let problem = problem_of(alloc, formula, options.protect)?;
-    let found = find_matching(rt, alloc, gate, problem.left(), options.workers.get())?;
-    let document = problem.document(alloc, found)?;
-    written(alloc, document)
+    match find_matching(rt, alloc, gate, problem.left(), options.workers.get()) {
+        Ok(found) => reduced(alloc, problem, found),
+        Err(OutOfMemory) => {
+            drop(problem);
+            Err(OutOfMemory)
+        }
+    }
 }
 
 /// The document of the linear kernel of a formula, or why there is none.
@@ -59,12 +72,26 @@ pub fn answer_linear(
 {
     let problem = problem_of(alloc, formula, options.protect)?;
     match find_linear(alloc, problem.left(), options.pivots) {
-        Ok(found) => {
-            let document = problem.document(alloc, found)?;
-            written(alloc, document)
+        Ok(found) => reduced(alloc, problem, found),
+        Err(stop) => {
+            drop(problem);
+            stopped(alloc, stop)
         }
-        Err(stop) => stopped(alloc, stop),
     }
+}
+
+/// The ending that writes the document of what was found in what is left of a problem.
+pub(crate) fn reduced(alloc: Global, problem: Problem, found: Found) -> Result<Ending, OutOfMemory>
+    requires positions { IsTrue (are_positions problem.formula found.kept) }
+    ensures status { IfOk result (λ e. e.status ≡ Status.Done) }
+    ensures written { IfOk result (λ e.
+        e.written.items ≡ text_of (Finished (document_of problem.formula (line_of problem) found))) }
+    ensures said { IfOk result (λ e. e.said.items ≡ []) }
+    ensures formula { IsTrue (is_formula problem.formula) }
+    ensures limits { IsWithinLimits problem.formula }
+{
+    let document = problem.document(alloc, found)?;
+    written(alloc, document)
 }
 
 /// The ending that says why there is no linear kernel.
@@ -102,7 +129,7 @@ fn said(alloc: Global, status: Status, line: Vec<u8>) -> Ending
 }
 
 /// The ending that writes a document.
-pub(crate) fn written(alloc: Global, document: DoneDocument) -> Result<Ending, OutOfMemory>
+fn written(alloc: Global, document: DoneDocument) -> Result<Ending, OutOfMemory>
     ensures status { IfOk result (λ e. e.status ≡ Status.Done) }
     ensures written { IfOk result (λ e. e.written.items ≡ text_of (Finished document)) }
     ensures said { IfOk result (λ e. e.said.items ≡ []) }

@@ -9,7 +9,7 @@ ghost use Rattle.command_endings.specs.Commands.GeneralReducing.{conflicts_line}
 use crate::ending::Ending;
 use crate::lines::conflicts_line;
 use crate::protect::problem_of;
-use crate::reduce::{printed, written};
+use crate::reduce::{printed, reduced};
 use crate::status::Status;
 use command_words::{Command, Options};
 use lk_model::{Document, Formula, OpenDocument, OutOfMemory};
@@ -38,15 +38,16 @@ pub fn answer<R: Threads + Sync, G: Gate>(
         conflicts,
         options.workers.get(),
     ) {
-        Ok(found) => {
-            let document = problem.document(alloc, found)?;
-            written(alloc, document)
-        }
+        Ok(found) => reduced(alloc, problem, found),
         Err(GeneralStop::Unfinished(rounds)) => {
             let document = problem.open_document(conflicts.get(), rounds);
             unfinished(alloc, document)
         }
-        Err(GeneralStop::OutOfMemory) => Err(OutOfMemory),
+        Err(GeneralStop::OutOfMemory) => {
+            // A drop by a call is proved once. Each exit would spell it out.
+            drop(problem);
+            Err(OutOfMemory)
+        }
     }
 }
 

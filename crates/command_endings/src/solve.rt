@@ -1,8 +1,13 @@
 //! What `solve` answers.
-ghost use Rattle.std.specs.Prelude.{◌≡◌, ◌∷◌, [], IfOk};
+ghost use Rattle.std.specs.Prelude.{◌≡◌, ◌∷◌, ◌<◌, ◌^◌, [], None, IfOk, IsTrue};
+ghost use Rattle.lk_model.specs.Documents.Text.{text_of};
+ghost use Rattle.lk_model.specs.Formulas.Formula.{is_formula, IsWithinLimits};
+ghost use Rattle.lk_model.specs.declared.document.Document.TheVariants.{Unfinished};
 ghost use Rattle.answer_check.specs.Answers.{answer_text};
 ghost use Rattle.command_words.specs.OptionRows.{values_of};
+ghost use Rattle.reductions.specs.Founds.{open_document_of};
 ghost use Rattle.command_endings.specs.Answering.{IsAnswer};
+ghost use Rattle.command_endings.specs.Commands.GeneralReducing.{conflicts_line};
 
 use crate::ending::Ending;
 use crate::reduce_general::unfinished;
@@ -10,7 +15,7 @@ use crate::status::Status;
 use answer_check::{Answer, print_answer};
 use command_words::{Command, Options};
 use kernel_solve::{Solved, solve};
-use lk_model::{Formula, List, OutOfMemory, Round};
+use lk_model::{Budget, Formula, List, OutOfMemory, Round};
 use lk_outside::Gate;
 use reductions::open_document_of;
 use std::alloc::Global;
@@ -32,11 +37,7 @@ pub fn answer<R: Threads + Sync, G: Gate>(
     match solved {
         Solved::Model(literals) => answered(alloc, Status::Satisfiable, Answer::Model(literals)),
         Solved::Refuted(round) => answered(alloc, Status::Unsatisfiable, Answer::Refuted(round)),
-        Solved::Unfinished(round) => {
-            let rounds = one_round(alloc, round)?;
-            let document = open_document_of(formula, None, conflicts.get(), rounds);
-            unfinished(alloc, document)
-        }
+        Solved::Unfinished(round) => unfinished_round(alloc, formula, conflicts, round),
     }
 }
 
@@ -53,8 +54,30 @@ pub(crate) fn answered(alloc: Global, status: Status, answer: Answer) -> Result<
     })
 }
 
+/// The ending of a search over a formula that used up its budget in its one round.
+pub(crate) fn unfinished_round(
+    alloc: Global,
+    formula: Formula,
+    conflicts: Budget,
+    round: Round,
+) -> Result<Ending, OutOfMemory>
+    ensures status { IfOk result (λ e. e.status ≡ Status.Budget) }
+    ensures written { IfOk result (λ e.
+        e.written.items ≡ text_of (Unfinished (open_document_of formula None conflicts (round ∷ [])))) }
+    ensures said { IfOk result (λ e. e.said.items ≡ conflicts_line conflicts) }
+    ensures most { conflicts < 2 ^ 63 }
+    ensures formula { IfOk result (λ _. IsTrue (is_formula formula)) }
+    ensures limits { IfOk result (λ _. IsWithinLimits formula) }
+{
+    let learned = conflicts.get();
+    match one_round(alloc, round) {
+        Ok(rounds) => unfinished(alloc, open_document_of(formula, None, learned, rounds)),
+        Err(OutOfMemory) => Err(OutOfMemory),
+    }
+}
+
 /// A list of one round.
-pub(crate) fn one_round(alloc: Global, round: Round) -> Result<List<Round>, OutOfMemory>
+fn one_round(alloc: Global, round: Round) -> Result<List<Round>, OutOfMemory>
     ensures { IfOk result (λ rounds. rounds ≡ round ∷ []) }
 {
     let mut rounds = List::new(alloc);

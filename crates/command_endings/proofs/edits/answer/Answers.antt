@@ -10,8 +10,8 @@ returns c = record {
   result = refl;
   answers = record {
     status_is = refl;
-    writes = subst (λ (edits : List Edit). WritesKernels (states (live_of c.args.read.now.formula) edits) c.in_ok-written.written.items) c.as_slice.ensures
-        (subst (λ (s : LiveClauses). WritesKernels (states s c.as_slice.result.now) c.in_ok-written.written.items) c.in_ok-live.ensures c.in_ok-written.ensures.kernels);
+    writes = subst (λ (edits : List Edit). WritesKernels (states (live_of c.args.read.now.formula) edits) c.in_ok-written.field-0.items) c.as_slice.ensures
+        (subst (λ (s : LiveClauses). WritesKernels (states s c.as_slice.result.now) c.in_ok-written.field-0.items) c.in_ok-live.ensures c.in_ok-written.ensures.kernels);
     silent = c.new.ensures.items;
   };
 }

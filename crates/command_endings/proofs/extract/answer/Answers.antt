@@ -1,6 +1,7 @@
-use Rattle.std.proofs.Common.{◌≡◌, ◌∙◌, ℕ, ◌<◌, ◌^◌, [], None, refl, sym, ap, subst}
+use Rattle.std.proofs.Common.{◌≡◌, ◌∷◌, [], None, refl, sym, subst}
 use Rattle.std.specs.Prelude.{IsTrue}
 use Rattle.lk_model.specs.Documents.Text.{text_of}
+use Rattle.lk_model.specs.Formulas.Formula.{is_formula, IsWithinLimits}
 use Rattle.lk_model.specs.declared.document.Document.TheVariants.{Unfinished}
 use Rattle.mus_core.specs.Found.{IsMus, TakesEmpty}
 use Rattle.mus_core.specs.declared.mus.Mus.{Mus}
@@ -14,7 +15,7 @@ use Rattle.command_endings.specs.Commands.GeneralReducing.{conflicts_line}
 use Rattle.command_endings.specs.Statuses.{is_result}
 use Rattle.command_endings.specs.declared.status.Status.{Status}
 use Rattle.command_endings.specs.declared.status.Status.TheVariants.{Done, Budget, Satisfiable}
-use Rattle.command_endings.proofs.EndingFacts.{by_three}
+use Rattle.command_endings.proofs.EndingFacts.{by_three, by_five}
 use Rattle.command_endings.proofs.ExtractEndings.{core_answers, model_answers, open_answers}
 use Rattle.command_endings.proofs.extract.answer.Goals as goal
 
@@ -50,14 +51,12 @@ returns c =
     let F = c.args.formula in
     let options = values_of c.args.options.now in
     let u = c.in-Unfinished in
-    let rounds = c.in_ok-rounds-in-Unfinished.rounds in
-    let document = c.open_document_of-document in
-    let budget = c.get.ensures in
+    let d = open_document_of u.texts None options.conflicts (u.round ∷ []) in
     let h = subst (λ (m : Mus). IsMus F options.conflicts m) u.is c.in_ok-found.ensures.found in
-    let told : document.result ≡ open_document_of u.texts None options.conflicts rounds = document.ensures.document ∙ ap (λ (n : ℕ). open_document_of u.texts None n rounds) budget.value in
-    by_three (λ e. e.status ≡ Budget) (λ e. e.written.items ≡ text_of (Unfinished document.result)) (λ e. e.said.items ≡ conflicts_line document.result.learned) (IsAnswer command.Mus options (F, tt)) c.unfinished.result c.unfinished.ensures.status c.unfinished.ensures.written c.unfinished.ensures.said
-    (λ e status written said. record {
+    let told = c.unfinished_round.ensures in
+    by_five (λ e. e.status ≡ Budget) (λ e. e.written.items ≡ text_of (Unfinished d)) (λ e. e.said.items ≡ conflicts_line options.conflicts) (λ _. IsTrue (is_formula u.texts)) (λ _. IsWithinLimits u.texts) (IsAnswer command.Mus options (F, tt)) c.unfinished_round.result
+    told.status told.written told.said told.formula told.limits
+    (λ e status written said formula limits. record {
       result = subst (λ (s : Status). IsTrue (is_result s)) (sym status) refl;
-      answers = open_answers options F u.part u.texts u.round rounds document.result e.status e.written.items e.said.items document.ensures.formula document.ensures.limits h
-          (subst (λ (n : ℕ). n < 2 ^ 63) budget.value budget.most) c.in_ok-rounds-in-Unfinished.ensures told status written said;
+      answers = open_answers options F u.part u.texts u.round (u.round ∷ []) d e.status e.written.items e.said.items formula limits h told.most refl refl status written said;
     })

@@ -4,7 +4,7 @@ use Rattle.lk_model.specs.Documents.Text.{text_of}
 use Rattle.lk_model.specs.Formulas.Formula.{Cnf}
 use Rattle.lk_model.specs.declared.document.Document.TheVariants.{Done as Finished, Unfinished}
 use Rattle.part_kernels.specs.ByParts.{IsFirstUnfinished}
-use Rattle.reductions.specs.Founds.{IsKernelFound, IsStopOf, open_document_of}
+use Rattle.reductions.specs.Founds.{IsKernelFound, IsStopOf, document_of, open_document_of}
 use Rattle.reductions.specs.declared.find.GeneralStop.{GeneralStop}
 use Rattle.reductions.specs.declared.find.GeneralStop.TheVariants.{Unfinished as AnUnfinished}
 use Rattle.reductions.specs.Protecting.{line_of}
@@ -17,18 +17,25 @@ use Rattle.command_endings.specs.declared.status.Status.{Status}
 use Rattle.command_endings.specs.declared.status.Status.TheVariants.{Done, Budget}
 use Rattle.command_endings.proofs.GeneralEndings.{done_answers, open_answers}
 use Rattle.command_endings.proofs.EndingFacts.{by_three}
+use Rattle.command_endings.proofs.Problems.{positions_left}
 use Rattle.command_endings.proofs.reduce_general.answer.Goals as goal
 
-pub returns-in_ok-document-in-Ok : goal.returns-in_ok-document-in-Ok
-returns-in_ok-document-in-Ok g c =
+pub reduced-requires : goal.reduced-requires
+reduced-requires g c =
+    record { positions = positions_left c.args.formula (values_of c.args.options.now).protect c.in_ok-problem.problem c.left.result.now c.in-Ok.found.kept c.in_ok-problem.ensures c.left.ensures c.in-Ok.ensures.found.kernel.positions }
+
+pub returns-in-Ok : goal.returns-in-Ok
+returns-in-Ok g c =
     let options = values_of c.args.options.now in
     let F = c.args.formula in
-    let d = c.in_ok-document-in-Ok in
-    by_three (λ e. e.status ≡ Done) (λ e. e.written.items ≡ text_of (Finished d.document)) (λ e. e.said.items ≡ []) (IsAnswer ReduceGeneral options (F, tt)) c.written.result c.written.ensures.status c.written.ensures.written c.written.ensures.said
+    let p = c.in_ok-problem.problem in
+    let found = c.in-Ok.found in
+    let told = c.reduced.ensures in
+    by_three (λ e. e.status ≡ Done) (λ e. e.written.items ≡ text_of (Finished (document_of p.formula (line_of p) found))) (λ e. e.said.items ≡ []) (IsAnswer ReduceGeneral options (F, tt)) c.reduced.result told.status told.written told.said
     (λ e status written said. record {
       result = subst (λ (s : Status). IsTrue (is_result s)) (sym status) refl;
-      answers = done_answers options F c.in_ok-problem.problem c.in-Ok.found d.document e.status e.written.items e.said.items c.in_ok-problem.ensures d.ensures.formula d.ensures.limits
-          (subst (λ (G : Cnf). IsKernelFound G options.conflicts c.in-Ok.found) c.left.ensures c.in-Ok.ensures.found) d.ensures.document status written said;
+      answers = done_answers options F p found (document_of p.formula (line_of p) found) e.status e.written.items e.said.items c.in_ok-problem.ensures told.formula told.limits
+          (subst (λ (G : Cnf). IsKernelFound G options.conflicts found) c.left.ensures c.in-Ok.ensures.found) refl status written said;
     })
 
 pub returns-in-Err-Unfinished : goal.returns-in-Err-Unfinished

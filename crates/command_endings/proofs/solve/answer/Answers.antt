@@ -1,4 +1,4 @@
-use Rattle.std.proofs.Common.{◌≡◌, ◌∙◌, ℕ, [], None, refl, sym, ap, subst}
+use Rattle.std.proofs.Common.{◌≡◌, ◌∷◌, [], None, refl, sym, subst}
 use Rattle.std.specs.Prelude.{IsTrue}
 use Rattle.lk_model.specs.Documents.Text.{text_of}
 use Rattle.lk_model.specs.declared.document.Document.TheVariants.{Unfinished}
@@ -42,17 +42,15 @@ returns-in-Refuted g c =
       answers = refuted_answers options F round e.status e.written.items e.said.items h status written said;
     })
 
-pub returns-in_ok-rounds-in-Unfinished : goal.returns-in_ok-rounds-in-Unfinished
-returns-in_ok-rounds-in-Unfinished g c =
+pub returns-in-Unfinished : goal.returns-in-Unfinished
+returns-in-Unfinished g c =
     let F = c.args.formula in
     let options = values_of c.args.options.now in
     let round = c.in-Unfinished.round in
-    let rounds = c.in_ok-rounds-in-Unfinished.rounds in
-    let document = c.open_document_of-document in
     let h = subst (λ (s : Solved). IsSolved F options.conflicts s) c.in-Unfinished.is c.in_ok-solved.ensures in
-    let told : document.result ≡ open_document_of F None options.conflicts rounds = document.ensures.document ∙ ap (λ (n : ℕ). open_document_of F None n rounds) c.get.ensures.value in
-    by_three (λ e. e.status ≡ Budget) (λ e. e.written.items ≡ text_of (Unfinished document.result)) (λ e. e.said.items ≡ conflicts_line document.result.learned) (IsAnswer Solve options (F, tt)) c.unfinished.result c.unfinished.ensures.status c.unfinished.ensures.written c.unfinished.ensures.said
+    let told = c.unfinished_round.ensures in
+    by_three (λ e. e.status ≡ Budget) (λ e. e.written.items ≡ text_of (Unfinished (open_document_of F None options.conflicts (round ∷ [])))) (λ e. e.said.items ≡ conflicts_line options.conflicts) (IsAnswer Solve options (F, tt)) c.unfinished_round.result told.status told.written told.said
     (λ e status written said. record {
       result = subst (λ (s : Status). IsTrue (is_result s)) (sym status) refl;
-      answers = open_answers options F round rounds document.result e.status e.written.items e.said.items h c.in_ok-rounds-in-Unfinished.ensures told status written said;
+      answers = open_answers options F round (round ∷ []) (open_document_of F None options.conflicts (round ∷ [])) e.status e.written.items e.said.items h refl refl status written said;
     })
