@@ -42,24 +42,16 @@ pub fn answer<R: Threads + Sync, G: Gate>(
     let formula = demo_formula(alloc, number)?;
     let conflicts = Budget::new(CONFLICTS).unwrap();
     match find_general(rt, alloc, gate, &formula, conflicts, 1) {
-        Ok(found) => {
-            let lines = lines_of(rt, alloc, gate, number, &formula, found);
-            // A drop by a call is proved once. Each exit would spell it out.
-            drop(formula);
-            Ok(Ending {
-                status: Status::Done,
-                written: lines?,
-                said: Vec::new(alloc),
-            })
-        }
+        Ok(found) => Ok(Ending {
+            status: Status::Done,
+            written: lines_of(rt, alloc, gate, number, &formula, found)?,
+            said: Vec::new(alloc),
+        }),
         Err(GeneralStop::Unfinished(rounds)) => {
             let document = open_document_of(formula, None, CONFLICTS, rounds);
             unfinished(alloc, document)
         }
-        Err(GeneralStop::OutOfMemory) => {
-            drop(formula);
-            Err(OutOfMemory)
-        }
+        Err(GeneralStop::OutOfMemory) => Err(OutOfMemory),
     }
 }
 
