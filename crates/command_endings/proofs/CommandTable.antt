@@ -8,7 +8,7 @@ use Rattle.lean_checker.specs.declared.verdict.Verdict.{Verdict}
 use Rattle.lean_checker.specs.declared.verdict.Verdict.TheVariants as verdict
 use Rattle.command_words.specs.Shapes.{inputs_of}
 use Rattle.command_endings.specs.Commands.{Answers, Decides}
-use Rattle.command_endings.specs.Commands.Checking.{verdict_status}
+use Rattle.status_lines.specs.Verdicts.{verdict_status}
 use Rattle.command_endings.specs.Commands.Demonstrating as demo
 use Rattle.command_endings.specs.Commands.Extracting as mus
 use Rattle.command_endings.specs.Commands.GeneralReducing as general
@@ -18,9 +18,9 @@ use Rattle.command_endings.specs.Commands.Extending.{Outcome, Open, Fails, Exten
 use Rattle.command_endings.specs.Commands.LinearReducing.{protected}
 use Rattle.command_inputs.specs.Inputs.{Values}
 use Rattle.command_words.specs.Settings.{Options}
-use Rattle.command_endings.specs.declared.status.Status.{Status}
-use Rattle.command_endings.specs.Statuses.{is_silent}
-use Rattle.command_endings.specs.declared.status.Status.TheVariants.{Done, Words, Input, ReadFault, WriteFault, Budget, TooWide, TooLarge, Refused, Memory, Satisfiable, Unsatisfiable}
+use Rattle.status_lines.specs.declared.status.Status.{Status}
+use Rattle.status_lines.specs.Statuses.{is_silent}
+use Rattle.status_lines.specs.declared.status.Status.TheVariants.{Done, Words, Input, ReadFault, WriteFault, Budget, TooWide, TooLarge, Refused, Memory, Satisfiable, Unsatisfiable}
 use Rattle.command_words.specs.declared.command.Command.{Command}
 use Rattle.command_words.specs.declared.command.Command.TheVariants.{ReducePure, ReduceMatching, ReduceLinear, ReduceGeneral, Check, Extend, Report, Demo, Solve, Verify, Deficiency, Edits, Mus}
 use Rattle.command_endings.proofs.LinearEndings.{run_silent}

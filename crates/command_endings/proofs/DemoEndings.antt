@@ -21,14 +21,14 @@ use Rattle.lean_checker.specs.declared.verdict.Verdict.TheVariants.{Accepted}
 use Rattle.part_kernels.specs.ByParts.{IsFirstUnfinished}
 use Rattle.demo_formula.specs.Demo.{demo_formula}
 use Rattle.command_endings.specs.Commands.Demonstrating.{conflicts, demo_rows, Answers, WritesDemo, IsCheckedSize}
-use Rattle.command_endings.specs.Commands.GeneralReducing.{conflicts_line}
+use Rattle.status_lines.specs.RunLines.{conflicts_line}
 use Rattle.command_endings.specs.Commands.Reporting.{IsKernelSize, row_line}
 use Rattle.reductions.specs.Founds.{document_of, open_document_of, IsFoundFor, IsKernelFound}
 use Rattle.command_words.specs.Settings.{Options, options_by}
 use Rattle.reductions.specs.declared.document.Found.{Found}
-use Rattle.command_endings.specs.declared.ending.Ending.{Ending}
-use Rattle.command_endings.specs.declared.status.Status.{Status}
-use Rattle.command_endings.specs.declared.status.Status.TheVariants.{Budget}
+use Rattle.status_lines.specs.declared.ending.Ending.{Ending}
+use Rattle.status_lines.specs.declared.status.Status.{Status}
+use Rattle.status_lines.specs.declared.status.Status.TheVariants.{Budget}
 use Rattle.command_endings.proofs.GeneralEndings.{writes_open}
 use Rattle.command_endings.proofs.KernelSizes.{size_kept}
 

@@ -1,7 +1,7 @@
 -- What is known of an ending.
 use Rattle.std.proofs.Common.{Result, Ok, Err, IfOk}
 use Rattle.lk_model.specs.declared.list.OutOfMemory.{OutOfMemory}
-use Rattle.command_endings.specs.declared.ending.Ending.{Ending}
+use Rattle.status_lines.specs.declared.ending.Ending.{Ending}
 
 -- what is known of an ending, where there is one
 pub by_one : (P S : Ending → Type 0) (r : Result Ending OutOfMemory) → IfOk r P → ((e : Ending) → P e → S e) → IfOk r S

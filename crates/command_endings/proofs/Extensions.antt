@@ -19,9 +19,9 @@ use Rattle.lk_model.proofs.Founds.{none_found}
 use Rattle.kernel_laws.proofs.Passed.{HaveNoPlace, none_fails, has_passed, same_numbers, in_form}
 use Rattle.lean_checker.proofs.ExtendFailures.{model_place}
 use Rattle.command_endings.specs.Commands.Extending.{Outcome, Open, Fails, Extends, extension, outcome_by, outcome_status, written_of, said_of, model_line, failure_line, Tells}
-use Rattle.command_endings.specs.Statuses.{is_result}
-use Rattle.command_endings.specs.declared.status.Status.{Status}
-use Rattle.command_endings.specs.declared.status.Status.TheVariants.{Done, Refused}
+use Rattle.status_lines.specs.Statuses.{is_result}
+use Rattle.status_lines.specs.declared.status.Status.{Status}
+use Rattle.status_lines.specs.declared.status.Status.TheVariants.{Done, Refused}
 
 -- the status of an outcome is one of a result
 pub outcome_result : (o : Outcome) (status : Status) → status ≡ outcome_status o → IsTrue (is_result status)

@@ -22,10 +22,10 @@ use Rattle.answer_check.specs.AnswerLaw.{written_core}
 use Rattle.answer_check.specs.declared.answer.Answer.TheVariants.{Model, Core}
 use Rattle.answer_check.proofs.AnswerLaws.{answer_law}
 use Rattle.command_words.specs.Settings.{Options}
-use Rattle.command_endings.specs.Commands.GeneralReducing.{conflicts_line}
+use Rattle.status_lines.specs.RunLines.{conflicts_line}
 use Rattle.command_endings.specs.Commands.Extracting.{WritesCore, WritesUnfinished, Answers, Decides}
-use Rattle.command_endings.specs.declared.status.Status.{Status}
-use Rattle.command_endings.specs.declared.status.Status.TheVariants.{Done, Words, Input, ReadFault, WriteFault, Budget, TooWide, TooLarge, Refused, Memory, Satisfiable, Unsatisfiable}
+use Rattle.status_lines.specs.declared.status.Status.{Status}
+use Rattle.status_lines.specs.declared.status.Status.TheVariants.{Done, Words, Input, ReadFault, WriteFault, Budget, TooWide, TooLarge, Refused, Memory, Satisfiable, Unsatisfiable}
 use Rattle.command_endings.proofs.SolveEndings.{writes_model}
 use Rattle.command_endings.proofs.VerifiedAnswers.{minimal_core}
 

@@ -28,14 +28,15 @@ use Rattle.kernel_laws.proofs.Protected.Parts.{run_law}
 use Rattle.round_laws.specs.Budgets.{AreWithinBudget, CanBeFinished}
 use Rattle.round_laws.proofs.RoundLaws.{round_law}
 use Rattle.part_kernels.specs.ByParts.{CanBeDone, IsFirstUnfinished}
-use Rattle.command_endings.specs.Commands.GeneralReducing.{IsEnough, WritesFinished, WritesUnfinished, conflicts_line, Writes, Answers}
+use Rattle.command_endings.specs.Commands.GeneralReducing.{IsEnough, WritesFinished, WritesUnfinished, Writes, Answers}
+use Rattle.status_lines.specs.RunLines.{conflicts_line}
 use Rattle.reductions.specs.Founds.{document_of, open_document_of, rounds_in, IsKernelFound}
 use Rattle.reductions.specs.Protecting.{line_of, left_of, IsProblem}
 use Rattle.command_words.specs.Settings.{Options}
 use Rattle.reductions.specs.declared.document.Found.{Found}
 use Rattle.reductions.specs.declared.problem.Problem.{Problem}
-use Rattle.command_endings.specs.declared.status.Status.{Status}
-use Rattle.command_endings.specs.declared.status.Status.TheVariants.{Done, Budget}
+use Rattle.status_lines.specs.declared.status.Status.{Status}
+use Rattle.status_lines.specs.declared.status.Status.TheVariants.{Done, Budget}
 use Rattle.reductions.proofs.Protecting.{line_form}
 
 -- WHERE ALL OF THE KERNEL IS FOUND

@@ -10,12 +10,13 @@ use Rattle.linear_kernel.specs.Answers.{AnswersRun}
 use Rattle.linear_kernel.specs.declared.stop.LinearStop.{LinearStop}
 use Rattle.linear_kernel.specs.declared.stop.LinearStop.TheVariants as stop
 use Rattle.reductions.specs.Founds.{EndsDone}
-use Rattle.command_endings.specs.Commands.LinearReducing.{protected, status_by, line_by, budget_line, too_large_line, Writes, Answers}
-use Rattle.command_endings.specs.LinearStops.{TellsStop}
+use Rattle.command_endings.specs.Commands.LinearReducing.{protected, status_by, line_by, Writes, Answers}
+use Rattle.status_lines.specs.RunLines.{budget_line, too_large_line}
+use Rattle.status_lines.specs.LinearStops.{TellsStop}
 use Rattle.command_words.specs.Settings.{Options}
-use Rattle.command_endings.specs.Statuses.{is_result, is_silent}
-use Rattle.command_endings.specs.declared.status.Status.{Status}
-use Rattle.command_endings.specs.declared.status.Status.TheVariants.{Done, Budget, TooWide, TooLarge}
+use Rattle.status_lines.specs.Statuses.{is_result, is_silent}
+use Rattle.status_lines.specs.declared.status.Status.{Status}
+use Rattle.status_lines.specs.declared.status.Status.TheVariants.{Done, Budget, TooWide, TooLarge}
 
 -- a run that ends done has the status of it
 pub ends_done : (pivots : ℕ) (rest : Cnf) → EndsDone rest pivots → status_by (is_too_large rest) (linear_run rest pivots) ≡ Done

@@ -11,9 +11,10 @@ use Rattle.lean_checker.specs.Accepted.{IsReducedBy}
 use Rattle.lean_checker.specs.Verdicts.{verdict_by, verdict_of, verdict_words}
 use Rattle.lean_checker.specs.declared.verdict.Verdict.{Verdict}
 use Rattle.lean_checker.specs.declared.verdict.Verdict.TheVariants as verdict
-use Rattle.command_endings.specs.Commands.Checking.{Answers, IsProved, verdict_status}
-use Rattle.command_endings.specs.Statuses.{is_result}
-use Rattle.command_endings.specs.declared.status.Status.{Status}
+use Rattle.command_endings.specs.Commands.Checking.{Answers, IsProved}
+use Rattle.status_lines.specs.Verdicts.{verdict_status}
+use Rattle.status_lines.specs.Statuses.{is_result}
+use Rattle.status_lines.specs.declared.status.Status.{Status}
 
 -- the status of a verdict is one of a result
 pub verdict_result : (v : Verdict) (status : Status) → status ≡ verdict_status v → IsTrue (is_result status)

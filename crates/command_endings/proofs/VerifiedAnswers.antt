@@ -20,9 +20,9 @@ use Rattle.answer_check.specs.AnswerLaw.{Shows}
 use Rattle.answer_check.specs.declared.answer.Answer.{Answer}
 use Rattle.answer_check.specs.declared.answer.Answer.TheVariants.{Model, Refuted, Core}
 use Rattle.answer_check.proofs.AnswerLaws.{answer_law}
-use Rattle.command_endings.specs.Commands.Checking.{verdict_status}
+use Rattle.status_lines.specs.Verdicts.{verdict_status}
 use Rattle.command_endings.specs.Commands.Verifying.{Answers, IsMinimalCore, IsProved, verdict_by}
-use Rattle.command_endings.specs.declared.status.Status.{Status}
+use Rattle.status_lines.specs.declared.status.Status.{Status}
 
 -- the positions of a core in form
 core_positions : (F : Cnf) (core : MusAnswer) → is_answer F.vars (length F.clauses) (Core core) ≡ true → are_positions F core.core ≡ true

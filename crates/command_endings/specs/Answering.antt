@@ -5,8 +5,8 @@ use Rattle.command_words.specs.Shapes.{inputs_of}
 use Rattle.command_words.specs.declared.command.Command.{Command}
 use Rattle.command_inputs.specs.Inputs.{Values}
 use Rattle.command_endings.specs.Commands.{Answers}
-use Rattle.command_endings.specs.Statuses.{is_result}
-use Rattle.command_endings.specs.declared.ending.Ending.{Ending}
+use Rattle.status_lines.specs.Statuses.{is_result}
+use Rattle.status_lines.specs.declared.ending.Ending.{Ending}
 
 -- with these options the command may answer these inputs so
 pub record IsAnswer (command : Command) (options : Options) (values : Values (inputs_of command)) (e : Ending) : Type 0 where

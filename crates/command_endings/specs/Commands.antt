@@ -6,7 +6,7 @@ use Rattle.command_words.specs.Shapes.{inputs_of}
 use Rattle.command_words.specs.declared.command.Command.{Command}
 use Rattle.command_words.specs.declared.command.Command.TheVariants.{ReducePure, ReduceMatching, ReduceLinear, ReduceGeneral, Check, Extend, Report, Demo, Solve, Verify, Deficiency, Edits, Mus}
 use Rattle.command_inputs.specs.Inputs.{Values}
-use Rattle.command_endings.specs.declared.status.Status.{Status}
+use Rattle.status_lines.specs.declared.status.Status.{Status}
 pub mod Reducing
 pub mod LinearReducing
 pub mod GeneralReducing

@@ -1,7 +1,4 @@
-pub mod Statuses
 pub mod Commands
 pub mod Answering
 pub mod Counting
-pub mod LinearStops
 pub mod Listing
-pub mod StopLines

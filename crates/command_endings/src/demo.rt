@@ -10,18 +10,17 @@ ghost use Rattle.lk_model.specs.declared.class.Class.TheVariants.{Matching};
 ghost use Rattle.command_endings.specs.Commands.Demonstrating.{conflicts, Answers, WritesDemo};
 ghost use Rattle.command_endings.specs.Commands.Reporting.{IsKernelSize};
 ghost use Rattle.reductions.specs.Founds.{IsKernelFound};
-ghost use Rattle.command_endings.specs.Statuses.{is_result};
+ghost use Rattle.status_lines.specs.Statuses.{is_result};
 
-use crate::ending::Ending;
 use crate::reduce_general::unfinished;
 use crate::rows::{Row, text_of};
-use crate::status::Status;
 use demo_formula::demo_formula;
 use lean_checker::{Verdict, check, put_verdict};
 use lk_model::{Budget, Document, DoneDocument, Formula, OutOfMemory};
 use lk_outside::Gate;
 use part_kernels::matching_by_parts;
 use reductions::{Found, GeneralStop, document_of, find_general, open_document_of};
+use status_lines::{Ending, Status};
 use std::alloc::Global;
 use std::thread::Threads;
 

@@ -10,15 +10,14 @@ ghost use Rattle.command_words.specs.OptionRows.{values_of};
 ghost use Rattle.command_endings.specs.Answering.{IsAnswer};
 ghost use Rattle.command_endings.specs.Commands.Editing.{WritesKernels, WritesKernel};
 
-use crate::ending::Ending;
 use crate::numbers::put_closed;
-use crate::status::Status;
 use bipartite_match::Steps;
 use command_inputs::Edited;
 use command_words::{Command, Options};
 use edit_text::Edit;
 use lk_model::OutOfMemory;
 use match_edits::{EditStop, Live};
+use status_lines::{Ending, Status};
 use std::alloc::Global;
 
 /// The matching kernel of a formula, and that of what is live behind each of its edits.

@@ -8,12 +8,11 @@ ghost use Rattle.lk_model.specs.Documents.Form.{is_done_in_form, is_in_form};
 ghost use Rattle.lk_model.specs.declared.document.Document.TheVariants.{Done as Finished};
 ghost use Rattle.command_endings.specs.Commands.Extending.{Tells, failure_line};
 
-use crate::ending::Ending;
-use crate::status::Status;
 use cert_text::print_model;
 use lean_checker::{Verdict, check_extend, put_verdict};
 use lk_model::{Document, DoneDocument, Formula, List, Lit, OutOfMemory, Why};
 use partial_assign::{Partial, assignment_of, extend_total};
+use status_lines::{Ending, Status};
 use std::alloc::Global;
 
 /// The ending that tells what comes of a model: 5 where the document is unfinished, 8 where a check fails,

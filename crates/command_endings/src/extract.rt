@@ -6,13 +6,12 @@ ghost use Rattle.answer_check.specs.AnswerLaw.{written_core};
 ghost use Rattle.command_words.specs.OptionRows.{values_of};
 ghost use Rattle.command_endings.specs.Answering.{IsAnswer};
 
-use crate::ending::Ending;
 use crate::solve::{answered, unfinished_round};
-use crate::status::Status;
 use answer_check::Answer;
 use command_words::{Command, Options};
 use lk_model::{Formula, MusAnswer, MusResult, OutOfMemory};
 use mus_core::{Mus, minimal};
+use status_lines::{Ending, Status};
 use std::alloc::Global;
 
 /// A minimally unsatisfiable core of a formula, or a model, or the unfinished document of a search that used up its

@@ -6,13 +6,12 @@ ghost use Rattle.command_words.specs.OptionRows.{values_of};
 ghost use Rattle.command_endings.specs.Answering.{IsAnswer};
 ghost use Rattle.command_endings.specs.Commands.Measuring.{lines_of, own_words};
 
-use crate::ending::Ending;
 use crate::numbers::put_closed;
-use crate::status::Status;
 use command_words::{Command, Options};
 use deficiency::{Deficiency, max_deficiency};
 use line_text::{put, put_number};
 use lk_model::{Formula, OutOfMemory, Own};
+use status_lines::{Ending, Status};
 use std::alloc::Global;
 
 /// The maximal deficiency of a formula, with what shows it.

@@ -8,18 +8,14 @@ ghost use Rattle.reductions.specs.Founds.{document_of};
 ghost use Rattle.reductions.specs.Protecting.{line_of};
 ghost use Rattle.command_words.specs.OptionRows.{values_of};
 ghost use Rattle.command_endings.specs.Answering.{IsAnswer};
-ghost use Rattle.command_endings.specs.LinearStops.{TellsStop};
 
-use crate::ending::Ending;
-use crate::lines::{budget_line, too_large_line, too_wide_line};
 use crate::protect::problem_of;
-use crate::status::Status;
 use cert_text::print;
 use command_words::{Command, Options};
-use linear_kernel::LinearStop;
 use lk_model::{Document, DoneDocument, Formula, OutOfMemory};
 use lk_outside::Gate;
 use reductions::{Found, Problem, find_linear, find_matching, find_pure};
+use status_lines::{Ending, Status, ending_of_linear_stop};
 use std::alloc::Global;
 use std::thread::Threads;
 
@@ -75,7 +71,7 @@ pub fn answer_linear(
         Ok(found) => reduced(alloc, problem, found),
         Err(stop) => {
             drop(problem);
-            stopped(alloc, stop)
+            ending_of_linear_stop(alloc, stop)
         }
     }
 }
@@ -92,40 +88,6 @@ pub(crate) fn reduced(alloc: Global, problem: Problem, found: Found) -> Result<E
 {
     let document = problem.document(alloc, found)?;
     written(alloc, document)
-}
-
-/// The ending that says why there is no linear kernel.
-fn stopped(alloc: Global, stop: LinearStop) -> Result<Ending, OutOfMemory>
-    ensures { IfOk result (λ e. TellsStop stop e.status e.written.items e.said.items) }
-{
-    match stop {
-        LinearStop::TooLarge { vars, clauses } => {
-            let line = too_large_line(alloc, vars, clauses)?;
-            Ok(said(alloc, Status::TooLarge, line))
-        }
-        LinearStop::TooWide { pivots, wide } => {
-            let line = too_wide_line(alloc, pivots, wide)?;
-            Ok(said(alloc, Status::TooWide, line))
-        }
-        LinearStop::Budget { pivots } => {
-            let line = budget_line(alloc, pivots)?;
-            Ok(said(alloc, Status::Budget, line))
-        }
-        LinearStop::OutOfMemory => Err(OutOfMemory),
-    }
-}
-
-/// The ending that writes nothing, and says a line.
-fn said(alloc: Global, status: Status, line: Vec<u8>) -> Ending
-    ensures status { result.status ≡ status }
-    ensures written { result.written.items ≡ [] }
-    ensures said { result.said.items ≡ line.items }
-{
-    Ending {
-        status,
-        written: Vec::new(alloc),
-        said: line,
-    }
 }
 
 /// The ending that writes a document.

@@ -4,17 +4,15 @@ ghost use Rattle.lk_model.specs.Documents.Text.{text_of};
 ghost use Rattle.lk_model.specs.declared.document.Document.TheVariants.{Unfinished};
 ghost use Rattle.command_words.specs.OptionRows.{values_of};
 ghost use Rattle.command_endings.specs.Answering.{IsAnswer};
-ghost use Rattle.command_endings.specs.Commands.GeneralReducing.{conflicts_line};
+ghost use Rattle.status_lines.specs.RunLines.{conflicts_line};
 
-use crate::ending::Ending;
-use crate::lines::conflicts_line;
 use crate::protect::problem_of;
 use crate::reduce::{printed, reduced};
-use crate::status::Status;
 use command_words::{Command, Options};
 use lk_model::{Document, Formula, OpenDocument, OutOfMemory};
 use lk_outside::Gate;
 use reductions::{GeneralStop, find_general};
+use status_lines::{Ending, Status, conflicts_line};
 use std::alloc::Global;
 use std::thread::Threads;
 

@@ -7,13 +7,12 @@ ghost use Rattle.command_endings.specs.Answering.{IsAnswer};
 ghost use Rattle.command_endings.specs.Commands.Reporting.{IsKernelSize, WritesReport};
 
 use crate::counts::counts_of;
-use crate::ending::Ending;
 use crate::rows::{Row, text_of};
-use crate::status::Status;
 use command_words::{Command, Options};
 use lk_model::{Formula, OutOfMemory};
 use matching_kernel::matching_kernel;
 use pure_strip::pure_kernel;
+use status_lines::{Ending, Status};
 use std::alloc::Global;
 
 /// The numbers of a formula.

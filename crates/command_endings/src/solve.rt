@@ -7,17 +7,16 @@ ghost use Rattle.answer_check.specs.Answers.{answer_text};
 ghost use Rattle.command_words.specs.OptionRows.{values_of};
 ghost use Rattle.reductions.specs.Founds.{open_document_of};
 ghost use Rattle.command_endings.specs.Answering.{IsAnswer};
-ghost use Rattle.command_endings.specs.Commands.GeneralReducing.{conflicts_line};
+ghost use Rattle.status_lines.specs.RunLines.{conflicts_line};
 
-use crate::ending::Ending;
 use crate::reduce_general::unfinished;
-use crate::status::Status;
 use answer_check::{Answer, print_answer};
 use command_words::{Command, Options};
 use kernel_solve::{Solved, solve};
 use lk_model::{Budget, Formula, List, OutOfMemory, Round};
 use lk_outside::Gate;
 use reductions::open_document_of;
+use status_lines::{Ending, Status};
 use std::alloc::Global;
 use std::thread::Threads;
 

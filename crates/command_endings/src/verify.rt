@@ -5,13 +5,12 @@ ghost use Rattle.command_words.specs.OptionRows.{values_of};
 ghost use Rattle.command_endings.specs.Answering.{IsAnswer};
 ghost use Rattle.command_endings.specs.Commands.Verifying.{verdict_by};
 
-use crate::check::told;
-use crate::ending::Ending;
 use answer_check::check_answer;
 use command_inputs::Answered;
 use command_words::{Command, Options};
 use lean_checker::Verdict;
 use lk_model::{OutOfMemory, Why};
+use status_lines::{Ending, ending_of_verdict};
 use std::alloc::Global;
 
 /// What the checks say of a formula and an answer.
@@ -20,7 +19,7 @@ pub fn answer(alloc: Global, read: &Answered, options: &Options<'_>) -> Result<E
     ensures { IfOk result (IsAnswer Command.Verify (values_of options.now) (read.now.formula, (read.now.answer, tt))) }
 {
     let why = check_answer(alloc, &read.formula, &read.answer)?;
-    told(alloc, verdict_by(why))
+    ending_of_verdict(alloc, verdict_by(why))
 }
 
 /// The verdict on an answer, by the first check that fails.

@@ -5,9 +5,9 @@ use Rattle.std.specs.List.{list_any}
 use Rattle.lk_model.specs.Formulas.Formula.{Cnf}
 use Rattle.lk_model.specs.Texts.Dimacs.{Spells}
 use Rattle.command_endings.specs.Commands.Measuring.{WritesDeficiency}
-use Rattle.command_endings.specs.Statuses.{code}
-use Rattle.command_endings.specs.declared.status.Status.{Status}
-use Rattle.command_endings.specs.declared.status.Status.TheVariants.{Done, Input}
+use Rattle.status_lines.specs.Statuses.{code}
+use Rattle.status_lines.specs.declared.status.Status.{Status}
+use Rattle.status_lines.specs.declared.status.Status.TheVariants.{Done, Input}
 use Rattle.command_words.specs.Lawful.{Request}
 use Rattle.workbench.specs.DeficiencyOutcomes.{DeficiencyOutcomes, Measures}
 use Rattle.workbench.specs.Endings.{IsDecided}

@@ -9,10 +9,10 @@ use Rattle.workbench.specs.DemoOutcomes.{DemoOutcomes}
 use Rattle.workbench.specs.Endings.{Shelved, Takes, Allows, DeservesStop, HasReadFault}
 use Rattle.command_words.specs.Lawful.{Request, request_of}
 use Rattle.command_words.specs.Settings.{number_within, numbers_from, options_by}
-use Rattle.command_endings.specs.Statuses.{code}
+use Rattle.status_lines.specs.Statuses.{code}
 use Rattle.command_words.specs.declared.command.Command.TheVariants.{Demo}
-use Rattle.command_endings.specs.declared.status.Status.{Status}
-use Rattle.command_endings.specs.declared.status.Status.TheVariants.{Done, Words, Input, ReadFault, WriteFault, Budget, TooWide, TooLarge, Refused, Memory, Satisfiable, Unsatisfiable}
+use Rattle.status_lines.specs.declared.status.Status.{Status}
+use Rattle.status_lines.specs.declared.status.Status.TheVariants.{Done, Words, Input, ReadFault, WriteFault, Budget, TooWide, TooLarge, Refused, Memory, Satisfiable, Unsatisfiable}
 use Rattle.command_words.proofs.CommandTable.{is_of}
 use Rattle.workbench.proofs.Outcomes.{result_of, result_at}
 

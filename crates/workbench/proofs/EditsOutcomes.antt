@@ -15,9 +15,9 @@ use Rattle.command_words.specs.declared.shape.Grammar.TheVariants.{Formula, Edit
 use Rattle.command_inputs.specs.Inputs.{Told, nothing_known, IsRefusal, IsFirstBad}
 use Rattle.command_inputs.specs.declared.stop.Stop.{Stop}
 use Rattle.command_inputs.specs.declared.stop.Stop.TheVariants as stop
-use Rattle.command_endings.specs.Statuses.{code}
-use Rattle.command_endings.specs.declared.status.Status.{Status}
-use Rattle.command_endings.specs.declared.status.Status.TheVariants.{Done, Input}
+use Rattle.status_lines.specs.Statuses.{code}
+use Rattle.status_lines.specs.declared.status.Status.{Status}
+use Rattle.status_lines.specs.declared.status.Status.TheVariants.{Done, Input}
 use Rattle.workbench.specs.EditsOutcomes.{SaysFault, AreLawful, IsNoEditsText, EditsOutcomes}
 use Rattle.workbench.specs.Endings.{Sunk, IsDecided, DeservesStop}
 use Rattle.workbench.specs.Outcomes.{IsFormulaText, IsNoFormulaText}

@@ -17,10 +17,10 @@ use Rattle.command_endings.specs.Commands.Extending.{Outcome, Open, Fails, Exten
 use Rattle.workbench.specs.Endings.{Takes, IsDecided}
 use Rattle.command_words.specs.Lawful.{Request}
 use Rattle.workbench.specs.Outcomes.{IsFormulaText, IsNoFormulaText, IsNoDocumentText, IsExtendedTo, IsNotExtended, IsUnfinished, IsNoModelText, ExtendOutcomes}
-use Rattle.command_endings.specs.Statuses.{code}
+use Rattle.status_lines.specs.Statuses.{code}
 use Rattle.command_words.specs.declared.command.Command.TheVariants.{Extend}
-use Rattle.command_endings.specs.declared.status.Status.{Status}
-use Rattle.command_endings.specs.declared.status.Status.TheVariants.{Done, Input, Budget, Refused}
+use Rattle.status_lines.specs.declared.status.Status.{Status}
+use Rattle.status_lines.specs.declared.status.Status.TheVariants.{Done, Input, Budget, Refused}
 use Rattle.command_endings.proofs.Extensions.{accepted_extends}
 use Rattle.workbench.proofs.Outcomes.{result_of, only, not_spelled, refuses_some}
 

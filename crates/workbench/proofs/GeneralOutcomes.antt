@@ -17,10 +17,10 @@ use Rattle.command_words.specs.declared.shape.Grammar.TheVariants.{Formula}
 use Rattle.command_inputs.specs.Inputs.{Told, nothing_known, IsRefusal, IsFirstBad}
 use Rattle.command_words.specs.Lawful.{Request}
 use Rattle.command_words.specs.Settings.{Options}
-use Rattle.command_endings.specs.Statuses.{code}
-use Rattle.command_endings.specs.declared.status.Status.{Status}
-use Rattle.command_endings.specs.declared.status.Status.TheVariants as status
-use Rattle.command_endings.specs.declared.status.Status.TheVariants.{Done, Budget, Input}
+use Rattle.status_lines.specs.Statuses.{code}
+use Rattle.status_lines.specs.declared.status.Status.{Status}
+use Rattle.status_lines.specs.declared.status.Status.TheVariants as status
+use Rattle.status_lines.specs.declared.status.Status.TheVariants.{Done, Budget, Input}
 use Rattle.command_inputs.specs.declared.stop.Stop.{Stop}
 use Rattle.command_inputs.specs.declared.stop.Stop.TheVariants as stop
 use Rattle.workbench.proofs.Outcomes.{result_of, input_of, only, not_spelled}

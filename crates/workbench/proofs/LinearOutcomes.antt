@@ -10,17 +10,18 @@ use Rattle.lk_model.specs.Texts.Lines.{Word}
 use Rattle.lk_model.specs.declared.class.Class.TheVariants.{Linear}
 use Rattle.lk_model.specs.declared.wide.Wide.{Wide}
 use Rattle.lk_model.proofs.FaultConverse.{fault_law}
-use Rattle.command_endings.specs.Commands.LinearReducing.{protected, status_by, status_of, line_by, line_of, budget_line, too_wide_line}
+use Rattle.command_endings.specs.Commands.LinearReducing.{protected, status_by, status_of, line_by, line_of}
+use Rattle.status_lines.specs.RunLines.{budget_line, too_wide_line}
 use Rattle.workbench.specs.Endings.{HasValues, IsDecidedFor, IsDecided, Takes}
 use Rattle.command_inputs.specs.Inputs.{Told}
 use Rattle.command_words.specs.Lawful.{Request, request_of}
 use Rattle.workbench.specs.LinearOutcomes.{LinearOutcomes, large_line}
 use Rattle.workbench.specs.Outcomes.{AskFor, IsFormulaText}
 use Rattle.command_words.specs.Settings.{Options}
-use Rattle.command_endings.specs.Statuses.{code}
+use Rattle.status_lines.specs.Statuses.{code}
 use Rattle.command_words.specs.declared.command.Command.TheVariants.{ReduceLinear}
-use Rattle.command_endings.specs.declared.status.Status.{Status}
-use Rattle.command_endings.specs.declared.status.Status.TheVariants.{Input, Budget, TooWide, TooLarge}
+use Rattle.status_lines.specs.declared.status.Status.{Status}
+use Rattle.status_lines.specs.declared.status.Status.TheVariants.{Input, Budget, TooWide, TooLarge}
 use Rattle.command_endings.proofs.LinearEndings.{done_silent}
 use Rattle.workbench.proofs.Outcomes.{result_of, only, not_spelled, reduces_to}
 use Rattle.workbench.proofs.GeneralOutcomes.{told_text}

@@ -11,10 +11,10 @@ use Rattle.command_words.specs.declared.command.Command.TheVariants.{Mus}
 use Rattle.command_inputs.specs.Inputs.{Told}
 use Rattle.command_endings.specs.Commands.Solving.{IsEnough, HasModel, HasNoModel}
 use Rattle.command_endings.specs.Commands.Extracting.{WritesCore, WritesUnfinished, Answers}
-use Rattle.command_endings.specs.Statuses.{code}
-use Rattle.command_endings.specs.declared.status.Status.{Status}
-use Rattle.command_endings.specs.declared.status.Status.TheVariants as status
-use Rattle.command_endings.specs.declared.status.Status.TheVariants.{Done, Input, Budget, Satisfiable}
+use Rattle.status_lines.specs.Statuses.{code}
+use Rattle.status_lines.specs.declared.status.Status.{Status}
+use Rattle.status_lines.specs.declared.status.Status.TheVariants as status
+use Rattle.status_lines.specs.declared.status.Status.TheVariants.{Done, Input, Budget, Satisfiable}
 use Rattle.workbench.specs.Endings.{Takes, IsDecided}
 use Rattle.workbench.specs.Outcomes.{AskFor}
 use Rattle.workbench.specs.MusOutcomes.{IsExtracted, IsUnextracted, MusOutcomes}

@@ -20,7 +20,7 @@ use Rattle.lean_checker.specs.declared.verdict.Verdict.{Verdict}
 use Rattle.lean_checker.specs.declared.verdict.Verdict.TheVariants as verdict
 use Rattle.command_endings.specs.Commands.Reducing as reduce
 use Rattle.command_endings.specs.Commands.Checking as check
-use Rattle.command_endings.specs.Commands.Checking.{verdict_status}
+use Rattle.status_lines.specs.Verdicts.{verdict_status}
 use Rattle.command_endings.specs.Commands.Reporting.{WritesReport}
 use Rattle.workbench.specs.Endings.{Shelved, Sunk, Takes, Ends, Allows, HasResult, IsResult, DeservesStop, IsDecided}
 use Rattle.command_words.specs.Shapes.{inputs_of}
@@ -28,11 +28,11 @@ use Rattle.command_inputs.specs.Inputs.{nothing_known, Told, IsFirstBad}
 use Rattle.command_words.specs.Lawful.{Request, request_of}
 use Rattle.workbench.specs.Outcomes.{IsFormulaText, IsNoFormulaText, IsNoDocumentText, IsProved, IsOpenFor, ReduceMeans, ReduceOutcomes, CheckOutcomes, ReportOutcomes, Reports}
 use Rattle.command_words.specs.Settings.{Options}
-use Rattle.command_endings.specs.Statuses.{code, is_result}
+use Rattle.status_lines.specs.Statuses.{code, is_result}
 use Rattle.command_words.specs.declared.command.Command.TheVariants.{ReducePure, ReduceMatching, Check}
 use Rattle.command_inputs.specs.declared.stop.Stop.{Stop}
-use Rattle.command_endings.specs.declared.status.Status.{Status}
-use Rattle.command_endings.specs.declared.status.Status.TheVariants.{Done, Words, Input, ReadFault, WriteFault, Budget, TooWide, TooLarge, Refused, Memory, Satisfiable, Unsatisfiable}
+use Rattle.status_lines.specs.declared.status.Status.{Status}
+use Rattle.status_lines.specs.declared.status.Status.TheVariants.{Done, Words, Input, ReadFault, WriteFault, Budget, TooWide, TooLarge, Refused, Memory, Satisfiable, Unsatisfiable}
 
 -- STATUSES
 

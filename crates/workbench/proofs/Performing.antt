@@ -13,7 +13,7 @@ use Rattle.command_inputs.specs.declared.stop.Stop.TheVariants as stop
 use Rattle.workbench.specs.Endings.{Shelved}
 use Rattle.command_endings.specs.Answering.{IsAnswer}
 use Rattle.workbench.specs.Performing.{Performs}
-use Rattle.command_endings.specs.declared.ending.Ending.{Ending}
+use Rattle.status_lines.specs.declared.ending.Ending.{Ending}
 
 -- the stop of the only input, a formula
 pub formula_stops : (told : Told) (name : Word) (ailing : Bool) (current : Option (List ℕ)) (s : Stop) → StopsReading Formula nothing_known (told name) ailing s → (s ≡ stop.Read → current ≡ Some name) → StopsOn told nothing_known (Formula ∷ []) (name ∷ []) ailing current s

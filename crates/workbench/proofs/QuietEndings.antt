@@ -7,9 +7,9 @@ use Rattle.workbench.specs.Endings.{Shelved, IsResult, Allows}
 use Rattle.command_inputs.specs.Inputs.{Told}
 use Rattle.command_words.specs.Lawful.{Request, request_of}
 use Rattle.workbench.specs.QuietEndings.{QuietOutcomes}
-use Rattle.command_endings.specs.Statuses.{code, is_silent}
-use Rattle.command_endings.specs.declared.status.Status.{Status}
-use Rattle.command_endings.specs.declared.status.Status.TheVariants.{Done, Words, Input, ReadFault, WriteFault, Budget, TooWide, TooLarge, Refused, Memory, Satisfiable, Unsatisfiable}
+use Rattle.status_lines.specs.Statuses.{code, is_silent}
+use Rattle.status_lines.specs.declared.status.Status.{Status}
+use Rattle.status_lines.specs.declared.status.Status.TheVariants.{Done, Words, Input, ReadFault, WriteFault, Budget, TooWide, TooLarge, Refused, Memory, Satisfiable, Unsatisfiable}
 use Rattle.command_endings.proofs.CommandTable.{result_silent, wide_unwritten, large_unwritten}
 use Rattle.workbench.proofs.Outcomes.{one_status}
 

@@ -11,10 +11,10 @@ use Rattle.command_words.specs.declared.command.Command.TheVariants.{Solve}
 use Rattle.command_inputs.specs.Inputs.{Told}
 use Rattle.text_laws.proofs.SpelledFormulas.{spelled_form}
 use Rattle.command_endings.specs.Commands.Solving.{IsEnough, HasModel, HasNoModel, WritesModel, WritesRefutation, WritesUnfinished, Answers}
-use Rattle.command_endings.specs.Statuses.{code}
-use Rattle.command_endings.specs.declared.status.Status.{Status}
-use Rattle.command_endings.specs.declared.status.Status.TheVariants as status
-use Rattle.command_endings.specs.declared.status.Status.TheVariants.{Input, Budget, Satisfiable, Unsatisfiable}
+use Rattle.status_lines.specs.Statuses.{code}
+use Rattle.status_lines.specs.declared.status.Status.{Status}
+use Rattle.status_lines.specs.declared.status.Status.TheVariants as status
+use Rattle.status_lines.specs.declared.status.Status.TheVariants.{Input, Budget, Satisfiable, Unsatisfiable}
 use Rattle.workbench.specs.Endings.{Takes, IsDecided}
 use Rattle.workbench.specs.Outcomes.{AskFor}
 use Rattle.workbench.specs.SolveOutcomes.{IsSatisfied, IsRefuted, IsUndecided, SolveOutcomes}

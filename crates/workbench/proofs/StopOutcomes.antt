@@ -3,9 +3,9 @@ use Rattle.std.proofs.Common.{ℕ, List, subst}
 use Rattle.lk_model.specs.Texts.Lines.{Word}
 use Rattle.workbench.specs.Endings.{Shelved, Sunk, TakesBoth, Ends, Allows, IsWell}
 use Rattle.command_words.specs.Lawful.{request_of}
-use Rattle.command_endings.specs.StopLines.{Tells}
+use Rattle.status_lines.specs.StopLines.{Tells}
 use Rattle.workbench.specs.StopOutcomes.{SaysOnly, StopOutcomes}
-use Rattle.command_endings.specs.declared.status.Status.{Status}
+use Rattle.status_lines.specs.declared.status.Status.{Status}
 use Rattle.command_inputs.specs.declared.stop.Stop.{Stop}
 use Rattle.command_inputs.specs.declared.stop.Stop.TheVariants as stop
 use Rattle.workbench.proofs.Outcomes.{numbered, one_status}

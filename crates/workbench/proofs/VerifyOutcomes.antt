@@ -13,12 +13,12 @@ use Rattle.answer_check.specs.declared.answer.Answer.{Answer}
 use Rattle.answer_check.proofs.AnswerLaws.{answer_law}
 use Rattle.command_words.specs.Lawful.{Request}
 use Rattle.command_words.specs.declared.command.Command.TheVariants.{Verify}
-use Rattle.command_endings.specs.Commands.Checking.{verdict_status}
+use Rattle.status_lines.specs.Verdicts.{verdict_status}
 use Rattle.command_endings.specs.Commands.Verifying as verify
 use Rattle.command_endings.specs.Commands.Verifying.{verdict_by}
-use Rattle.command_endings.specs.Statuses.{code}
-use Rattle.command_endings.specs.declared.status.Status.{Status}
-use Rattle.command_endings.specs.declared.status.Status.TheVariants.{Done, Input, Refused}
+use Rattle.status_lines.specs.Statuses.{code}
+use Rattle.status_lines.specs.declared.status.Status.{Status}
+use Rattle.status_lines.specs.declared.status.Status.TheVariants.{Done, Input, Refused}
 use Rattle.workbench.specs.Endings.{Takes, IsDecided}
 use Rattle.workbench.specs.Outcomes.{IsNoFormulaText}
 use Rattle.workbench.specs.VerifyOutcomes.{IsShown, IsNoAnswerText, VerifyOutcomes}

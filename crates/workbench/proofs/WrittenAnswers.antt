@@ -16,7 +16,7 @@ use Rattle.answer_check.proofs.AnswerReads.{text_law}
 use Rattle.command_words.specs.Lawful.{Request}
 use Rattle.command_words.specs.Settings.{Options}
 use Rattle.command_words.specs.declared.command.Command.TheVariants.{Solve}
-use Rattle.command_endings.specs.Commands.Checking.{verdict_status}
+use Rattle.status_lines.specs.Verdicts.{verdict_status}
 use Rattle.command_endings.specs.Commands.Solving.{WritesAnswer}
 use Rattle.command_endings.specs.Commands.Verifying.{verdict_by}
 use Rattle.workbench.specs.Endings.{Shelved, Sunk, Takes, IsDecided}

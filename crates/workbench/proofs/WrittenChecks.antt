@@ -16,13 +16,13 @@ use Rattle.lean_checker.specs.Verdicts.{verdict_of, verdict_words}
 use Rattle.lean_checker.specs.declared.verdict.Verdict.{Verdict}
 use Rattle.lean_checker.specs.declared.verdict.Verdict.TheVariants as verdict
 use Rattle.cert_text.proofs.ReadLaws.{of_one_document}
-use Rattle.command_endings.specs.Commands.Checking.{verdict_status}
+use Rattle.status_lines.specs.Verdicts.{verdict_status}
 use Rattle.workbench.specs.Endings.{Shelved, Sunk, Takes, HasValues, IsDecidedFor, IsDecided}
 use Rattle.workbench.specs.GeneralOutcomes.{ReducesWithin, StopsShort}
 use Rattle.command_inputs.specs.Inputs.{Told}
 use Rattle.command_words.specs.Lawful.{Request}
 use Rattle.command_words.specs.Settings.{Options}
-use Rattle.command_endings.specs.Statuses.{code, is_result}
+use Rattle.status_lines.specs.Statuses.{code, is_result}
 use Rattle.workbench.specs.WrittenChecks.{HasWritten, AsksCheck, ChecksAs, WrittenChecksAsAccepted, StoppedChecksAsUnfinished}
 use Rattle.workbench.proofs.Agreement.{written_accepted, stopped_unfinished}
 use Rattle.workbench.proofs.GeneralOutcomes.{general_outcomes, within_reduces, short_stops}

@@ -8,7 +8,7 @@ use Rattle.command_endings.specs.Commands.Measuring.{WritesDeficiency}
 use Rattle.command_words.specs.Lawful.{request_of}
 use Rattle.command_words.specs.Settings.{Options}
 use Rattle.command_words.specs.declared.command.Command.TheVariants.{Deficiency}
-use Rattle.command_endings.specs.declared.status.Status.TheVariants.{Done, Input}
+use Rattle.status_lines.specs.declared.status.Status.TheVariants.{Done, Input}
 use Rattle.workbench.specs.Endings.{Shelved, Sunk, Takes, Ends, IsDecided}
 use Rattle.workbench.specs.Outcomes.{AskFor, IsFormulaText, IsNoFormulaText}
 

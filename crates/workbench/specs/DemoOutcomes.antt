@@ -5,7 +5,7 @@ use Rattle.lk_model.specs.Texts.Lines.{Word}
 use Rattle.lk_model.specs.Texts.NumberWords.{natural}
 use Rattle.lk_model.specs.Reduction.{IsUnfinishedText}
 use Rattle.demo_formula.specs.Demo.{demo_formula}
-use Rattle.command_endings.specs.Commands.GeneralReducing.{conflicts_line}
+use Rattle.status_lines.specs.RunLines.{conflicts_line}
 use Rattle.command_endings.specs.Commands.Demonstrating.{WritesDemo, conflicts}
 use Rattle.workbench.specs.Endings.{Shelved, Sunk, Takes, Ends}
 

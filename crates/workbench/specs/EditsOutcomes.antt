@@ -15,8 +15,8 @@ use Rattle.command_words.specs.Lawful.{request_of}
 use Rattle.command_words.specs.Settings.{Options}
 use Rattle.command_words.specs.declared.command.Command.TheVariants.{Edits}
 use Rattle.command_endings.specs.Commands.Editing.{WritesKernels}
-use Rattle.command_endings.specs.StopLines.{refusal_line, edits_line}
-use Rattle.command_endings.specs.declared.status.Status.TheVariants.{Done, Input}
+use Rattle.status_lines.specs.StopLines.{refusal_line, edits_line}
+use Rattle.status_lines.specs.declared.status.Status.TheVariants.{Done, Input}
 use Rattle.workbench.specs.Endings.{Shelved, Sunk, Takes, Ends, IsDecided}
 use Rattle.workbench.specs.Outcomes.{AskFor, IsNoFormulaText}
 

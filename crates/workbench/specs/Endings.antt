@@ -8,10 +8,10 @@ use Rattle.command_words.specs.Shapes.{inputs_of}
 use Rattle.command_endings.specs.Commands.{Answers, Decides}
 use Rattle.command_inputs.specs.Inputs.{nothing_known, Told, Values, AreRead, AreTold, IsFirstBad, HasBad, StopsOn, IsAilingOn}
 use Rattle.command_words.specs.Lawful.{Request, request_of, IsRefusedAt}
-use Rattle.command_endings.specs.Statuses.{code, is_result}
-use Rattle.command_endings.specs.StopLines.{Tells}
-use Rattle.command_endings.specs.declared.status.Status.{Status}
-use Rattle.command_endings.specs.declared.status.Status.TheVariants as status
+use Rattle.status_lines.specs.Statuses.{code, is_result}
+use Rattle.status_lines.specs.StopLines.{Tells}
+use Rattle.status_lines.specs.declared.status.Status.{Status}
+use Rattle.status_lines.specs.declared.status.Status.TheVariants as status
 use Rattle.command_inputs.specs.declared.stop.Stop.{Stop}
 use Rattle.command_inputs.specs.declared.stop.Stop.TheVariants as stop
 

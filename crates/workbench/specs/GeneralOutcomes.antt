@@ -5,13 +5,14 @@ use Rattle.lk_model.specs.Formulas.Formula.{Cnf}
 use Rattle.lk_model.specs.Texts.Dimacs.{Spells}
 use Rattle.lk_model.specs.Texts.Fault.{fault_of}
 use Rattle.lk_model.specs.Texts.Lines.{Word}
-use Rattle.command_endings.specs.Commands.GeneralReducing.{IsEnough, WritesFinished, WritesUnfinished, conflicts_line}
+use Rattle.command_endings.specs.Commands.GeneralReducing.{IsEnough, WritesFinished, WritesUnfinished}
+use Rattle.status_lines.specs.RunLines.{conflicts_line}
 use Rattle.workbench.specs.Endings.{Shelved, Sunk, Takes, Ends, IsDecided}
 use Rattle.command_words.specs.Lawful.{request_of}
 use Rattle.workbench.specs.Outcomes.{AskFor, IsNoFormulaText}
 use Rattle.command_words.specs.Settings.{Options}
 use Rattle.command_words.specs.declared.command.Command.TheVariants.{ReduceGeneral}
-use Rattle.command_endings.specs.declared.status.Status.TheVariants.{Done, Input}
+use Rattle.status_lines.specs.declared.status.Status.TheVariants.{Done, Input}
 
 -- The text spells a formula, and what is written is the document of a reduction of it. Of its rounds nothing is needless, and
 -- for each part they have at most as many learned clauses as were allowed.

@@ -9,13 +9,14 @@ use Rattle.lk_model.specs.Texts.Lines.{Word}
 use Rattle.lk_model.specs.Reduction.{ReducesTo}
 use Rattle.lk_model.specs.declared.class.Class.TheVariants.{Linear}
 use Rattle.lk_model.specs.declared.wide.Wide.{Wide}
-use Rattle.command_endings.specs.Commands.LinearReducing.{protected, status_of, budget_line, too_large_line, too_wide_line}
+use Rattle.command_endings.specs.Commands.LinearReducing.{protected, status_of}
+use Rattle.status_lines.specs.RunLines.{budget_line, too_large_line, too_wide_line}
 use Rattle.workbench.specs.Endings.{Shelved, Sunk, Takes, Ends, IsDecided}
 use Rattle.command_words.specs.Lawful.{request_of}
 use Rattle.workbench.specs.Outcomes.{AskFor, IsFormulaText, IsNoFormulaText}
 use Rattle.command_words.specs.Settings.{Options}
 use Rattle.command_words.specs.declared.command.Command.TheVariants.{ReduceLinear}
-use Rattle.command_endings.specs.declared.status.Status.TheVariants.{Input}
+use Rattle.status_lines.specs.declared.status.Status.TheVariants.{Input}
 
 -- The text, where it is told, spells the formula. Its rows are not too large, and its run ends so.
 pub record EndsRun (told : Option (List ℕ)) (options : Options) (F : Cnf) (end : LinearEnd) : Type 0 where

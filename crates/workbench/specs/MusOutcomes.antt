@@ -8,10 +8,10 @@ use Rattle.lk_model.specs.Texts.Lines.{Word}
 use Rattle.command_words.specs.Lawful.{request_of}
 use Rattle.command_words.specs.Settings.{Options}
 use Rattle.command_words.specs.declared.command.Command.TheVariants.{Mus}
-use Rattle.command_endings.specs.Commands.GeneralReducing.{conflicts_line}
+use Rattle.status_lines.specs.RunLines.{conflicts_line}
 use Rattle.command_endings.specs.Commands.Solving.{IsEnough, HasModel, HasNoModel}
 use Rattle.command_endings.specs.Commands.Extracting.{WritesCore, WritesUnfinished}
-use Rattle.command_endings.specs.declared.status.Status.TheVariants.{Done, Input, Satisfiable}
+use Rattle.status_lines.specs.declared.status.Status.TheVariants.{Done, Input, Satisfiable}
 use Rattle.workbench.specs.Endings.{Shelved, Sunk, Takes, Ends, IsDecided}
 use Rattle.workbench.specs.Outcomes.{AskFor, IsNoFormulaText}
 use Rattle.workbench.specs.SolveOutcomes.{IsSatisfied}

@@ -26,7 +26,7 @@ use Rattle.command_words.specs.Lawful.{request_of}
 use Rattle.command_words.specs.Settings.{Options}
 use Rattle.command_words.specs.declared.command.Command.{Command}
 use Rattle.command_words.specs.declared.command.Command.TheVariants.{Check, Extend, Report}
-use Rattle.command_endings.specs.declared.status.Status.TheVariants.{Done, Input, Budget, Refused}
+use Rattle.status_lines.specs.declared.status.Status.TheVariants.{Done, Input, Budget, Refused}
 
 -- the words ask for the command over these inputs, with these options
 abbrev pub AskFor : List Word → Command → List Word → Options → Type 0

@@ -8,7 +8,7 @@ use Rattle.command_inputs.specs.Inputs.{nothing_known, StopsOn, IsFailure}
 use Rattle.command_inputs.specs.declared.stop.Stop.{Stop}
 use Rattle.command_inputs.specs.declared.stop.Stop.TheVariants.{Read}
 use Rattle.workbench.specs.Endings.{Shelved, HasResult}
-use Rattle.command_endings.specs.declared.ending.Ending.{Ending}
+use Rattle.status_lines.specs.declared.ending.Ending.{Ending}
 
 -- It ends as the command may answer what is read; or as its inputs are read, with the first that is bad or with a failed call,
 -- of which the shelf's count tells, or there was no memory. Where an input is read, the shelf is ailing only then.

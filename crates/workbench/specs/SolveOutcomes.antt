@@ -8,9 +8,9 @@ use Rattle.lk_model.specs.Texts.Lines.{Word}
 use Rattle.command_words.specs.Lawful.{request_of}
 use Rattle.command_words.specs.Settings.{Options}
 use Rattle.command_words.specs.declared.command.Command.TheVariants.{Solve}
-use Rattle.command_endings.specs.Commands.GeneralReducing.{conflicts_line}
+use Rattle.status_lines.specs.RunLines.{conflicts_line}
 use Rattle.command_endings.specs.Commands.Solving.{IsEnough, HasModel, HasNoModel, WritesModel, WritesRefutation, WritesUnfinished}
-use Rattle.command_endings.specs.declared.status.Status.TheVariants.{Input, Satisfiable, Unsatisfiable}
+use Rattle.status_lines.specs.declared.status.Status.TheVariants.{Input, Satisfiable, Unsatisfiable}
 use Rattle.workbench.specs.Endings.{Shelved, Sunk, Takes, Ends, IsDecided}
 use Rattle.workbench.specs.Outcomes.{AskFor, IsNoFormulaText}
 

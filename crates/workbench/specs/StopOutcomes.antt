@@ -3,8 +3,8 @@ use Rattle.std.specs.Prelude.{◌≡◌, ℕ, List}
 use Rattle.lk_model.specs.Texts.Lines.{Word}
 use Rattle.workbench.specs.Endings.{Shelved, Sunk, Takes, Ends, DeservesStop, HasReadFault, IsWell}
 use Rattle.command_words.specs.Lawful.{request_of, IsRefusedAt}
-use Rattle.command_endings.specs.StopLines.{line_of}
-use Rattle.command_endings.specs.declared.status.Status.TheVariants as status
+use Rattle.status_lines.specs.StopLines.{line_of}
+use Rattle.status_lines.specs.declared.status.Status.TheVariants as status
 use Rattle.command_inputs.specs.declared.stop.Stop.{Stop}
 use Rattle.command_inputs.specs.declared.stop.Stop.TheVariants as stop
 

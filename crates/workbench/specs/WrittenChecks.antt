@@ -7,13 +7,13 @@ use Rattle.lk_model.specs.declared.class.Class.TheVariants.{Pure, Matching, Line
 use Rattle.lean_checker.specs.Verdicts.{verdict_words}
 use Rattle.lean_checker.specs.declared.verdict.Verdict.{Verdict}
 use Rattle.lean_checker.specs.declared.verdict.Verdict.TheVariants.{Accepted, Unfinished}
-use Rattle.command_endings.specs.Commands.Checking.{verdict_status}
+use Rattle.status_lines.specs.Verdicts.{verdict_status}
 use Rattle.workbench.specs.Endings.{Shelved, Sunk, Takes, Ends, IsDecided}
 use Rattle.command_inputs.specs.Inputs.{Told}
 use Rattle.command_words.specs.Lawful.{request_of}
 use Rattle.workbench.specs.Outcomes.{AskFor}
 use Rattle.command_words.specs.Settings.{Options}
-use Rattle.command_endings.specs.Statuses.{code}
+use Rattle.status_lines.specs.Statuses.{code}
 use Rattle.command_words.specs.declared.command.Command.{Command}
 use Rattle.command_words.specs.declared.command.Command.TheVariants.{ReducePure, ReduceMatching, ReduceLinear, ReduceGeneral, Check}
 

@@ -5,8 +5,8 @@
 ghost use Rattle.std.specs.Prelude.{◌≡◌, ◌≢◌, ◌⊎◌, [], map, IsTrue, IfOk, IfErr, IsErrAnd};
 ghost use Rattle.lk_outside.specs.Causes.{HasCause, Rose};
 ghost use Rattle.command_words.specs.Lawful.{request_of};
-ghost use Rattle.command_endings.specs.Statuses.{code};
-ghost use Rattle.command_endings.specs.declared.status.Status.{Status as AnyStatus};
+ghost use Rattle.status_lines.specs.Statuses.{code};
+ghost use Rattle.status_lines.specs.declared.status.Status.{Status as AnyStatus};
 ghost use Rattle.workbench.specs.Endings.{shelved, sunk, Allows, IsResult, Ends, IsCutOff, IsDecided, IsUnlessFailed};
 ghost use Rattle.workbench.specs.Endings.{StopsAt, IsWell, ReadsNothing, TakesBoth, IsCutIn, EndsQuietly};
 ghost use Rattle.command_inputs.specs.Inputs.{IsFailure};
@@ -14,11 +14,11 @@ ghost use Rattle.command_inputs.specs.Inputs.{IsFailure};
 use crate::command;
 use crate::output::write_both;
 use cert_text::text_law;
-use command_endings::{Ending, Status, ending_of};
 use command_inputs::Stop;
 use command_words::request_of;
 use lk_model::OutOfMemory;
-use lk_outside::{Failed, Gate, Shelf, Sink};
+use lk_outside::{Gate, Shelf, Sink};
+use status_lines::{Ending, Status, code_of_failure, ending_of};
 use std::alloc::Global;
 use std::thread::Threads;
 
@@ -183,6 +183,6 @@ fn write_ending<O: Sink, E: Sink>(
 {
     match write_both(out, say, written, said) {
         Ok(()) => status.code(),
-        Err(Failed) => Status::WriteFault.code(),
+        Err(failed) => code_of_failure(failed),
     }
 }

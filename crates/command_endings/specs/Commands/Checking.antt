@@ -7,16 +7,8 @@ use Rattle.lk_model.specs.Reduction.{IsReduction}
 use Rattle.lk_model.specs.declared.document.Document.{Document as AnyDocument}
 use Rattle.lk_model.specs.declared.document.Document.TheVariants.{Done as Finished, Unfinished}
 use Rattle.lean_checker.specs.Verdicts.{verdict_of, verdict_words}
-use Rattle.lean_checker.specs.declared.verdict.Verdict.{Verdict}
-use Rattle.lean_checker.specs.declared.verdict.Verdict.TheVariants as verdict
-use Rattle.command_endings.specs.declared.status.Status.{Status}
-use Rattle.command_endings.specs.declared.status.Status.TheVariants.{Done, Budget, Refused}
-
--- the status that tells a verdict
-abbrev pub verdict_status : Verdict → Status
-verdict_status verdict.Accepted = Done
-verdict_status (verdict.Unfinished learned) = Budget
-verdict_status (verdict.No why) = Refused
+use Rattle.status_lines.specs.Verdicts.{verdict_status}
+use Rattle.status_lines.specs.declared.status.Status.{Status}
 
 -- A finished document of which no check fails is a reduction of the formula, whoever made it: it keeps the kernel of its
 -- class, its set line is an autarky of the class that touches exactly the removed clauses, and every model of the kept ones

@@ -14,10 +14,10 @@ use Rattle.lean_checker.specs.declared.verdict.Verdict.TheVariants.{Accepted}
 use Rattle.demo_formula.specs.Demo.{demo_formula}
 use Rattle.round_laws.specs.Budgets.{AreWithinBudget}
 use Rattle.reductions.specs.Founds.{rounds_in}
-use Rattle.command_endings.specs.Commands.GeneralReducing.{conflicts_line}
+use Rattle.status_lines.specs.RunLines.{conflicts_line}
 use Rattle.command_endings.specs.Commands.Reporting.{IsKernelSize, Row, row, row_line}
-use Rattle.command_endings.specs.declared.status.Status.{Status}
-use Rattle.command_endings.specs.declared.status.Status.TheVariants.{Done, Budget}
+use Rattle.status_lines.specs.declared.status.Status.{Status}
+use Rattle.status_lines.specs.declared.status.Status.TheVariants.{Done, Budget}
 
 -- the budget of the general kernel
 abbrev pub conflicts : ℕ

@@ -6,8 +6,8 @@ use Rattle.edit_text.specs.LiveClauses.{LiveClauses, live_of}
 use Rattle.edit_text.specs.Edits.{states}
 use Rattle.edit_text.specs.declared.edit.Edit.{Edit}
 use Rattle.match_edits.specs.LiveKernel.{IsLiveKernel}
-use Rattle.command_endings.specs.declared.status.Status.{Status}
-use Rattle.command_endings.specs.declared.status.Status.TheVariants.{Done}
+use Rattle.status_lines.specs.declared.status.Status.{Status}
+use Rattle.status_lines.specs.declared.status.Status.TheVariants.{Done}
 
 -- WHAT IS WRITTEN
 

@@ -11,11 +11,11 @@ use Rattle.lk_model.specs.declared.document.Round.{Round}
 use Rattle.kernel_solve.specs.EmptyClause.{first_empty}
 use Rattle.answer_check.specs.declared.answer.Answer.TheVariants.{Core}
 use Rattle.command_words.specs.Settings.{Options}
-use Rattle.command_endings.specs.Commands.GeneralReducing.{conflicts_line}
+use Rattle.status_lines.specs.RunLines.{conflicts_line}
 use Rattle.command_endings.specs.Commands.Solving.{IsEnough, HasModel, HasNoModel, WritesAnswer, WritesModel}
 use Rattle.command_endings.specs.Commands.Verifying.{IsMinimalCore}
-use Rattle.command_endings.specs.declared.status.Status.{Status}
-use Rattle.command_endings.specs.declared.status.Status.TheVariants.{Done, Budget, Satisfiable}
+use Rattle.status_lines.specs.declared.status.Status.{Status}
+use Rattle.status_lines.specs.declared.status.Status.TheVariants.{Done, Budget, Satisfiable}
 
 -- WHERE IT IS DECIDED
 

@@ -1,5 +1,5 @@
 -- The command `reduce general`.
-use Rattle.std.specs.Prelude.{◌≡◌, ℕ, ◌*◌, ◌^◌, ◌≤◌, List, [], ◌∷◌, ◌++◌, codes, decimal, length, IsTrue}
+use Rattle.std.specs.Prelude.{◌≡◌, ℕ, ◌*◌, ◌^◌, ◌≤◌, List, [], ◌∷◌, ◌++◌, length, IsTrue}
 use Rattle.std.specs.List.{AllByRecursion}
 use Rattle.lk_model.specs.Formulas.Formula.{Cnf}
 use Rattle.lk_model.specs.Formulas.Crossed.{protected_by}
@@ -12,8 +12,9 @@ use Rattle.lk_model.specs.declared.class.Class.TheVariants.{General}
 use Rattle.round_laws.specs.Budgets.{AreWithinBudget, CanBeFinished}
 use Rattle.reductions.specs.Founds.{rounds_in}
 use Rattle.command_words.specs.Settings.{Options}
-use Rattle.command_endings.specs.declared.status.Status.{Status}
-use Rattle.command_endings.specs.declared.status.Status.TheVariants.{Done, Budget}
+use Rattle.status_lines.specs.RunLines.{conflicts_line}
+use Rattle.status_lines.specs.declared.status.Status.{Status}
+use Rattle.status_lines.specs.declared.status.Status.TheVariants.{Done, Budget}
 
 -- so many learned clauses are enough for each formula of as many variables
 abbrev pub IsEnough : ℕ → Cnf → Type 0
@@ -45,9 +46,6 @@ pub record WritesUnfinished (options : Options) (F : Cnf) (written : List ℕ) :
   pub after : List (List ℕ)
   pub parts : ArePartsUnder (protected_by unfinished.document.protect) F (before ++ part ∷ after)
   pub finished : AllByRecursion (CanBeFinished (protected_by unfinished.document.protect) F options.conflicts) before
-
-abbrev pub conflicts_line : ℕ → List ℕ
-conflicts_line conflicts = codes "leank: budget of " ++ decimal conflicts ++ codes " conflicts used\n"
 
 -- HOW IT ENDS
 

@@ -1,17 +1,14 @@
 -- The command `reduce linear`.
-use Rattle.std.specs.Prelude.{◌≡◌, ℕ, Bool, true, false, List, [], ◌++◌, codes, decimal, length}
-use Rattle.std.specs.Fmt.{signed_decimal}
+use Rattle.std.specs.Prelude.{◌≡◌, ℕ, Bool, true, false, List, [], length}
 use Rattle.lk_model.specs.Formulas.Formula.{Cnf, occurring_count}
 use Rattle.lk_model.specs.Formulas.Crossed.{Variables, formula_without, protected_by}
 use Rattle.lk_model.specs.Linear.LinearRun.{LinearEnd, RunDone, RunWide, RunBudget, linear_run_under, is_too_large_under}
 use Rattle.lk_model.specs.Reduction.{WritesReduction, protect_line_of}
 use Rattle.lk_model.specs.declared.class.Class.TheVariants.{Linear}
-use Rattle.lk_model.specs.declared.wide.Op.{Op}
-use Rattle.lk_model.specs.declared.wide.Op.TheVariants.{Product, Sum, Difference}
-use Rattle.lk_model.specs.declared.wide.Wide.{Wide}
 use Rattle.command_words.specs.Settings.{Options}
-use Rattle.command_endings.specs.declared.status.Status.{Status}
-use Rattle.command_endings.specs.declared.status.Status.TheVariants.{Done, Budget, TooWide, TooLarge}
+use Rattle.status_lines.specs.RunLines.{budget_line, too_large_line, too_wide_line}
+use Rattle.status_lines.specs.declared.status.Status.{Status}
+use Rattle.status_lines.specs.declared.status.Status.TheVariants.{Done, Budget, TooWide, TooLarge}
 
 -- the protected variables: those of the formula that are listed
 abbrev pub protected : Options → Cnf → Variables
@@ -30,24 +27,6 @@ abbrev pub status_of : Options → Cnf → Status
 status_of options F = status_by (is_too_large_under (protected options F) F) (linear_run_under (protected options F) F options.pivots)
 
 -- THE LINE
-
-abbrev pub too_large_line : ℕ → ℕ → List ℕ
-too_large_line vars clauses = codes "leank: too large: " ++ decimal vars ++ codes " variables, " ++ decimal clauses ++ codes " clauses\n"
-
-abbrev pub budget_line : ℕ → List ℕ
-budget_line pivots = codes "leank: budget of " ++ decimal pivots ++ codes " pivots used\n"
-
-abbrev pub op_word : Op → List ℕ
-op_word Product = codes "product"
-op_word Sum = codes "sum"
-op_word Difference = codes "difference"
-
--- the operation, and its operands in the order in which they are written
-abbrev pub operands : Wide → List ℕ
-operands w = op_word w.op ++ codes " of " ++ signed_decimal w.left ++ codes " and " ++ signed_decimal w.right
-
-abbrev pub too_wide_line : ℕ → Wide → List ℕ
-too_wide_line made wide = codes "leank: too wide after " ++ decimal made ++ codes " pivots: " ++ operands wide ++ codes "\n"
 
 -- nothing where the run ends done; else why it did not
 abbrev pub line_by : ℕ → Cnf → Bool → LinearEnd → List ℕ

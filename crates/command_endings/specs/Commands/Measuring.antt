@@ -7,8 +7,8 @@ use Rattle.lk_model.specs.Texts.PlainText.{line, ended, number_words}
 use Rattle.lk_model.specs.declared.class.Class.TheVariants.{Matching}
 use Rattle.lk_model.specs.declared.document.Own.{Own}
 use Rattle.deficiency.specs.Deficiency.{IsMaxDeficiency, HasDeficiency, AreOwners}
-use Rattle.command_endings.specs.declared.status.Status.{Status}
-use Rattle.command_endings.specs.declared.status.Status.TheVariants.{Done}
+use Rattle.status_lines.specs.declared.status.Status.{Status}
+use Rattle.status_lines.specs.declared.status.Status.TheVariants.{Done}
 
 -- WHAT IS WRITTEN
 

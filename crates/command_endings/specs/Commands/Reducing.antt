@@ -4,8 +4,8 @@ use Rattle.lk_model.specs.Formulas.Formula.{Cnf}
 use Rattle.lk_model.specs.Reduction.{WritesReduction}
 use Rattle.lk_model.specs.declared.class.Class.{Class}
 use Rattle.command_words.specs.Settings.{Options}
-use Rattle.command_endings.specs.declared.status.Status.{Status}
-use Rattle.command_endings.specs.declared.status.Status.TheVariants.{Done}
+use Rattle.status_lines.specs.declared.status.Status.{Status}
+use Rattle.status_lines.specs.declared.status.Status.TheVariants.{Done}
 
 -- It writes the document of a reduction of the formula for the class, in which the listed variables are protected.
 pub record Answers (class : Class) (options : Options) (F : Cnf) (status : Status) (written said : List ℕ) : Type 0 where

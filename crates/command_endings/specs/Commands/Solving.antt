@@ -18,9 +18,9 @@ use Rattle.answer_check.specs.AnswerChecks.{first_failure_of_answer}
 use Rattle.answer_check.specs.declared.answer.Answer.{Answer}
 use Rattle.answer_check.specs.declared.answer.Answer.TheVariants.{Model, Refuted}
 use Rattle.command_words.specs.Settings.{Options}
-use Rattle.command_endings.specs.Commands.GeneralReducing.{conflicts_line}
-use Rattle.command_endings.specs.declared.status.Status.{Status}
-use Rattle.command_endings.specs.declared.status.Status.TheVariants.{Budget, Satisfiable, Unsatisfiable}
+use Rattle.status_lines.specs.RunLines.{conflicts_line}
+use Rattle.status_lines.specs.declared.status.Status.{Status}
+use Rattle.status_lines.specs.declared.status.Status.TheVariants.{Budget, Satisfiable, Unsatisfiable}
 
 -- so many learned clauses are enough for each formula of as many variables
 abbrev pub IsEnough : ℕ → Cnf → Type 0

@@ -18,8 +18,8 @@ use Rattle.lean_checker.specs.declared.verdict.Verdict.TheVariants as verdict
 use Rattle.answer_check.specs.AnswerChecks.{first_failure_of_answer}
 use Rattle.answer_check.specs.declared.answer.Answer.{Answer as AnyAnswer}
 use Rattle.answer_check.specs.declared.answer.Answer.TheVariants as answer
-use Rattle.command_endings.specs.Commands.Checking.{verdict_status}
-use Rattle.command_endings.specs.declared.status.Status.{Status}
+use Rattle.status_lines.specs.Verdicts.{verdict_status}
+use Rattle.status_lines.specs.declared.status.Status.{Status}
 
 -- the verdict on an answer: accepted, or the first check that fails
 abbrev pub verdict_by : Option Why → Verdict

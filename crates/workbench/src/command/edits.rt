@@ -5,11 +5,11 @@ ghost use Rattle.command_words.specs.Shapes.{inputs_of};
 ghost use Rattle.workbench.specs.Endings.{shelved};
 ghost use Rattle.workbench.specs.Performing.{Performs};
 
-use command_endings::Ending;
 use command_endings::edits::answer;
 use command_inputs::{Stop, read_edited};
 use command_words::{Command, Options};
 use lk_outside::Shelf;
+use status_lines::Ending;
 use std::alloc::Global;
 
 /// Writes the matching kernels of the formula under the first name, and behind each edit under the second.

@@ -5,11 +5,11 @@ ghost use Rattle.command_words.specs.Shapes.{inputs_of};
 ghost use Rattle.workbench.specs.Endings.{shelved};
 ghost use Rattle.workbench.specs.Performing.{Performs};
 
-use command_endings::Ending;
 use command_endings::extend::answer;
 use command_inputs::{Stop, read_checked, read_values};
 use command_words::{Command, Options};
 use lk_outside::Shelf;
+use status_lines::Ending;
 use std::alloc::Global;
 
 /// Writes the model under the third name, extended by the document under the second to the formula under

@@ -5,11 +5,11 @@ ghost use Rattle.command_words.specs.Shapes.{inputs_of};
 ghost use Rattle.workbench.specs.Endings.{shelved};
 ghost use Rattle.workbench.specs.Performing.{Performs};
 
-use command_endings::Ending;
 use command_endings::reduce_general::answer;
 use command_inputs::{Stop, read_formula};
 use command_words::{Command, Options};
 use lk_outside::{Gate, Shelf};
+use status_lines::Ending;
 use std::alloc::Global;
 use std::thread::Threads;
 

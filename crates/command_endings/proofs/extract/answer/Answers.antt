@@ -11,10 +11,10 @@ use Rattle.answer_check.specs.declared.answer.Answer.TheVariants.{Model, Core}
 use Rattle.command_words.specs.OptionRows.{values_of}
 use Rattle.command_words.specs.declared.command.Command.TheVariants as command
 use Rattle.command_endings.specs.Answering.{IsAnswer}
-use Rattle.command_endings.specs.Commands.GeneralReducing.{conflicts_line}
-use Rattle.command_endings.specs.Statuses.{is_result}
-use Rattle.command_endings.specs.declared.status.Status.{Status}
-use Rattle.command_endings.specs.declared.status.Status.TheVariants.{Done, Budget, Satisfiable}
+use Rattle.status_lines.specs.RunLines.{conflicts_line}
+use Rattle.status_lines.specs.Statuses.{is_result}
+use Rattle.status_lines.specs.declared.status.Status.{Status}
+use Rattle.status_lines.specs.declared.status.Status.TheVariants.{Done, Budget, Satisfiable}
 use Rattle.command_endings.proofs.EndingFacts.{by_three, by_five}
 use Rattle.command_endings.proofs.ExtractEndings.{core_answers, model_answers, open_answers}
 use Rattle.command_endings.proofs.extract.answer.Goals as goal

@@ -9,11 +9,11 @@ use Rattle.reductions.specs.Protecting.{line_of}
 use Rattle.reductions.proofs.Protecting.{left_without, problem_writes}
 use Rattle.command_words.specs.OptionRows.{values_of}
 use Rattle.command_words.specs.declared.command.Command.TheVariants.{ReduceLinear}
-use Rattle.command_endings.specs.LinearStops.{TellsStop}
+use Rattle.status_lines.specs.LinearStops.{TellsStop}
 use Rattle.command_endings.specs.Answering.{IsAnswer}
-use Rattle.command_endings.specs.Statuses.{is_result}
-use Rattle.command_endings.specs.declared.status.Status.{Status}
-use Rattle.command_endings.specs.declared.status.Status.TheVariants.{Done}
+use Rattle.status_lines.specs.Statuses.{is_result}
+use Rattle.status_lines.specs.declared.status.Status.{Status}
+use Rattle.status_lines.specs.declared.status.Status.TheVariants.{Done}
 use Rattle.command_endings.proofs.LinearEndings.{done_answers, ends_done, stop_answers, stop_result}
 use Rattle.command_endings.proofs.EndingFacts.{by_one, by_three}
 use Rattle.command_endings.proofs.Problems.{positions_left}
@@ -45,7 +45,7 @@ pub returns-in-Err : goal.returns-in-Err
 returns-in-Err c =
     let options = values_of c.args.options.now in
     let F = c.args.formula in
-    by_one (λ e. TellsStop c.in-Err.stop e.status e.written.items e.said.items) (IsAnswer ReduceLinear options (F, tt)) c.stopped.result c.stopped.ensures
+    by_one (λ e. TellsStop c.in-Err.stop e.status e.written.items e.said.items) (IsAnswer ReduceLinear options (F, tt)) c.ending_of_linear_stop.result c.ending_of_linear_stop.ensures
     (λ e tells. record {
       result = stop_result c.in-Err.stop e.status e.written.items e.said.items tells;
       answers = stop_answers options F c.left.result.now c.in-Err.stop e.status e.written.items e.said.items (c.left.ensures ∙ left_without F options.protect c.in_ok-problem.problem c.in_ok-problem.ensures)

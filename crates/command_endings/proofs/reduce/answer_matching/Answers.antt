@@ -10,9 +10,9 @@ use Rattle.reductions.proofs.Protecting.{problem_writes}
 use Rattle.command_words.specs.OptionRows.{values_of}
 use Rattle.command_words.specs.declared.command.Command.TheVariants.{ReduceMatching}
 use Rattle.command_endings.specs.Answering.{IsAnswer}
-use Rattle.command_endings.specs.Statuses.{is_result}
-use Rattle.command_endings.specs.declared.status.Status.{Status}
-use Rattle.command_endings.specs.declared.status.Status.TheVariants.{Done}
+use Rattle.status_lines.specs.Statuses.{is_result}
+use Rattle.status_lines.specs.declared.status.Status.{Status}
+use Rattle.status_lines.specs.declared.status.Status.TheVariants.{Done}
 use Rattle.command_endings.proofs.EndingFacts.{by_three}
 use Rattle.command_endings.proofs.Problems.{positions_left}
 use Rattle.command_endings.proofs.reduce.answer_matching.Goals as goal

@@ -10,11 +10,11 @@ use Rattle.reductions.specs.declared.find.GeneralStop.TheVariants.{Unfinished as
 use Rattle.reductions.specs.Protecting.{line_of}
 use Rattle.command_words.specs.OptionRows.{values_of}
 use Rattle.command_words.specs.declared.command.Command.TheVariants.{ReduceGeneral}
-use Rattle.command_endings.specs.Commands.GeneralReducing.{conflicts_line}
+use Rattle.status_lines.specs.RunLines.{conflicts_line}
 use Rattle.command_endings.specs.Answering.{IsAnswer}
-use Rattle.command_endings.specs.Statuses.{is_result}
-use Rattle.command_endings.specs.declared.status.Status.{Status}
-use Rattle.command_endings.specs.declared.status.Status.TheVariants.{Done, Budget}
+use Rattle.status_lines.specs.Statuses.{is_result}
+use Rattle.status_lines.specs.declared.status.Status.{Status}
+use Rattle.status_lines.specs.declared.status.Status.TheVariants.{Done, Budget}
 use Rattle.command_endings.proofs.GeneralEndings.{done_answers, open_answers}
 use Rattle.command_endings.proofs.EndingFacts.{by_three}
 use Rattle.command_endings.proofs.Problems.{positions_left}

@@ -10,10 +10,10 @@ use Rattle.answer_check.specs.declared.answer.Answer.TheVariants.{Model, Refuted
 use Rattle.command_words.specs.OptionRows.{values_of}
 use Rattle.command_words.specs.declared.command.Command.TheVariants.{Solve}
 use Rattle.command_endings.specs.Answering.{IsAnswer}
-use Rattle.command_endings.specs.Commands.GeneralReducing.{conflicts_line}
-use Rattle.command_endings.specs.Statuses.{is_result}
-use Rattle.command_endings.specs.declared.status.Status.{Status}
-use Rattle.command_endings.specs.declared.status.Status.TheVariants.{Budget, Satisfiable, Unsatisfiable}
+use Rattle.status_lines.specs.RunLines.{conflicts_line}
+use Rattle.status_lines.specs.Statuses.{is_result}
+use Rattle.status_lines.specs.declared.status.Status.{Status}
+use Rattle.status_lines.specs.declared.status.Status.TheVariants.{Budget, Satisfiable, Unsatisfiable}
 use Rattle.command_endings.proofs.EndingFacts.{by_three}
 use Rattle.command_endings.proofs.SolveEndings.{model_answers, refuted_answers, open_answers}
 use Rattle.command_endings.proofs.solve.answer.Goals as goal

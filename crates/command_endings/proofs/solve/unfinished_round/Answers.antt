@@ -3,7 +3,7 @@ use Rattle.lk_model.specs.Documents.Text.{text_of}
 use Rattle.lk_model.specs.declared.document.Document.TheVariants.{Unfinished}
 use Rattle.lk_model.specs.declared.document.OpenDocument.{OpenDocument}
 use Rattle.reductions.specs.Founds.{open_document_of}
-use Rattle.command_endings.specs.Commands.GeneralReducing.{conflicts_line}
+use Rattle.status_lines.specs.RunLines.{conflicts_line}
 use Rattle.command_endings.proofs.solve.unfinished_round.Goals as goal
 
 pub returns-in-Ok-clause-written : goal.returns-in-Ok-clause-written

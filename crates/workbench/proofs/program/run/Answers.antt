@@ -1,7 +1,7 @@
 use Rattle.std.proofs.Common.{map, [], refl, inr}
 use Rattle.workbench.specs.Endings.{shelved, sunk}
-use Rattle.command_endings.specs.StopLines.{line_of}
-use Rattle.command_endings.specs.declared.status.Status.TheVariants as status
+use Rattle.status_lines.specs.StopLines.{line_of}
+use Rattle.status_lines.specs.declared.status.Status.TheVariants as status
 use Rattle.command_inputs.specs.declared.stop.Stop.TheVariants as stop
 use Rattle.workbench.proofs.EndingLaws.{memory_ends, memory_cut, memory_quiet, written_decided, ends_quietly}
 use Rattle.workbench.proofs.program.run.Goals as goal

@@ -1,9 +1,10 @@
 //! The statuses with which the program ends.
 ghost use Rattle.std.specs.Prelude.{◌≡◌};
-ghost use Rattle.command_endings.specs.Statuses.{code};
-ghost use Rattle.command_endings.specs.StopLines.{status_of};
+ghost use Rattle.status_lines.specs.Statuses.{code};
+ghost use Rattle.status_lines.specs.StopLines.{status_of};
 
 use command_inputs::Stop;
+use lk_outside::Failed;
 
 /// The status with which the program ends.
 #[derive(Clone, Copy)]
@@ -56,8 +57,15 @@ impl Status {
     }
 }
 
+/// The number with which the program ends where a sink failed.
+pub fn code_of_failure(_failed: Failed) -> u8
+    ensures { result ≡ 4 }
+{
+    Status::WriteFault.code()
+}
+
 /// The status with which the program ends behind a stop.
-pub fn status_of(stop: Stop) -> Status
+pub(crate) fn status_of(stop: Stop) -> Status
     ensures { result ≡ status_of stop }
 {
     match stop {

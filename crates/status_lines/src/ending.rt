@@ -1,6 +1,6 @@
 //! How a run ends.
 ghost use Rattle.std.specs.Prelude.{◌≡◌, IfOk};
-ghost use Rattle.command_endings.specs.StopLines.{Tells, status_of};
+ghost use Rattle.status_lines.specs.StopLines.{Tells, status_of};
 
 use crate::lines::line_of;
 use crate::status::{Status, status_of};

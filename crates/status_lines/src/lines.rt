@@ -1,9 +1,8 @@
 //! The lines that the program says.
 ghost use Rattle.std.specs.Prelude.{◌≡◌, ◌++◌, decimal, IfOk, OnOk};
-ghost use Rattle.command_endings.specs.Commands.GeneralReducing.{conflicts_line};
-ghost use Rattle.command_endings.specs.Commands.LinearReducing.{budget_line, op_word, operands, too_large_line};
-ghost use Rattle.command_endings.specs.Commands.LinearReducing.{too_wide_line};
-ghost use Rattle.command_endings.specs.StopLines.{line_of, formula_line, refusal_line, edits_line};
+ghost use Rattle.status_lines.specs.RunLines.{budget_line, conflicts_line, op_word, operands, too_large_line};
+ghost use Rattle.status_lines.specs.RunLines.{too_wide_line};
+ghost use Rattle.status_lines.specs.StopLines.{line_of, formula_line, refusal_line, edits_line};
 ghost use Rattle.edit_text.specs.EditText.{fault_text};
 
 use command_inputs::Stop;
@@ -103,7 +102,7 @@ pub(crate) fn budget_line(alloc: Global, pivots: u64) -> Result<Vec<u8>, OutOfMe
 }
 
 /// The line that tells that so many clauses were learned, and no more may be.
-pub(crate) fn conflicts_line(alloc: Global, conflicts: u64) -> Result<Vec<u8>, OutOfMemory>
+pub fn conflicts_line(alloc: Global, conflicts: u64) -> Result<Vec<u8>, OutOfMemory>
     ensures { IfOk result (λ line. line.items ≡ conflicts_line conflicts) }
 {
     numbered(alloc, b"leank: budget of ", conflicts, b" conflicts used\n")

@@ -2,9 +2,9 @@
 use Rattle.std.specs.Prelude.{◌≡◌, ℕ, List, []}
 use Rattle.linear_kernel.specs.declared.stop.LinearStop.{LinearStop}
 use Rattle.linear_kernel.specs.declared.stop.LinearStop.TheVariants as stop
-use Rattle.command_endings.specs.Commands.LinearReducing.{budget_line, too_large_line, too_wide_line}
-use Rattle.command_endings.specs.declared.status.Status.{Status}
-use Rattle.command_endings.specs.declared.status.Status.TheVariants.{Budget, TooWide, TooLarge}
+use Rattle.status_lines.specs.RunLines.{budget_line, too_large_line, too_wide_line}
+use Rattle.status_lines.specs.declared.status.Status.{Status}
+use Rattle.status_lines.specs.declared.status.Status.TheVariants.{Budget, TooWide, TooLarge}
 
 -- With this status nothing is written, and the line is said that tells why; want of memory is told elsewhere.
 abbrev pub TellsStop : LinearStop → Status → List ℕ → List ℕ → Type 0

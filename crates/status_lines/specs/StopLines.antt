@@ -6,8 +6,8 @@ use Rattle.edit_text.specs.EditText.{fault_text}
 use Rattle.edit_text.specs.declared.edit.EditFault.{EditFault}
 use Rattle.command_inputs.specs.declared.stop.Stop.{Stop}
 use Rattle.command_inputs.specs.declared.stop.Stop.TheVariants.{Words, Formula, Document, Model, Answer, Edits, Read, Memory}
-use Rattle.command_endings.specs.declared.status.Status.{Status}
-use Rattle.command_endings.specs.declared.status.Status.TheVariants as status
+use Rattle.status_lines.specs.declared.status.Status.{Status}
+use Rattle.status_lines.specs.declared.status.Status.TheVariants as status
 
 -- what the program says of a fault at a line of the formula
 abbrev pub formula_line : ℕ → List ℕ → List ℕ

@@ -1,0 +1,5 @@
+pub mod Statuses
+pub mod StopLines
+pub mod RunLines
+pub mod LinearStops
+pub mod Verdicts
