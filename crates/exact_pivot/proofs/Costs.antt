@@ -1,5 +1,5 @@
 -- The cost row at the start, from the entries of the rows.
-use Rattle.std.proofs.Common.{◌≡◌, ◌≢◌, ℕ, zero, suc, ◌+◌, ◌-◌, ◌*◌, ◌<◌, ◌≤◌, true, IsTrue, ◌^◌, List, [], ◌∷◌, ◌++◌, map, take, drop, replicate, length, get_or, set, ℤ, pos, neg_ℤ, ◌+ℤ◌, ◌-ℤ◌, unsigned_abs, refl, sym, ap, ◌∙◌, subst, arith}
+use Rattle.std.proofs.Common.{◌≡◌, ◌≢◌, ℕ, zero, suc, ◌+◌, ◌-◌, ◌*◌, ◌<◌, ◌≤◌, true, IsTrue, ◌^◌, List, [], ◌∷◌, ◌++◌, map, take, drop, replicate, length, get_or, set, ℤ, pos, neg_ℤ, ◌+ℤ◌, ◌-ℤ◌, unsigned_abs, refl, sym, ap, ◌∙◌, subst, arith, length-drop}
 use Rattle.std.proofs.lemmas.Int.{ints}
 use Rattle.std.proofs.lemmas.Bool.Decides.{nat_tests}
 use Rattle.std.proofs.lemmas.List.{drop_all, length-take, map_more}
@@ -203,6 +203,38 @@ take_range f a (suc m) n =
     let more : suc m + n ≡ suc (m + n) = omega arith in
     rw more (ap (λ xs. f a ∷ xs) (take_range f (a + 1) m n))
 
+-- zeros and a 1 behind them, where only the last number stays
+zeros_written : (r n k : ℕ) (s : List ℤ) → length s ≡ r + 2 → n ≡ r → k ≡ r + 1 → set (replicate r (pos 0) ++ drop r s) n (pos 1) ≡ replicate r (pos 0) ++ pos 1 ∷ get_or s k (pos 0) ∷ []
+zeros_written zero n k [] l e f = absurd (omega (arith, l))
+zeros_written zero n k (x ∷ []) l e f = absurd (omega (arith, l))
+zeros_written zero zero zero (x ∷ y ∷ s) l e f = absurd (omega (arith, f))
+zeros_written zero zero (suc zero) (x ∷ y ∷ []) l e f = refl
+zeros_written zero zero (suc zero) (x ∷ y ∷ z ∷ s) l e f = absurd (omega (arith, l))
+zeros_written zero zero (suc (suc k)) (x ∷ y ∷ s) l e f = absurd (omega (arith, f))
+zeros_written zero (suc n) k (x ∷ y ∷ s) l e f = absurd (omega (arith, e))
+zeros_written (suc r) n k [] l e f = absurd (omega (arith, l))
+zeros_written (suc r) zero k (x ∷ s) l e f = absurd (omega (arith, e))
+zeros_written (suc r) (suc n) zero (x ∷ s) l e f = absurd (omega (arith, f))
+zeros_written (suc r) (suc n) (suc k) (x ∷ s) l e f = ap (λ (xs : List ℤ). pos 0 ∷ xs) (zeros_written r n k s (omega (arith, l)) (omega (arith, e)) (omega (arith, f)))
+
+-- the same behind the first numbers, which stay
+cost_written : (m r n k : ℕ) (s : List ℤ) → length s ≡ m + r + 2 → n ≡ m + r → k ≡ m + r + 1
+    → set (take m s ++ (replicate r (pos 0) ++ drop r (drop m s))) n (pos 1) ≡ take m s ++ replicate r (pos 0) ++ pos 1 ∷ get_or s k (pos 0) ∷ []
+cost_written zero r n k [] l e f = zeros_written r n k [] (omega (arith, l)) (omega (arith, e)) (omega (arith, f))
+cost_written zero r n k (x ∷ s) l e f = zeros_written r n k (x ∷ s) (omega (arith, l)) (omega (arith, e)) (omega (arith, f))
+cost_written (suc m) r n k [] l e f = absurd (omega (arith, l))
+cost_written (suc m) r zero k (x ∷ s) l e f = absurd (omega (arith, e))
+cost_written (suc m) r (suc n) zero (x ∷ s) l e f = absurd (omega (arith, f))
+cost_written (suc m) r (suc n) (suc k) (x ∷ s) l e f = ap (λ (xs : List ℤ). x ∷ xs) (cost_written m r n k s (omega (arith, l)) (omega (arith, e)) (omega (arith, f)))
+
+pub cost_filled : (m r : ℕ) (s zeros : List ℤ) → length s ≡ m + r + 2 → zeros ≡ replicate (length (take (m + r - m) (drop m s))) (pos 0)
+    → set (take m s ++ (zeros ++ drop (m + r - m) (drop m s))) (m + r) (pos 1) ≡ take m s ++ replicate r (pos 0) ++ pos 1 ∷ get_or s (m + r + 1) (pos 0) ∷ []
+cost_filled m r s zeros l e =
+    let part : m + r - m ≡ r = omega arith in
+    let count : length (take (m + r - m) (drop m s)) ≡ r = (let a = length-take (m + r - m) (drop m s) in let b = length-drop m s in omega (arith, a, b, l)) in
+    let same : zeros ≡ replicate r (pos 0) = e ∙ ap (λ n. replicate n (pos 0)) count in
+    (λ j. set (take m s ++ (same j ++ drop (part j) (drop m s))) (m + r) (pos 1)) ∙ cost_written m r (m + r) (m + r + 1) s l refl refl
+
 pub cost_is : (m : ℕ) (rows : List Row) (sums : List ℤ) → sums ≡ map (less_column rows) (up_to (m + length rows + 2))
     → take m sums ++ replicate (length rows) (pos 0) ++ pos 1 ∷ get_or sums (m + length rows + 1) (pos 0) ∷ [] ≡ cost_of m rows
 cost_is m rows sums e =
@@ -220,14 +252,14 @@ all_columns : (f : ℕ → ℤ) (ks : List ℕ) → ((k : ℕ) → is_in_range (
 all_columns f [] h = All-nil (λ x. IsTrue (is_in_range x))
 all_columns f (k ∷ ks) h = All-cons (λ x. IsTrue (is_in_range x)) (f k) (map f ks) (h k) (all_columns f ks h)
 
-all_zeros : (n : ℕ) → AreInRange (replicate n (pos 0))
-all_zeros zero = All-nil (λ x. IsTrue (is_in_range x))
-all_zeros (suc n) = All-cons (λ x. IsTrue (is_in_range x)) (pos 0) (replicate n (pos 0)) refl (all_zeros n)
+pub zeros_in_range : (n : ℕ) → AreInRange (replicate n (pos 0))
+zeros_in_range zero = All-nil (λ x. IsTrue (is_in_range x))
+zeros_in_range (suc n) = All-cons (λ x. IsTrue (is_in_range x)) (pos 0) (replicate n (pos 0)) refl (zeros_in_range n)
 
 pub cost_in_range : (m : ℕ) (rows : List Row) → All (λ (row : Row). AreSmall row.entries) rows → length rows < 2 ^ 32 → AreInRange (cost_of m rows)
 cost_in_range m rows small few =
     let fits : (k : ℕ) → is_in_range (less_column rows k) ≡ true = (λ k. small_in_range (less_column rows k) (length rows) (less_most rows k small) few) in
     let p : ℤ → Type 0 = λ x. IsTrue (is_in_range x) in
     let last = less_column rows (m + length rows + 2) in
-    All-append p _ _ (All-append p _ _ (all_columns (less_column rows) (up_to m) fits) (all_zeros (length rows)))
+    All-append p _ _ (All-append p _ _ (all_columns (less_column rows) (up_to m) fits) (zeros_in_range (length rows)))
     (All-cons p (pos 1) (last ∷ []) refl (All-cons p last [] (fits (m + length rows + 2)) (All-nil p)))

@@ -1,6 +1,6 @@
 -- What a run that ends lean gives, in the words of its definitions and in those of the code.
 use Rattle.std.proofs.Common.{◌≡◌, ℕ, zero, suc, ◌+◌, ◌-◌, ◌<◌, ◌≤◌, ◌==◌, Bool, true, false, cond, List, [], ◌∷◌, ◌++◌, map, filter, find, zip, take, drop, length, get_or, Option, Some, None, Result, Err, ℤ, pos, int_div, refl, sym, ap, ◌∙◌, arith, subst}
-use Rattle.std.specs.List.{flat_map, range_with_len}
+use Rattle.std.specs.List.{All, flat_map, range_with_len}
 use Rattle.std.specs.Option.{option_or, option_map_or}
 use Rattle.std.proofs.lemmas.List.{take_more, take_all}
 use Rattle.std.proofs.lemmas.List.FromFn.{length-range_with_len}
@@ -17,9 +17,14 @@ use Rattle.exact_rows.proofs.Wides.{first_wide-append}
 use Rattle.exact_pivot.specs.declared.stop.PivotStop.{PivotStop}
 use Rattle.exact_pivot.specs.declared.stop.PivotStop.TheVariants.{Wide, OutOfMemory}
 use Rattle.exact_pivot.specs.Moves.{Gives}
-use Rattle.exact_pivot.specs.Placed.{sum_with, signed_of, placed_at, placed, common_of, made_in_common, duals_with, shares_with, duals_in, made_in_duals, unit_in, made_in_unit, made_in_unit_at, units_in, made_in_all}
+use Rattle.exact_pivot.specs.Shape.{IsRow}
+use Rattle.exact_pivot.specs.Placed.{IsBasic, sum_with, signed_of, placed_at, placed, common_of, made_in_common, duals_with, shares_with, duals_in, made_in_duals, unit_in, made_in_unit, made_in_unit_at, units_in, made_in_all}
 use Rattle.exact_pivot.proofs.Firsts.{flat_single, flat_at, flat_past, flat_end}
 use Rattle.exact_pivot.proofs.Stagings.{variable_at}
+
+-- rows of a tableau have basic columns
+pub all_basic : (n : ℕ) (rows : List Row) → All (IsRow n) rows → All IsBasic rows
+all_basic n rows all = λ k d h. (let row = all k d h in (row.least, row.positive))
 
 -- the first wide result of two lists where the first list has one
 pub wide_first : (vs ws : List Operands) (w : Operands) → Some w ≡ first_wide vs → first_wide (vs ++ ws) ≡ Some w

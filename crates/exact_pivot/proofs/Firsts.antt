@@ -1,11 +1,11 @@
 -- The first wide result of one operation, of several, and of what is made for each item of a list.
-use Rattle.std.proofs.Common.{◌≡◌, ℕ, suc, ◌+◌, ◌<◌, ◌≤◌, List, [], ◌∷◌, drop, length, get_or, map, Some, None, Result, Ok, Err, ℤ, refl, sym, ap, ◌∙◌, arith, drop-cons}
+use Rattle.std.proofs.Common.{◌≡◌, ℕ, suc, ◌+◌, ◌<◌, ◌≤◌, List, [], ◌∷◌, drop, length, get_or, map, Some, None, Result, Ok, Err, IfOk, ℤ, refl, sym, ap, ◌∙◌, arith, drop-cons}
 use Rattle.std.proofs.lemmas.List.{drop_all}
 use Rattle.std.specs.List.{flat_map}
 use Rattle.std.specs.Option.{option_or}
 use Rattle.std.specs.Result.{result_err}
 use Rattle.lk_model.specs.Limits.{is_in_range}
-use Rattle.lk_model.specs.Linear.Arithmetic.{first_wide, made}
+use Rattle.lk_model.specs.Linear.Arithmetic.{first_wide, made, result_by}
 use Rattle.lk_model.specs.declared.wide.Op.{Op}
 use Rattle.lk_model.specs.declared.wide.Wide.{Wide}
 use Rattle.exact_rows.specs.Made.{IsMade}
@@ -27,6 +27,11 @@ made-one op a b x h = made-first op a b (Ok x) h
 pub made-two : (op then : Op) (a b c d x : ℤ) (r : Result ℤ Wide) → IsMade op a b (Ok x) → IsMade then c d r
     → result_err r ≡ first_wide (made op a b ∷ made then c d ∷ [])
 made-two op then a b c d x r h k = made-first then c d r k ∙ sym (made-ok op a b (made then c d ∷ []) x h)
+
+-- a result that is told is what the operation gives
+pub made-value : (op : Op) (a b : ℤ) (r : Result ℤ Wide) → IsMade op a b r → IfOk r (λ x. x ≡ result_by op a b)
+made-value op a b (Ok x) h = h.1
+made-value op a b (Err w) h = tt
 
 -- what is made from an item on: what is made for it, and what is made later
 flat_from : {X : Type 0} (g : X → List Wide) (xs : List X) (i : ℕ) (d : X) → i < length xs

@@ -1,5 +1,5 @@
 -- Quotients in lowest terms, and the least common multiple of a column's denominators, row after row.
-use Rattle.std.proofs.Common.{◌≡◌, ℕ, suc, ◌+◌, ◌<◌, ◌≤◌, List, ◌∷◌, map, drop, length, get_or, Option, Some, None, Ok, Err, ℤ, pos, ◌*ℤ◌, ◌<ℤ◌, refl, sym, ap, ◌∙◌, arith, drop-cons, subst}
+use Rattle.std.proofs.Common.{◌≡◌, ℕ, suc, ◌+◌, ◌<◌, ◌≤◌, List, ◌∷◌, map, drop, length, get_or, Option, Some, None, Result, Ok, Err, IfOk, ℤ, pos, ◌*ℤ◌, ◌<ℤ◌, refl, sym, ap, ◌∙◌, arith, drop-cons, subst}
 use Rattle.std.proofs.lemmas.List.{drop_all}
 use Rattle.lk_model.specs.Linear.Arithmetic.{first_wide, gcd_of, reduced}
 use Rattle.lk_model.specs.Linear.Rows.{Row}
@@ -9,10 +9,16 @@ use Rattle.lk_model.specs.declared.wide.Wide.{Wide}
 use Rattle.exact_rows.specs.Made.{IsMade}
 use Rattle.exact_rows.proofs.Divisors.{gcd_of_some, gcd_of_comm}
 use Rattle.exact_pivot.proofs.Firsts.{made-err, made-ok}
+use Rattle.exact_pivot.proofs.Wholes.{times_some}
 
 -- the gcd is positive where one of the numbers is
 pub gcd_of_some_second : (x y : ℤ) → pos 0 <ℤ y → pos 0 <ℤ gcd_of x y
 gcd_of_some_second x y h = subst (λ g. pos 0 <ℤ g) (gcd_of_comm y x) (gcd_of_some y x h)
+
+-- a product of numbers above 0
+pub made_some : (a b : ℤ) (r : Result ℤ Wide) → IsMade Product a b r → pos 0 <ℤ a → pos 0 <ℤ b → IfOk r (λ x. pos 0 <ℤ x)
+made_some a b (Ok x) m h k = subst (λ z. pos 0 <ℤ z) (sym m.1) (times_some a b h k)
+made_some a b (Err w) m h k = tt
 
 -- a row's denominator is joined: what the least common multiple is from it on
 pub join_value : (k : ℕ) (rows : List Row) (i : ℕ) (d : Row) (l q z all : ℤ) → i < length rows → d ≡ get_or rows i d → q ≡ denominator k d

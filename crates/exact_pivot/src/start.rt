@@ -1,6 +1,6 @@
 //! The rows at the start.
 ghost use Rattle.std.specs.Prelude.{◌≡◌, ℕ, ◌<◌, ◌≤◌, ◌+◌, ◌-◌, ◌++◌, ◌∷◌, [], pos, ◌^◌, ◌-ℤ◌};
-ghost use Rattle.std.specs.Prelude.{◌+ℤ◌, ◌*ℤ◌, length, map, replicate, take, slice_index_or, slice_set, IsTrue};
+ghost use Rattle.std.specs.Prelude.{◌+ℤ◌, ◌*ℤ◌, length, map, replicate, slice_set, IsTrue};
 ghost use Rattle.std.specs.Prelude.{IfOk, OnOk, unsigned_abs};
 ghost use Rattle.std.specs.List.{All};
 ghost use Rattle.lk_model.specs.Lists.{rises_within, up_to};
@@ -155,26 +155,24 @@ pub fn start_cost(alloc: Global, m: u32, rows: &[Equation]) -> Result<Numbers, O
     requires small { All (λ (row : Row). AreSmall row.entries) rows.now }
     ensures { IfOk result (λ cost. cost ≡ cost_of m rows.now) }
 {
-    let mut sums = vec![in alloc; 0; m as usize + rows.len() + 2]?;
-    subtract_rows(&mut sums, rows);
-    let cost = cost_numbers(alloc, m as usize, rows.len(), &sums)?;
-    let row = SparseRow::of(alloc, &cost)?;
-    Ok(Numbers::of(row))
+    let mut cost = vec![in alloc; 0; m as usize + rows.len() + 2]?;
+    write_cost(&mut cost, m as usize, rows);
+    Ok(Numbers::of(SparseRow::of(alloc, &cost)?))
 }
 
-// The numbers of the cost row, for so many clauses and variables: those of the clauses and that on the right side.
-fn cost_numbers(alloc: Global, m: usize, r: usize, sums: &[i128]) -> Result<Vec<i128>, OutOfMemory>
-    requires { length sums.now ≡ m + r + 2 }
-    ensures { IfOk result
-        (λ cost. cost.items ≡ take m sums.now ++ replicate r (pos 0) ++ pos 1 ∷ slice_index_or sums.now (m + r + 1)
-        (pos 0) ∷ []) }
+// Writes the cost row of so many clauses over zeros. The sums stay in the columns of the clauses and on the right side;
+// each variable's own column is 0, and the cost unit 1.
+fn write_cost(cost: &mut [i128], m: usize, rows: &[Equation])
+    requires none { cost.old ≡ replicate (m + length rows.now + 2) (pos 0) }
+    requires count { length rows.now < 2 ^ 32 }
+    requires widths { All (λ (row : Row). length row.entries ≡ m + length rows.now + 2) rows.now }
+    requires small { All (λ (row : Row). AreSmall row.entries) rows.now }
+    ensures { cost.new ≡ cost_of m rows.now }
 {
-    let mut cost = Vec::with_capacity(alloc, sums.len())?;
-    cost.extend_from_slice(&sums[..m])?;
-    push_none(&mut cost, r)?;
-    cost.push(1)?;
-    cost.push(sums[m + r + 1])?;
-    Ok(cost)
+    subtract_rows(cost, rows);
+    let unit = m + rows.len();
+    cost[m..unit].fill(0);
+    cost[unit] = 1;
 }
 
 // Subtracts all rows from a row of zeros.
@@ -213,16 +211,6 @@ fn subtract_at(sums: &mut [i128], column: usize, x: i128)
 {
     let k = column - 1;
     sums[k] = less(sums[k], x);
-}
-
-// Appends so many times 0.
-fn push_none(cost: &mut Vec<i128>, r: usize) -> Result<(), OutOfMemory>
-    ensures { OnOk result (cost.new.items ≡ cost.old.items ++ replicate r (pos 0)) }
-{
-    for k in 0..r {
-        cost.push(0)?;
-    }
-    Ok(())
 }
 
 // The difference of numbers that are far from the limits.

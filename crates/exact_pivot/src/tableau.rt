@@ -63,8 +63,7 @@ impl Tableau {
         requires { IsTrue (rises_within 0 (length f.now.clauses) kept.now) }
         ensures { IfOk result (λ t. t ≡ start_of f.now kept.now) }
     {
-        let mut positions = Vec::with_capacity(alloc, kept.len())?;
-        positions.extend_from_slice(kept)?;
+        let positions = kept.to_vec(alloc)?;
         let vars = f.occurring(alloc, kept)?.into_vec();
         let (signs, rows) = start_rows(alloc, f, kept, &vars)?;
         let cost = start_cost(alloc, kept.len() as u32, &rows)?;

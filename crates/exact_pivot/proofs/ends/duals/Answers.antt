@@ -5,7 +5,7 @@ use Rattle.std.proofs.lemmas.Int.{to_z-of_z}
 use Rattle.std.proofs.lemmas.Result.{err_from_is_err_and}
 use Rattle.std.proofs.lemmas.List.{take_at}
 use Rattle.exact_pivot.specs.Placed.{duals_with}
-use Rattle.exact_pivot.proofs.Endings.{gives_duals, wide_first, wide_second, duals_found}
+use Rattle.exact_pivot.proofs.Endings.{all_basic, gives_duals, wide_first, wide_second, duals_found}
 use Rattle.exact_pivot.proofs.ends.duals.Goals as goal
 
 pub returns-in_err-common : goal.returns-in_err-common
@@ -34,3 +34,12 @@ returns c =
       wide_second _ _ None c.in_ok-common.ensures.wide (rw (← value) wide),
       duals_found c.args.column c.args.positions.now c.args.rows.now _ _ _ _ value (c.deref.ensures.value ∙ take_at _ _ _ (omega (arith, long, c.in_ok-write_sums.ensures.length)) ∙ values) numbers (c.from_vec.ensures ∙ c.in_ok-with_positions.ensures ∙ ap (duals_with c.args.positions.now) c.deref-2.ensures.value),
     )
+
+pub common-requires : goal.common-requires
+common-requires c = all_basic c.args.column c.args.rows.now c.requires
+
+pub write_sums-requires-clause-rows : goal.write_sums-requires-clause-rows
+write_sums-requires-clause-rows c = all_basic c.args.column c.args.rows.now c.requires
+
+pub placed-requires-clause-rows : goal.placed-requires-clause-rows
+placed-requires-clause-rows c = all_basic c.args.column c.args.rows.now c.requires

@@ -4,7 +4,7 @@ use mir.Syntax.{w128}
 use Rattle.std.proofs.lemmas.Int.{to_z-of_z}
 use Rattle.std.proofs.lemmas.Result.{err_from_is_err_and}
 use Rattle.exact_pivot.specs.Placed.{unit_in, units_in}
-use Rattle.exact_pivot.proofs.Endings.{gives_units, units_stop, units_past, units_none, units_step, units_end}
+use Rattle.exact_pivot.proofs.Endings.{all_basic, gives_units, units_stop, units_past, units_none, units_step, units_end}
 use Rattle.exact_pivot.proofs.ends.units.Goals as goal
 
 pub returns-in_err-unit : goal.returns-in_err-unit
@@ -31,3 +31,6 @@ returns c =
       units_none (length c.args.positions.now) (length c.args.vars.now) c.args.rows.now c.loop-j.j (omega arith) c.loop-j.invariant.wide,
       c.from_vec.ensures ∙ units_end c.args.positions.now c.args.vars.now c.args.signs.now c.args.rows.now c.loop-j.j _ (omega arith) c.loop-j.invariant.value,
     )
+
+pub unit-requires-clause-rows : goal.unit-requires-clause-rows
+unit-requires-clause-rows c = all_basic (length c.args.positions.now + length c.args.vars.now + 2) c.args.rows.now c.requires.rows

@@ -4,7 +4,7 @@ use mir.Syntax.{w128}
 use Rattle.std.proofs.lemmas.Int.{to_z-of_z}
 use Rattle.std.proofs.lemmas.List.{get_or-map, length-map}
 use Rattle.std.proofs.lemmas.Result.{err_from_is_err_and}
-use Rattle.exact_rows.proofs.Quotients.{step_written}
+use Rattle.exact_rows.proofs.Quotients.{step_written, end_written}
 use Rattle.exact_pivot.specs.Placed.{sum_with, made_in_sum}
 use Rattle.exact_pivot.proofs.Firsts.{flat_at, flat_past, flat_end}
 use Rattle.exact_pivot.proofs.ends.write_sums.Goals as goal
@@ -37,3 +37,10 @@ returns-clause-wide c =
     let l = c.ranges.common in
     let before = simp to_z-of_z at (c.loop-i.invariant.wide) in
     flat_end (made_in_sum c.args.common c.args.column) c.args.rows.now c.loop-i.i (omega arith) before
+
+pub returns-clause-value : goal.returns-clause-value
+returns-clause-value c =
+    let l = c.ranges.common in
+    let written = simp to_z-of_z at (c.loop-i.invariant.value) in
+    let size = length-map c.args.rows.now (sum_with c.args.common c.args.column) ∙ sym c.requires.lengths in
+    end_written (map (sum_with c.args.common c.args.column) c.args.rows.now) c.args.values.now c.loop-i.values c.loop-i.i size (omega arith) written

@@ -40,10 +40,10 @@ pub invariant_of-result : goal.invariant_of-result
 invariant_of-result c =
     let f = c.args.f.now in
     let kept = c.args.kept.now in
-    let positions = c.in_ok-extend_from_slice.ensures.items ∙ ap (λ (ps : List ℕ). ps ++ kept) c.in_ok-positions.ensures.items in
+    let positions = c.in_ok-positions.ensures.items_if_clones_equal (λ x y e. e) in
     let signs = c.in_ok-signs.ensures.signs ∙ ap (map (sign_of f kept)) c.deref.ensures.value in
     let cost = c.in_ok-cost.ensures ∙ ap (cost_of (length kept)) c.deref-2.ensures.value in
-    let is = begun f kept c.extend_from_slice.new.self.items c.into_vec-vars.result.items c.in_ok-signs.signs.items c.in_ok-signs.rows.items c.in_ok-cost.cost
+    let is = begun f kept c.in_ok-positions.positions.items c.into_vec-vars.result.items c.in_ok-signs.signs.items c.in_ok-signs.rows.items c.in_ok-cost.cost
     positions (c.into_vec-vars.ensures ∙ c.in_ok-occurring.ensures.value) signs c.in_ok-signs.ensures.rows cost in
     let few : length kept ≤ 4000000 = (let most = rising_count 0 (length f.clauses) kept c.requires (omega arith) in omega (arith, most, c.occurring.ensures.limits.clauses)) in
     subst IsTableau (sym is) (begun_keeps f kept few c.occurring.ensures.limits.vars)
@@ -52,9 +52,9 @@ pub returns : goal.returns
 returns c =
     let f = c.args.f.now in
     let kept = c.args.kept.now in
-    let positions = c.in_ok-extend_from_slice.ensures.items ∙ ap (λ (ps : List ℕ). ps ++ kept) c.in_ok-positions.ensures.items in
+    let positions = c.in_ok-positions.ensures.items_if_clones_equal (λ x y e. e) in
     let signs = c.in_ok-signs.ensures.signs ∙ ap (map (sign_of f kept)) c.deref.ensures.value in
     let cost = c.in_ok-cost.ensures ∙ ap (cost_of (length kept)) c.deref-2.ensures.value in
-    let is = begun f kept c.extend_from_slice.new.self.items c.into_vec-vars.result.items c.in_ok-signs.signs.items c.in_ok-signs.rows.items c.in_ok-cost.cost
+    let is = begun f kept c.in_ok-positions.positions.items c.into_vec-vars.result.items c.in_ok-signs.signs.items c.in_ok-signs.rows.items c.in_ok-cost.cost
     positions (c.into_vec-vars.ensures ∙ c.in_ok-occurring.ensures.value) signs c.in_ok-signs.ensures.rows cost in
     is
