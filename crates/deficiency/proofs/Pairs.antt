@@ -1,6 +1,8 @@
 -- The pairs of a matching as entries.
-use Rattle.std.proofs.Common.{◌≡◌, ◌≢◌, ℕ, zero, suc, ◌-◌, ◌<◌, Bool, true, false, cond, not, ◌==◌, List, [], ◌∷◌, length, get_or, refl, sym, ◌∙◌, ap, subst, arith, filter, map, zip, Contains}
+use Rattle.std.proofs.Common.{◌≡◌, ◌≢◌, ℕ, zero, suc, ◌+◌, ◌-◌, ◌<◌, ◌≤◌, Bool, true, false, cond, not, ◌==◌, List, [], ◌∷◌, ◌++◌, drop, length, get_or, refl, sym, ◌∙◌, ap, subst, arith, filter, map, zip, Contains}
 use Rattle.std.proofs.lemmas.Bool.{eqb-true, eq-eqb, both_ways, lt-ltb, le-leb}
+use Rattle.std.proofs.lemmas.Bool.Decides.{nat_tests}
+use Rattle.std.proofs.lemmas.List.{append-nil, append_assoc, drop_all, drop_more}
 use Rattle.lk_model.specs.Lists.{among, rises_within}
 use Rattle.lk_model.specs.Formulas.Literal.{mentions}
 use Rattle.lk_model.specs.Formulas.Formula.{Cnf, clause_at}
@@ -26,6 +28,34 @@ pairs_more p v part cl = at_test (not (v == 0))
         ≡ cond b (record { pos = p; var = v } ∷ pairs_of part cl) (pairs_of part cl)
     at_test true = refl
     at_test false = refl
+
+-- along the list: a clause with a variable is one pair more
+pub pair_taken : (part cl : List ℕ) (own after : List Own) (i : ℕ) (all : List Own) → i < length part → length part ≡ length cl → get_or cl i 0 ≢ 0
+    → after ≡ own ++ record { pos = get_or part i 0; var = get_or cl i 0 } ∷ [] → own ++ pairs_of (drop i part) (drop i cl) ≡ all → after ++ pairs_of (drop (i + 1) part) (drop (i + 1) cl) ≡ all
+unfolding with_entry
+pair_taken part cl own after i all h l some a e =
+    let k : i < length cl = omega (arith, h, l) in
+    let pair : Own = record { pos = get_or part i 0; var = get_or cl i 0 } in
+    let rest = pairs_of (drop (i + 1) part) (drop (i + 1) cl) in
+    let test : not (get_or cl i 0 == 0) ≡ true = grind (arith, nat_tests, some) in
+    let start : pairs_of (drop i part) (drop i cl) ≡ pair ∷ rest = (λ j. pairs_of (drop_more part i 0 h j) (drop_more cl i 0 k j)) ∙ pairs_more (get_or part i 0) (get_or cl i 0) (drop (i + 1) part) (drop (i + 1) cl)
+    ∙ ap (λ b. with_entry b (get_or part i 0) (get_or cl i 0) rest) test in
+    ap (λ os. os ++ rest) a ∙ append_assoc own (pair ∷ []) rest ∙ ap (λ os. own ++ os) (sym start) ∙ e
+
+-- and one without is none
+pub pair_left : (part cl : List ℕ) (own after : List Own) (i : ℕ) (all : List Own) → i < length part → length part ≡ length cl → get_or cl i 0 ≡ 0
+    → after ≡ own → own ++ pairs_of (drop i part) (drop i cl) ≡ all → after ++ pairs_of (drop (i + 1) part) (drop (i + 1) cl) ≡ all
+unfolding with_entry
+pair_left part cl own after i all h l none a e =
+    let k : i < length cl = omega (arith, h, l) in
+    let rest = pairs_of (drop (i + 1) part) (drop (i + 1) cl) in
+    let test : not (get_or cl i 0 == 0) ≡ false = grind (arith, nat_tests, none) in
+    let start : pairs_of (drop i part) (drop i cl) ≡ rest = (λ j. pairs_of (drop_more part i 0 h j) (drop_more cl i 0 k j)) ∙ pairs_more (get_or part i 0) (get_or cl i 0) (drop (i + 1) part) (drop (i + 1) cl)
+    ∙ ap (λ b. with_entry b (get_or part i 0) (get_or cl i 0) rest) test in
+    ap (λ os. os ++ rest) a ∙ ap (λ os. own ++ os) (sym start) ∙ e
+
+pub pairs_done : (part cl : List ℕ) (own : List Own) (i : ℕ) (all : List Own) → length part ≤ i → own ++ pairs_of (drop i part) (drop i cl) ≡ all → own ≡ all
+pairs_done part cl own i all h e = sym (append-nil own) ∙ ap (λ ps. own ++ pairs_of ps (drop i cl)) (sym (drop_all i part h)) ∙ e
 
 pub record FromPair (part cl : List ℕ) (o : Own) : Type 0 where
   pub index : ℕ

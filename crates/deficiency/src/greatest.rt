@@ -8,12 +8,14 @@
 //!
 //! One maximum matching and one search from what it leaves give all three parts of the result. What shows the value is
 //! so small that it can be checked by counting: the set from below, the variables of the clauses' own from above.
-ghost use Rattle.std.specs.Prelude.{◌≡◌, ◌+◌, ◌≤◌, length, map, filter, zip, IfOk};
-ghost use Rattle.lk_model.specs.Formulas.Lean.{Kernel};
-ghost use Rattle.lk_model.specs.declared.class.Class.TheVariants.{Matching};
+ghost use Rattle.std.specs.Prelude.{◌≡◌, ◌+◌, ◌≤◌, length, map, filter, zip, IfOk, IsTrue};
+ghost use Rattle.lk_model.specs.Formulas.Formula.{positions_of};
+ghost use Rattle.lk_model.specs.Formulas.Lean.{are_positions, Kernel};
+ghost use Rattle.lk_model.specs.declared.class.Class.TheVariants.{Matching as TheMatching};
+ghost use Rattle.bipartite_match.specs.Matchings.{IsMaximum};
 ghost use Rattle.deficiency.specs.Deficiency.{AreOwners, HasDeficiency, IsMaxDeficiency, pairs_of};
 
-use bipartite_match::{maximum, reach};
+use bipartite_match::{Matching, maximum, reach};
 use lk_model::{Formula, List, OutOfMemory, Own};
 use matching_kernel::reached_law;
 use std::alloc::Global;
@@ -33,15 +35,34 @@ pub struct Deficiency {
 /// clauses. It costs a maximum matching and a search.
 pub fn max_deficiency(alloc: Global, f: &Formula) -> Result<Deficiency, OutOfMemory>
     ensures value { IfOk result (λ d. IsMaxDeficiency f.now d.value) }
-    ensures kept { IfOk result (λ d. Kernel Matching f.now d.kept) }
+    ensures kept { IfOk result (λ d. Kernel TheMatching f.now d.kept) }
     ensures kept_has_it { IfOk result (λ d. HasDeficiency f.now d.kept d.value) }
     ensures own { IfOk result (λ d. AreOwners f.now d.own) }
     ensures own_all_but { IfOk result (λ d. length d.own + d.value ≡ length f.now.clauses) }
 {
     let part = f.positions(alloc)?;
     let m = maximum(alloc, f, part.as_slice())?;
-    let reached = reach(alloc, f, part.as_slice(), &m)?;
-    let own = pairs(alloc, part.as_slice(), m.of_clause.as_slice())?;
+    by_matching(alloc, f, part.as_slice(), &m)
+}
+
+// The same by a maximum matching of all clauses.
+fn by_matching(
+    alloc: Global,
+    f: &Formula,
+    part: &[u32],
+    m: &Matching,
+) -> Result<Deficiency, OutOfMemory>
+    requires part { part.now ≡ positions_of f.now }
+    requires positions { IsTrue (are_positions f.now part.now) }
+    requires maximum { IsMaximum f.now part.now m.now }
+    ensures value { IfOk result (λ d. IsMaxDeficiency f.now d.value) }
+    ensures kept { IfOk result (λ d. Kernel TheMatching f.now d.kept) }
+    ensures kept_has_it { IfOk result (λ d. HasDeficiency f.now d.kept d.value) }
+    ensures own { IfOk result (λ d. AreOwners f.now d.own) }
+    ensures own_all_but { IfOk result (λ d. length d.own + d.value ≡ length f.now.clauses) }
+{
+    let reached = reach(alloc, f, part, m)?;
+    let own = pairs(alloc, part, m.of_clause.as_slice())?;
     reached_law();
     Ok(Deficiency {
         value: left_of(f.len(), &own),
@@ -52,18 +73,17 @@ pub fn max_deficiency(alloc: Global, f: &Formula) -> Result<Deficiency, OutOfMem
 
 /// The clauses of the part that have a variable, with it.
 fn pairs(alloc: Global, part: &[u32], of_clause: &[u32]) -> Result<Vec<Own>, OutOfMemory>
+    requires { length part.now ≡ length of_clause.now }
     ensures { IfOk result (λ own. own.items ≡ pairs_of part.now of_clause.now) }
 {
-    Ok(
-        part.iter()
-            .zip(of_clause)
-            .filter(|(_, v)| **v != 0)
-            .map(|(pos, var)| Own {
-                pos: *pos,
-                var: *var,
-            })
-            .collect(alloc)?,
-    )
+    let mut own = Vec::new(alloc);
+    for (i, pos) in part.iter().enumerate() {
+        let var = of_clause[i];
+        if var != 0 {
+            own.push(Own { pos: *pos, var })?;
+        }
+    }
+    Ok(own)
 }
 
 /// How many clauses have none.

@@ -1,44 +1,10 @@
-use Rattle.std.proofs.Common.{List, ℕ, ◌∙◌, ap, subst, sym, length, IsTrue, arith, ◌+◌}
-use Rattle.lk_model.specs.Formulas.Formula.{positions_of}
-use Rattle.lk_model.specs.Formulas.Lean.{are_positions}
-use Rattle.lk_model.specs.declared.document.Own.{Own}
+use Rattle.std.proofs.Common.{List, ℕ, ◌∙◌, sym, subst}
 use Rattle.bipartite_match.specs.Matchings.{IsMaximum}
-use Rattle.bipartite_match.specs.Walks.{IsReached}
-use Rattle.deficiency.specs.Deficiency.{pairs_of}
-use Rattle.deficiency.proofs.Attained.{IsAttained, is_attained, pairs_fit}
 use Rattle.deficiency.proofs.greatest.max_deficiency.Goals as goal
 
-pub left_of-requires : goal.left_of-requires
-left_of-requires c =
-    let f = c.args.f.now in
-    let all = c.in_ok-part.ensures.value in
-    let rise = subst (λ (ps : List ℕ). IsTrue (are_positions f ps)) all c.in_ok-part.ensures.part in
-    let is = c.in_ok-own.ensures
-    ∙ ap (λ (ps : List ℕ). pairs_of ps c.as_slice-4.result.now) (c.as_slice-3.ensures ∙ all)
-    ∙ ap (λ (cl : List ℕ). pairs_of (positions_of f) cl) c.as_slice-4.ensures in
-    let fit = pairs_fit f c.in_ok-m.m rise in
-    let same = ap (λ (own : List Own). length own) (c.deref.ensures.value ∙ is) in
-    let clauses = c.len.ensures.value in
-    omega (arith, fit, same, clauses)
+pub by_matching-requires-clause-part : goal.by_matching-requires-clause-part
+by_matching-requires-clause-part c = c.as_slice-2.ensures ∙ c.in_ok-part.ensures.value
 
-pub returns : goal.returns
-returns c =
-    let f = c.args.f.now in
-    let all = c.in_ok-part.ensures.value in
-    let m = c.in_ok-m.m in
-    let r = c.in_ok-reached.reached in
-    let rise = subst (λ (ps : List ℕ). IsTrue (are_positions f ps)) all c.in_ok-part.ensures.part in
-    let is = c.in_ok-own.ensures
-    ∙ ap (λ (ps : List ℕ). pairs_of ps c.as_slice-4.result.now) (c.as_slice-3.ensures ∙ all)
-    ∙ ap (λ (cl : List ℕ). pairs_of (positions_of f) cl) c.as_slice-4.ensures in
-    let most = subst (λ (ps : List ℕ). IsMaximum f ps m) (c.as_slice.ensures ∙ all) c.in_ok-m.ensures.maximum in
-    let reached = subst (λ (ps : List ℕ). IsReached f ps m r) (c.as_slice-2.ensures ∙ all) c.in_ok-reached.ensures in
-    let count = ap (λ (own : List Own). length own + c.left_of.result) (c.from_vec.ensures ∙ sym c.deref.ensures.value) ∙ c.left_of.ensures ∙ c.len.ensures.value in
-    let found : IsAttained f r c.from_vec.result c.left_of.result = is_attained c.reached_law.ensures f m r c.from_vec.result c.left_of.result c.len.ensures.formula c.len.ensures.limits rise most reached (c.from_vec.ensures ∙ is) count in
-    record {
-      value = found.is_value;
-      kept = found.is_kernel;
-      kept_has_it = found.has_it;
-      own = found.owners;
-      own_all_but = count;
-    }
+pub by_matching-requires-clause-maximum : goal.by_matching-requires-clause-maximum
+by_matching-requires-clause-maximum c =
+    subst (λ (ps : List ℕ). IsMaximum c.args.f.now ps c.in_ok-m.m) (c.as_slice.ensures ∙ sym c.as_slice-2.ensures) c.in_ok-m.ensures.maximum
