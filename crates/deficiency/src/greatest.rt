@@ -8,7 +8,7 @@
 //!
 //! One maximum matching and one search from what it leaves give all three parts of the result. What shows the value is
 //! so small that it can be checked by counting: the set from below, the variables of the clauses' own from above.
-ghost use Rattle.std.specs.Prelude.{◌≡◌, ◌+◌, ◌≤◌, length, map, filter, zip, IfOk, IsTrue};
+ghost use Rattle.std.specs.Prelude.{◌≡◌, ◌+◌, ◌≤◌, length, IfOk, IsTrue};
 ghost use Rattle.lk_model.specs.Formulas.Formula.{positions_of};
 ghost use Rattle.lk_model.specs.Formulas.Lean.{are_positions, Kernel};
 ghost use Rattle.lk_model.specs.declared.class.Class.TheVariants.{Matching as TheMatching};
