@@ -1,5 +1,6 @@
 -- How what is found of a formula is answered by `mus`.
-use Rattle.std.proofs.Common.{◌≡◌, ◌∙◌, ℕ, ◌<◌, ◌^◌, true, List, [], ◌∷◌, None, length, ℤ, refl, sym, ap, subst, arith}
+use Rattle.std.proofs.Common.{◌≡◌, ◌∙◌, ℕ, ◌<◌, ◌^◌, true, List, [], ◌∷◌, Option, Some, None, length, ℤ, refl, sym, ap, subst, arith}
+use Rattle.std.specs.Prelude.{IfSome}
 use Rattle.lk_model.specs.Formulas.Formula.{Cnf, is_formula, IsWithinLimits, clauses_at, positions_of}
 use Rattle.lk_model.specs.Formulas.Assignment.{assignment_of}
 use Rattle.lk_model.specs.Checks.Checks.{IsSound, HasProgress}
@@ -12,6 +13,7 @@ use Rattle.lk_model.specs.declared.result.MusResult.{MusResult}
 use Rattle.kernel_laws.specs.General.Found.{IsUnfinished}
 use Rattle.kernel_laws.specs.General.OpenResults.{open_document}
 use Rattle.kernel_laws.proofs.General.OpenResults.{open_result_law}
+use Rattle.kernel_solve.specs.EmptyClause.{first_empty}
 use Rattle.kernel_solve.proofs.OpenRounds.{open_sound}
 use Rattle.minimal_laws.specs.CoreLaw.{IsCore}
 use Rattle.mus_core.specs.Found.{IsWholeModel, IsStoppedAt, TakesEmpty}
@@ -26,7 +28,7 @@ use Rattle.status_lines.specs.RunLines.{conflicts_line}
 use Rattle.command_endings.specs.Commands.Extracting.{WritesCore, WritesUnfinished, Answers, Decides}
 use Rattle.status_lines.specs.declared.status.Status.{Status}
 use Rattle.status_lines.specs.declared.status.Status.TheVariants.{Done, Words, Input, ReadFault, WriteFault, Budget, TooWide, TooLarge, Refused, Memory, Satisfiable, Unsatisfiable}
-use Rattle.command_endings.proofs.SolveEndings.{writes_model}
+use Rattle.command_endings.proofs.SolveEndings.{writes_model, not_enough}
 use Rattle.command_endings.proofs.VerifiedAnswers.{minimal_core}
 
 -- WHAT IS WRITTEN
@@ -44,11 +46,16 @@ writes_core F r core written form limits h empty told text =
       empty = empty;
     }
 
+-- what is no core comes only where no clause is empty
+no_core : (o : Option ℕ) → IfSome o (λ p. ⊥) → o ≡ None
+no_core None h = refl
+no_core (Some p) h = absurd h
+
 -- the text of an open round over some of the clauses
 writes_unfinished : (options : Options) (F : Cnf) (part : List ℕ) (texts : Cnf) (round : Round) (rounds : List Round) (d : OpenDocument) (written : List ℕ) → is_formula texts ≡ true → IsWithinLimits texts
-    → IsStoppedAt F options.conflicts part texts round → options.conflicts < 2 ^ 63 → rounds ≡ round ∷ [] → d ≡ open_document_of texts None options.conflicts rounds → written ≡ text_of (Unfinished d)
-    → WritesUnfinished options F written
-writes_unfinished options F part texts round rounds d written form limits h most one told text =
+    → IsStoppedAt F options.conflicts part texts round → TakesEmpty F (found.Unfinished part texts round) → options.conflicts < 2 ^ 63 → rounds ≡ round ∷ []
+    → d ≡ open_document_of texts None options.conflicts rounds → written ≡ text_of (Unfinished d) → WritesUnfinished options F written
+writes_unfinished options F part texts round rounds d written form limits h empty most one told text =
     let G = clauses_at F part in
     let u : IsUnfinished G (positions_of G) options.conflicts (round ∷ []) = subst (λ (H : Cnf). IsUnfinished H (positions_of H) options.conflicts (round ∷ [])) h.texts_are h.unfinished in
     let form_there : is_formula G ≡ true = subst (λ (H : Cnf). is_formula H ≡ true) h.texts_are form in
@@ -59,6 +66,7 @@ writes_unfinished options F part texts round rounds d written form limits h most
     let same : open_document G (round ∷ []) ≡ d = counted ∙ sym told_there in
     let all = u.all in
     record {
+      filled = no_core (first_empty F) empty;
       part = part;
       positions = h.positions;
       unfinished = record {
@@ -90,11 +98,12 @@ model_answers options F literals status written said h is text silent =
     subst (λ (s : Status). Answers options F s written said) (sym is) (writes_model F literals written (record { total = h.total; satisfies = h.satisfied }) text, silent)
 
 pub open_answers : (options : Options) (F : Cnf) (part : List ℕ) (texts : Cnf) (round : Round) (rounds : List Round) (d : OpenDocument) (status : Status) (written said : List ℕ) → is_formula texts ≡ true → IsWithinLimits texts
-    → IsStoppedAt F options.conflicts part texts round → options.conflicts < 2 ^ 63 → rounds ≡ round ∷ [] → d ≡ open_document_of texts None options.conflicts rounds
-    → status ≡ Budget → written ≡ text_of (Unfinished d) → said ≡ conflicts_line d.learned → Answers options F status written said
-open_answers options F part texts round rounds d status written said form limits h most one told is text line =
+    → IsStoppedAt F options.conflicts part texts round → TakesEmpty F (found.Unfinished part texts round) → options.conflicts < 2 ^ 63 → rounds ≡ round ∷ []
+    → d ≡ open_document_of texts None options.conflicts rounds → status ≡ Budget → written ≡ text_of (Unfinished d) → said ≡ conflicts_line d.learned
+    → Answers options F status written said
+open_answers options F part texts round rounds d status written said form limits h empty most one told is text line =
     subst (λ (s : Status). Answers options F s written said) (sym is)
-    (writes_unfinished options F part texts round rounds d written form limits h most one told text, line ∙ ap (λ (e : OpenDocument). conflicts_line e.learned) told)
+    (writes_unfinished options F part texts round rounds d written form limits h empty most one told text, line ∙ ap (λ (e : OpenDocument). conflicts_line e.learned) told)
 
 -- WHAT IS DECIDED
 
@@ -102,7 +111,7 @@ open_answers options F part texts round rounds d status written said form limits
 pub mus_status : (options : Options) (F : Cnf) (decided status : Status) (written said : List ℕ) → Decides options F decided → Answers options F status written said → status ≡ decided
 mus_status options F Done Done written said d a = refl
 mus_status options F Done Satisfiable written said d a = absurd (d.1 (assignment_of a.0.literals) a.0.model)
-mus_status options F Done Budget written said d a = absurd (let few = a.0.few in let enough = d.0 in omega (arith, few, enough))
+mus_status options F Done Budget written said d a = absurd (not_enough options.conflicts F a.0.few a.0.filled d.0)
 mus_status options F Satisfiable Done written said d a = absurd (a.0.minimal.no_model d.1.0 d.1.1)
 mus_status options F Satisfiable Satisfiable written said d a = refl
 mus_status options F Satisfiable Budget written said d a = absurd (let few = a.0.few in let enough = d.0 in omega (arith, few, enough))

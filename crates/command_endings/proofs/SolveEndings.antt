@@ -1,5 +1,6 @@
 -- How what is found of a formula is answered.
-use Rattle.std.proofs.Common.{◌≡◌, ◌∙◌, ℕ, List, [], ◌∷◌, None, length, ℤ, refl, sym, ap, subst, arith}
+use Rattle.std.proofs.Common.{◌≡◌, ◌∙◌, ℕ, ◌^◌, ◌<◌, true, false, List, [], ◌∷◌, Option, None, length, ℤ, refl, sym, ap, subst, arith, inl, inr}
+use Rattle.std.specs.Prelude.{is_some}
 use Rattle.lk_model.specs.Formulas.Formula.{Cnf}
 use Rattle.lk_model.specs.Formulas.Assignment.{assignment_of}
 use Rattle.lk_model.specs.Checks.Checks.{IsSound, HasProgress}
@@ -8,6 +9,7 @@ use Rattle.lk_model.specs.declared.document.Document.TheVariants.{Unfinished}
 use Rattle.lk_model.specs.declared.document.OpenDocument.{OpenDocument}
 use Rattle.lk_model.specs.declared.document.Round.{Round}
 use Rattle.kernel_laws.specs.General.OpenResults.{open_document}
+use Rattle.kernel_solve.specs.EmptyClause.{first_empty}
 use Rattle.kernel_solve.specs.Solutions.{IsTotalModel, IsRefuted, IsUnfinished}
 use Rattle.reductions.specs.Founds.{open_document_of}
 use Rattle.answer_check.specs.Answers.{answer_text}
@@ -15,7 +17,7 @@ use Rattle.answer_check.specs.declared.answer.Answer.TheVariants.{Model, Refuted
 use Rattle.answer_check.proofs.AnswerLaws.{answer_law}
 use Rattle.command_words.specs.Settings.{Options}
 use Rattle.status_lines.specs.RunLines.{conflicts_line}
-use Rattle.command_endings.specs.Commands.Solving.{WritesModel, WritesRefutation, WritesUnfinished, Answers, Decides}
+use Rattle.command_endings.specs.Commands.Solving.{IsEnoughToRefute, WritesModel, WritesRefutation, WritesUnfinished, Answers, Decides}
 use Rattle.status_lines.specs.declared.status.Status.{Status}
 use Rattle.status_lines.specs.declared.status.Status.TheVariants.{Done, Words, Input, ReadFault, WriteFault, Budget, TooWide, TooLarge, Refused, Memory, Satisfiable, Unsatisfiable}
 
@@ -43,6 +45,7 @@ writes_refutation options F round written h text =
       needed = h.needed;
       most = h.most;
       empty = h.empty;
+      first = h.first;
     }
 
 -- the text of an open round
@@ -89,6 +92,11 @@ open_answers options F round rounds d status written said h one told is text lin
 
 -- WHAT IS DECIDED
 
+-- a budget that was used up where no clause is empty was not enough
+pub not_enough : (conflicts : ℕ) (F : Cnf) → conflicts < 3 ^ F.vars → first_empty F ≡ None → IsEnoughToRefute conflicts F → ⊥
+not_enough conflicts F few filled (inl enough) = omega (arith, few, enough)
+not_enough conflicts F few filled (inr some) = (let found : false ≡ true = subst (λ (o : Option ℕ). is_some o ≡ true) filled some in cc)
+
 -- a status with which it may end is the decided one
 pub solve_status : (options : Options) (F : Cnf) (decided status : Status) (written said : List ℕ) → Decides options F decided → Answers options F status written said → status ≡ decided
 solve_status options F Satisfiable Satisfiable written said d a = refl
@@ -96,7 +104,7 @@ solve_status options F Satisfiable Unsatisfiable written said d a = absurd (a.0.
 solve_status options F Satisfiable Budget written said d a = absurd (let few = a.0.few in let enough = d.0 in omega (arith, few, enough))
 solve_status options F Unsatisfiable Satisfiable written said d a = absurd (d.1 (assignment_of a.0.literals) a.0.model)
 solve_status options F Unsatisfiable Unsatisfiable written said d a = refl
-solve_status options F Unsatisfiable Budget written said d a = absurd (let few = a.0.few in let enough = d.0 in omega (arith, few, enough))
+solve_status options F Unsatisfiable Budget written said d a = absurd (not_enough options.conflicts F a.0.few a.0.filled d.0)
 solve_status options F Done status written said d a = absurd d
 solve_status options F Words status written said d a = absurd d
 solve_status options F Input status written said d a = absurd d

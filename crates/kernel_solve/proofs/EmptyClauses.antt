@@ -82,6 +82,7 @@ by_empty F p conflicts limits found = record {
   needed = trimmed F p;
   most = omega arith;
   empty = subst (λ (o : Option ℕ). IfSome o (λ q. empty_round F p ≡ empty_round F q)) (sym found) refl;
+  first = λ none. absurd (let f : ⊥ = cc (found, none) in f);
 }
 
 -- NOT FOUND

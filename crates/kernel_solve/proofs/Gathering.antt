@@ -1,24 +1,35 @@
 -- What is gathered of answers, one after another.
-use Rattle.std.proofs.Common.{◌≡◌, ℕ, zero, suc, ◌∙◌, List, [], ◌∷◌, ◌++◌, length, refl, sym, subst, arith, ℤ, Option, Some, None, Ok, Contains}
+use Rattle.std.proofs.Common.{◌≡◌, ℕ, ◌∙◌, List, [], ◌∷◌, ◌++◌, length, sym, subst, arith, ℤ, Option, Some, None, Ok, Err}
 use Rattle.std.specs.Prelude.{unwrap_or}
 use Rattle.std.proofs.lemmas.List.{append_assoc, append-nil, map-append}
 use Rattle.lk_model.specs.declared.document.Round.{Round}
 use Rattle.part_formula.specs.declared.deciding.Decision.TheVariants.{Model, Refuted, Stopped}
-use Rattle.kernel_solve.specs.Answers.{Answer, IsGatheredSoFar, models}
+use Rattle.kernel_solve.specs.Answers.{Answer, AreNotRefuted, IsFirstRefutation, IsFirstStop, IsGatheredSoFar, models}
 
--- an answer among some is among more
-among_more : (answers : List Answer) (a b : Answer) → Contains answers b → Contains (answers ++ a ∷ []) b
-among_more [] a b (k, lt, e) = absurd (omega (arith, lt))
-among_more (x ∷ answers) a b (zero, lt, e) = (zero, omega arith, e)
-among_more (x ∷ answers) a b (suc k, lt, e) =
-    let w = among_more answers a b (k, omega (arith, lt), e) in
-    let below = w.1 in
-    (suc w.0, omega (arith, below), w.2)
+-- answers of which none is a refutation, and one more
+model_behind : (answers : List Answer) (lits : List ℤ) → AreNotRefuted answers → AreNotRefuted (answers ++ Ok (Model lits) ∷ [])
+model_behind [] lits h = tt
+model_behind (Ok (Model ls) ∷ answers) lits h = model_behind answers lits h
+model_behind (Ok (Stopped r) ∷ answers) lits h = model_behind answers lits h
+model_behind (Ok (Refuted r) ∷ answers) lits h = absurd h
+model_behind (Err e ∷ answers) lits h = absurd h
 
--- and the next one is
-next_among : (answers rest : List Answer) (b : Answer) → Contains (answers ++ b ∷ rest) b
-next_among [] rest b = (zero, omega arith, refl)
-next_among (x ∷ answers) rest b = let w = next_among answers rest b in let below = w.1 in (suc w.0, omega (arith, below), w.2)
+stop_behind : (answers : List Answer) (r : Round) → AreNotRefuted answers → AreNotRefuted (answers ++ Ok (Stopped r) ∷ [])
+stop_behind [] r h = tt
+stop_behind (Ok (Model ls) ∷ answers) r h = stop_behind answers r h
+stop_behind (Ok (Stopped q) ∷ answers) r h = stop_behind answers r h
+stop_behind (Ok (Refuted q) ∷ answers) r h = absurd h
+stop_behind (Err e ∷ answers) r h = absurd h
+
+-- the first round that stopped is that of one more answer too
+first_of_more : (answers : List Answer) (r : Round) (a : Answer) (h : IsFirstStop answers r) → AreNotRefuted (h.behind ++ a ∷ [])
+    → IsFirstStop (answers ++ a ∷ []) r
+first_of_more answers r a h others = record {
+  before = h.before;
+  behind = h.behind ++ a ∷ [];
+  answers_are = (λ j. h.answers_are j ++ a ∷ []) ∙ append_assoc (models h.before) (Ok (Stopped r) ∷ h.behind) (a ∷ []);
+  others = others;
+}
 
 -- one more model
 pub model_more : (answers : List Answer) (sets : List (List ℤ)) (stopped : Option Round) (a : Answer) (lits : List ℤ) → a ≡ Ok (Model lits)
@@ -27,20 +38,38 @@ model_more answers sets None a lits is h = (λ j. h j ++ is j ∷ []) ∙ sym (m
   where
     answer : List ℤ → Answer
     answer ls = Ok (Model ls)
-model_more answers sets (Some r) a lits is h = among_more answers a (Ok (Stopped r)) h
+model_more answers sets (Some r) a lits is h =
+    first_of_more answers r a h (subst (λ (x : Answer). AreNotRefuted (h.behind ++ x ∷ [])) (sym is) (model_behind h.behind lits h.others))
 
 -- one more round that stopped
 pub stopped_more : (answers : List Answer) (sets : List (List ℤ)) (stopped : Option Round) (a : Answer) (r : Round) → a ≡ Ok (Stopped r)
     → IsGatheredSoFar answers sets stopped → IsGatheredSoFar (answers ++ a ∷ []) sets (Some (unwrap_or stopped r))
-stopped_more answers sets None a r is h = subst (λ (x : Answer). Contains (answers ++ x ∷ []) (Ok (Stopped r))) (sym is) (next_among answers [] (Ok (Stopped r)))
-stopped_more answers sets (Some q) a r is h = among_more answers a (Ok (Stopped q)) h
+stopped_more answers sets None a r is h = record { before = sets; behind = []; answers_are = λ j. h j ++ is j ∷ []; others = tt }
+stopped_more answers sets (Some q) a r is h =
+    first_of_more answers q a h (subst (λ (x : Answer). AreNotRefuted (h.behind ++ x ∷ [])) (sym is) (stop_behind h.behind r h.others))
 
--- a refutation is among all answers
-pub refuted_among : (answers before rest : List Answer) (a : Answer) (r : Round) → a ≡ Ok (Refuted r) → before ++ a ∷ [] ++ rest ≡ answers
-    → Contains answers (Ok (Refuted r))
-refuted_among answers before rest a r is all =
-    subst (λ (xs : List Answer). Contains xs (Ok (Refuted r))) (sym (append_assoc before (a ∷ []) rest) ∙ all)
-    (subst (λ (x : Answer). Contains (before ++ x ∷ rest) (Ok (Refuted r))) (sym is) (next_among before rest (Ok (Refuted r))))
+-- none of what is gathered is a refutation
+not_refuted : (answers : List Answer) (sets : List (List ℤ)) (stopped : Option Round) → IsGatheredSoFar answers sets stopped → AreNotRefuted answers
+not_refuted answers sets None h = subst AreNotRefuted (sym h) (models_alone sets)
+  where
+    models_alone : (sets : List (List ℤ)) → AreNotRefuted (models sets)
+    models_alone [] = tt
+    models_alone (set ∷ sets) = models_alone sets
+not_refuted answers sets (Some r) h = subst AreNotRefuted (sym h.answers_are) (with_stop h.before)
+  where
+    with_stop : (sets : List (List ℤ)) → AreNotRefuted (models sets ++ Ok (Stopped r) ∷ h.behind)
+    with_stop [] = h.others
+    with_stop (set ∷ sets) = with_stop sets
+
+-- so a refutation behind it is the first one
+pub first_refutation : (answers gathered rest : List Answer) (sets : List (List ℤ)) (stopped : Option Round) (a : Answer) (r : Round) → a ≡ Ok (Refuted r)
+    → gathered ++ a ∷ [] ++ rest ≡ answers → IsGatheredSoFar gathered sets stopped → IsFirstRefutation answers r
+first_refutation answers gathered rest sets stopped a r is all h = record {
+  before = gathered;
+  behind = rest;
+  answers_are = sym all ∙ append_assoc gathered (a ∷ []) rest ∙ (λ j. gathered ++ is j ∷ rest);
+  others = not_refuted gathered sets stopped h;
+}
 
 -- THE END
 
@@ -49,9 +78,9 @@ pub all_come : {X : Type 0} (all yielded rest : List X) (remaining : ℕ) → yi
 all_come all yielded [] remaining is long none = sym (append-nil yielded) ∙ is
 all_come all yielded (x ∷ rest) remaining is long none = absurd (omega (arith, long, none))
 
-pub stopped_among : (answers yielded : List Answer) (sets : List (List ℤ)) (stopped : Option Round) (r : Round) → yielded ≡ answers → stopped ≡ Some r
-    → IsGatheredSoFar yielded sets stopped → Contains answers (Ok (Stopped r))
-stopped_among answers yielded sets stopped r all is h =
+pub first_stop : (answers yielded : List Answer) (sets : List (List ℤ)) (stopped : Option Round) (r : Round) → yielded ≡ answers → stopped ≡ Some r
+    → IsGatheredSoFar yielded sets stopped → IsFirstStop answers r
+first_stop answers yielded sets stopped r all is h =
     subst (λ (xs : List Answer). IsGatheredSoFar xs sets (Some r)) all (subst (λ (o : Option Round). IsGatheredSoFar yielded sets o) is h)
 
 pub all_models : (answers yielded : List Answer) (sets : List (List ℤ)) (stopped : Option Round) → yielded ≡ answers → stopped ≡ None

@@ -8,9 +8,10 @@ use Rattle.lk_model.specs.Formulas.Literal.{variable, literal_of, mentions}
 use Rattle.lk_model.specs.Formulas.Formula.{Cnf, IsWithinLimits, is_formula, clause_at, clauses_at, positions_of, variable_occurs}
 use Rattle.lk_model.specs.Formulas.Assignment.{Assignment, assignment_of, satisfies, extended_value, extended}
 use Rattle.lk_model.specs.Formulas.Crossed.{no_variable, crossed_out}
-use Rattle.lk_model.specs.Formulas.Lean.{are_positions, all_of}
+use Rattle.lk_model.specs.Formulas.Lean.{are_positions, all_of, Kernel}
 use Rattle.lk_model.specs.Formulas.Parts.{IsPart}
 use Rattle.lk_model.specs.Reduction.{IsModel}
+use Rattle.lk_model.specs.declared.class.Class.TheVariants.{Matching}
 use Rattle.lk_model.specs.declared.document.Own.{Own}
 use Rattle.lk_model.specs.declared.result.GeneralResult.{GeneralResult}
 use Rattle.lk_model.specs.declared.result.MatchingResult.{MatchingResult}
@@ -78,18 +79,22 @@ occurs_in_kernel F kept part v rise o =
     let there = subst (λ (q : ℕ). mentions (clause_at F q) v ≡ true) (sym k.2) p.2 in
     occurs (clauses_at F kept) part k.0 v k.1 (subst (λ (c : List ℤ). mentions c v ≡ true) (sym (place_clause F kept k.0 b.0)) there)
 
+-- what is kept is the kernel
+pub kernel_of : (F : Cnf) (r : MatchingResult) → is_formula F ≡ true → IsMatchingResult F (positions_of F) r → Kernel Matching F r.kept
+kernel_of F r form h =
+    let k = matching_result_law.kernel F (positions_of F) r form h in
+    record { positions = k.positions; lean = k.lean; largest = λ S within lean. k.largest S (λ p m. in_positions F p (within p m)) lean }
+
 -- a part of the kernel
 is_part : (F : Cnf) (r : MatchingResult) (part : List ℕ) → is_formula F ≡ true → IsMatchingResult F (positions_of F) r
     → IsPart (clauses_at F r.kept) part → IsKernelPart F (told r.kept part)
-is_part F r part form h part_is =
-    let k = matching_result_law.kernel F (positions_of F) r form h in
-    record {
-      kept = r.kept;
-      kernel = record { positions = k.positions; lean = k.lean; largest = λ S within lean. k.largest S (λ p m. in_positions F p (within p m)) lean };
-      places = part;
-      is_part = part_is;
-      told_is = refl;
-    }
+is_part F r part form h part_is = record {
+  kept = r.kept;
+  kernel = kernel_of F r form h;
+  places = part;
+  is_part = part_is;
+  told_is = refl;
+}
 
 -- CLAUSES OUTSIDE A PART
 

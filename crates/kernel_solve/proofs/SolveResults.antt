@@ -1,5 +1,5 @@
 -- What the answers on all parts of the matching kernel come to.
-use Rattle.std.proofs.Common.{◌≡◌, ℕ, zero, suc, ◌+◌, ◌<◌, ◌≤◌, ◌^◌, true, List, [], ◌∷◌, ◌++◌, length, map, get_or, refl, sym, ◌∙◌, ap, subst, arith, ℤ, Ok, Err, Result, IfOk, Contains, All, None}
+use Rattle.std.proofs.Common.{◌≡◌, ℕ, zero, suc, ◌+◌, ◌<◌, ◌≤◌, ◌^◌, true, List, [], ◌∷◌, ◌++◌, length, map, get_or, refl, sym, ◌∙◌, ap, subst, arith, ℤ, inl, inr, Ok, Err, Result, IfOk, Contains, All, None}
 use Rattle.std.specs.List.{AllByRecursion}
 use Rattle.std.proofs.lemmas.List.{append-nil, length-map}
 use Rattle.std.proofs.lemmas.Result.{IfOk-at_ok}
@@ -7,7 +7,9 @@ use Rattle.lk_model.specs.Lists.{among, rises_within}
 use Rattle.lk_model.specs.Formulas.Literal.{variable}
 use Rattle.lk_model.specs.Formulas.Formula.{Cnf, IsWithinLimits, is_formula, clause_at, clauses_at, positions_of}
 use Rattle.lk_model.specs.Formulas.Assignment.{Assignment, assignment_of, extended, extended_literals}
+use Rattle.lk_model.specs.Formulas.Crossed.{no_variable}
 use Rattle.lk_model.specs.Formulas.Lean.{are_positions, all_of}
+use Rattle.lk_model.specs.Formulas.Minimal.{IsSatisfiable}
 use Rattle.lk_model.specs.Formulas.Parts.{IsPart}
 use Rattle.lk_model.specs.Chains.Rounds.{is_trimmed}
 use Rattle.lk_model.specs.Documents.Documents.{steps_of}
@@ -19,22 +21,24 @@ use Rattle.lk_model.specs.declared.result.MatchingResult.{MatchingResult}
 use Rattle.lk_model.proofs.Booleans.{and_true}
 use Rattle.lk_model.proofs.Counting.{among-range}
 use Rattle.lk_model.proofs.Rising.{bounded, rising_count, part_rises as is_rising}
+use Rattle.kernel_laws.specs.General.ForeignLaw.{IsAmongForeign}
+use Rattle.kernel_laws.specs.General.Found as found
 use Rattle.kernel_laws.specs.General.GeneralResults.{IsGeneralResult, AreGeneralResults}
 use Rattle.kernel_laws.specs.Matching.MatchingResults.{IsMatchingResult, set_line}
 use Rattle.kernel_laws.proofs.General.OpenResults.{open_result_law}
 use Rattle.autarky_compose.specs.JoinedGeneral.{AreJoinable, AreJoined, all_kept, rounds_behind}
 use Rattle.autarky_compose.proofs.GeneralLaws.{joined_general_law}
-use Rattle.part_formula.specs.Decisions.{IsDecision, sets_only}
+use Rattle.part_formula.specs.Decisions.{IsDecision, IsPartModel, IsPartRefuted, sets_only}
 use Rattle.part_formula.specs.declared.deciding.Decision.{Decision}
 use Rattle.part_formula.specs.declared.deciding.Decision.TheVariants.{Model, Refuted, Stopped}
 use Rattle.kernel_solve.specs.EmptyClause.{first_empty}
-use Rattle.kernel_solve.specs.KernelParts.{IsFilledPart, told, AreKernelParts, AreKernelModels, IsJoinedModel}
-use Rattle.kernel_solve.specs.Answers.{Answer, AreAnswers, IsAmongAnswers, models}
-use Rattle.kernel_solve.specs.Solutions.{IsTotalModel, IsRefuted, IsUnfinished, IsSolved}
+use Rattle.kernel_solve.specs.KernelParts.{IsFilledPart, IsKernelPart, told, AreKernelParts, AreMatchingParts, AreKernelModels, IsJoinedModel}
+use Rattle.kernel_solve.specs.Answers.{Answer, AreAnswers, AreNotRefuted, IsFirstRefutation, IsFirstStop, IsAmongAnswers, models}
+use Rattle.kernel_solve.specs.Solutions.{IsTotalModel, IsNotRefuted, IsRefuted, IsUnfinished, IsSolved}
 use Rattle.kernel_solve.specs.declared.solving.Solved.{Solved}
 use Rattle.kernel_solve.specs.declared.solving.Solved.TheVariants as solved
 use Rattle.kernel_solve.proofs.EmptyClauses.{filled_at}
-use Rattle.kernel_solve.proofs.ModelLaws.{model_law}
+use Rattle.kernel_solve.proofs.ModelLaws.{kernel_of, model_law}
 use Rattle.kernel_solve.proofs.OpenRounds.{open_sound}
 use Rattle.kernel_solve.proofs.RefutationLaws.{refutation_law}
 
@@ -71,7 +75,7 @@ all_filled F r list h =
     subst (λ (ps : List (List ℕ)). AllByRecursion (IsFilledPart F) ps) (sym h.parts.told_are)
     (filled_parts F r.kept h.parts.parts h.matching.positions h.filled h.parts.are.each)
 
--- ONE ANSWER AMONG THEM
+-- THE PART THAT DECIDES
 
 decided_at : (F : Cnf) (part : List ℕ) (conflicts : ℕ) (d : Decision) → IfOk {E = OutOfMemory} (Ok d) (IsDecision F part conflicts) → IsDecision F part conflicts d
 decided_at F part conflicts d h = (let same : answered d ≡ answered d = refl in IfOk-at_ok (IsDecision F part conflicts) same h)
@@ -79,55 +83,135 @@ decided_at F part conflicts d h = (let same : answered d ≡ answered d = refl i
     answered : Decision → Answer
     answered v = Ok v
 
--- the part on which it is given
-record IsAnswered (F : Cnf) (kept : List ℕ) (conflicts : ℕ) (d : Decision) : Type 0 where
+-- the parts as their answers are divided at one of them
+record IsDivided (F : Cnf) (conflicts : ℕ) (d : Decision) (list : List (List ℕ)) (first rest : List Answer) : Type 0 where
+  before : List (List ℕ)
   part : List ℕ
-  part_is : IsPart (clauses_at F kept) part
-  decides : IsDecision F (told kept part) conflicts d
+  behind : List (List ℕ)
+  list_is : list ≡ before ++ part ∷ behind
+  decides : IsDecision F part conflicts d
+  first_are : AreAnswers F conflicts before first
+  rest_are : AreAnswers F conflicts behind rest
 
-answer_among : (F : Cnf) (kept : List ℕ) (conflicts : ℕ) (d : Decision) (parts : List (List ℕ)) (answers : List Answer) → AllByRecursion (IsPart (clauses_at F kept)) parts
-    → AreAnswers F conflicts (map (told kept) parts) answers → Contains answers (Ok d) → IsAnswered F kept conflicts d
-answer_among F kept conflicts d [] [] each all (k, lt, e) = absurd (omega (arith, lt))
-answer_among F kept conflicts d [] (a ∷ answers) each all c = absurd all
-answer_among F kept conflicts d (part ∷ parts) [] each all c = absurd all
-answer_among F kept conflicts d (part ∷ parts) (a ∷ answers) each all (zero, lt, e) = record {
+divided : (F : Cnf) (conflicts : ℕ) (d : Decision) (list : List (List ℕ)) (first rest : List Answer) → AreAnswers F conflicts list (first ++ Ok d ∷ rest)
+    → IsDivided F conflicts d list first rest
+divided F conflicts d [] [] rest all = absurd all
+divided F conflicts d [] (a ∷ first) rest all = absurd all
+divided F conflicts d (part ∷ list) [] rest all = record {
+  before = [];
   part = part;
-  part_is = each.0;
-  decides = decided_at F (told kept part) conflicts d (subst (λ (x : Answer). IfOk x (IsDecision F (told kept part) conflicts)) e all.0);
+  behind = list;
+  list_is = refl;
+  decides = decided_at F part conflicts d all.0;
+  first_are = tt;
+  rest_are = all.1;
 }
-answer_among F kept conflicts d (part ∷ parts) (a ∷ answers) each all (suc k, lt, e) = answer_among F kept conflicts d parts answers each.1 all.1 (k, omega (arith, lt), e)
+divided F conflicts d (part ∷ list) (a ∷ first) rest all =
+    let h = divided F conflicts d list first rest all.1 in
+    record {
+      before = part ∷ h.before;
+      part = h.part;
+      behind = h.behind;
+      list_is = ap (λ (ps : List (List ℕ)). part ∷ ps) h.list_is;
+      decides = h.decides;
+      first_are = (all.0, h.first_are);
+      rest_are = h.rest_are;
+    }
 
-answer_in : (F : Cnf) (kept : List ℕ) (list : List (List ℕ)) (conflicts : ℕ) (answers : List Answer) (d : Decision) → AreKernelParts F kept list
-    → AreAnswers F conflicts list answers → Contains answers (Ok d) → IsAnswered F kept conflicts d
-answer_in F kept list conflicts answers d h all c =
-    answer_among F kept conflicts d h.parts answers h.are.each
-    (subst (λ (ps : List (List ℕ)). AreAnswers F conflicts ps answers) h.told_are all) c
+-- the answers, spelled so
+as_divided : (F : Cnf) (conflicts : ℕ) (list : List (List ℕ)) (answers spelled : List Answer) → answers ≡ spelled → AreAnswers F conflicts list answers
+    → AreAnswers F conflicts list spelled
+as_divided F conflicts list answers spelled same all = subst (λ (given : List Answer). AreAnswers F conflicts list given) same all
+
+-- what a model of a part is, and what no refutation is
+satisfied_by : (F : Cnf) (part : List ℕ) (lits : List ℤ) → IsPartModel F part lits → IsSatisfiable F (among part)
+satisfied_by F part lits h = (assignment_of lits, λ p m. h.satisfied p m refl)
+
+with_models : (F : Cnf) (conflicts : ℕ) (list : List (List ℕ)) (sets : List (List ℤ)) → AreAnswers F conflicts list (models sets)
+    → AllByRecursion (λ p. IsSatisfiable F (among p)) list
+with_models F conflicts [] [] all = tt
+with_models F conflicts [] (set ∷ sets) all = absurd all
+with_models F conflicts (part ∷ list) [] all = absurd all
+with_models F conflicts (part ∷ list) (set ∷ sets) all = (satisfied_by F part set all.0, with_models F conflicts list sets all.1)
+
+not_refuted : (F : Cnf) (conflicts : ℕ) (list : List (List ℕ)) (answers : List Answer) → AreAnswers F conflicts list answers → AreNotRefuted answers
+    → AllByRecursion (IsNotRefuted F conflicts) list
+not_refuted F conflicts [] [] all h = tt
+not_refuted F conflicts [] (a ∷ answers) all h = absurd all
+not_refuted F conflicts (part ∷ list) [] all h = absurd all
+not_refuted F conflicts (part ∷ list) (Ok (Model lits) ∷ answers) all h = (inl (satisfied_by F part lits all.0), not_refuted F conflicts list answers all.1 h)
+not_refuted F conflicts (part ∷ list) (Ok (Stopped r) ∷ answers) all h = (inr (r, all.0), not_refuted F conflicts list answers all.1 h)
+not_refuted F conflicts (part ∷ list) (Ok (Refuted r) ∷ answers) all h = absurd h
+not_refuted F conflicts (part ∷ list) (Err e ∷ answers) all h = absurd h
+
+-- the places of a part in the list of kept positions
+record HasPlaces (F : Cnf) (kept part : List ℕ) : Type 0 where
+  places : List ℕ
+  is_part : IsPart (clauses_at F kept) places
+  told_is : part ≡ told kept places
+
+placed : (F : Cnf) (kept : List ℕ) (parts before behind : List (List ℕ)) (part : List ℕ) → before ++ part ∷ behind ≡ map (told kept) parts
+    → AllByRecursion (IsPart (clauses_at F kept)) parts → HasPlaces F kept part
+placed F kept [] [] behind part e each = absurd (let f : ⊥ = cc e in f)
+placed F kept [] (b ∷ before) behind part e each = absurd (let f : ⊥ = cc e in f)
+placed F kept (places ∷ parts) [] behind part e each = record { places = places; is_part = each.0; told_is = cc e }
+placed F kept (places ∷ parts) (b ∷ before) behind part e each = placed F kept parts before behind part (cc e) each.1
+
+-- what is known of one part
+record IsKnown (F : Cnf) (part : List ℕ) : Type 0 where
+  is_part : IsKernelPart F part
+  positions : are_positions F part ≡ true
+  foreign : IsAmongForeign no_variable F part
+
+known : (F : Cnf) (r : MatchingResult) (list before behind : List (List ℕ)) (part : List ℕ) → IsSearched F r list → list ≡ before ++ part ∷ behind → IsKnown F part
+known F r list before behind part h list_is =
+    let a = placed F r.kept h.parts.parts before behind part (sym list_is ∙ h.parts.told_are) h.parts.are.each in
+    subst (λ (ps : List ℕ). IsKnown F ps) (sym a.told_is) (record {
+      is_part = model_law.is_part F r a.places h.form h.matching a.is_part;
+      positions = model_law.positions F r.kept a.places h.matching.positions (is_rising (clauses_at F r.kept) a.places a.is_part);
+      foreign = model_law.foreign F r a.places h.matching a.is_part;
+    })
+
+matching_parts : (F : Cnf) (r : MatchingResult) (list spelled : List (List ℕ)) → IsSearched F r list → list ≡ spelled → AreMatchingParts F spelled
+matching_parts F r list spelled h same =
+    subst (λ (ps : List (List ℕ)). AreMatchingParts F ps) same (record { kept = r.kept; kernel = kernel_of F r h.form h.matching; are = h.parts })
 
 -- a refuted part refutes the formula
 refuted : (F : Cnf) (r : MatchingResult) (list : List (List ℕ)) (conflicts : ℕ) (answers : List Answer) (round : Round) → IsSearched F r list
-    → AreAnswers F conflicts list answers → Contains answers (Ok (Refuted round)) → IsRefuted F conflicts round
+    → AreAnswers F conflicts list answers → IsFirstRefutation answers round → IsRefuted F conflicts round
 refuted F r list conflicts answers round h all c =
-    let a = answer_in F r.kept list conflicts answers (Refuted round) h.parts all c in
-    let rise = model_law.positions F r.kept a.part h.matching.positions (is_rising (clauses_at F r.kept) a.part a.part_is) in
+    let d = divided F conflicts (Refuted round) list c.before c.behind (as_divided F conflicts list answers _ c.answers_are all) in
+    let k = known F r list d.before d.behind d.part h d.list_is in
+    let decides : IsPartRefuted F d.part conflicts round = d.decides in
     record {
-      refutation = refutation_law.wider F (told r.kept a.part) (positions_of F) round (λ p m.
-          let b = bounded 0 (length F.clauses) (told r.kept a.part) p rise m in
+      refutation = refutation_law.wider F d.part (positions_of F) round (λ p m.
+          let b = bounded 0 (length F.clauses) d.part p k.positions m in
           let most = b.1 in
-          among-range 1 (length F.clauses) p b.0 (omega (arith, most))) a.decides.refutation;
-      needed = (and_true (is_trimmed round) true a.decides.needed.trimmed).0;
-      most = a.decides.most;
+          among-range 1 (length F.clauses) p b.0 (omega (arith, most))) decides.refutation;
+      needed = (and_true (is_trimmed round) true decides.needed.trimmed).0;
+      most = decides.most;
       empty = rw h.filled tt;
+      first = λ filled. (
+        d.part,
+        record {
+          before = d.before;
+          behind = d.behind;
+          parts = matching_parts F r list _ h d.list_is;
+          others = not_refuted F conflicts d.before c.before d.first_are c.others;
+          refutation = decides.refutation;
+        },
+      );
     }
 
 -- what is learned over a part makes an unfinished round of the formula
 stopped : (F : Cnf) (r : MatchingResult) (list : List (List ℕ)) (conflicts : ℕ) (answers : List Answer) (round : Round) → conflicts < 2 ^ 63 → IsSearched F r list
-    → AreAnswers F conflicts list answers → Contains answers (Ok (Stopped round)) → IsUnfinished F conflicts round
+    → AreAnswers F conflicts list answers → IsFirstStop answers round → IsUnfinished F conflicts round
 stopped F r list conflicts answers round most h all c =
-    let a = answer_in F r.kept list conflicts answers (Stopped round) h.parts all c in
-    let part = told r.kept a.part in
-    let rise = model_law.positions F r.kept a.part h.matching.positions (is_rising (clauses_at F r.kept) a.part a.part_is) in
-    let learning = refutation_law.whole F part (round ∷ []) rise (model_law.foreign F r a.part h.matching a.part_is) a.decides.result in
-    let count = a.decides.all in
+    let d = divided F conflicts (Stopped round) list (models c.before) c.behind (as_divided F conflicts list answers _ c.answers_are all) in
+    let k = known F r list d.before d.behind d.part h d.list_is in
+    let decides : found.IsUnfinished F d.part conflicts (round ∷ []) = d.decides in
+    let learning = refutation_law.whole F d.part (round ∷ []) k.positions k.foreign decides.result in
+    let count = decides.all in
     let few = refutation_law.few F (positions_of F) round h.form learning in
     record {
       filled = h.filled;
@@ -136,11 +220,16 @@ stopped F r list conflicts answers round most h all c =
       few = omega (arith, count, few);
       sound = open_sound F (round ∷ []) h.form h.limits learning (omega (arith, count, most));
       progress = learning.progress;
-      part = part;
+      part = d.part;
       stops = record {
-        is_part = model_law.is_part F r a.part h.form h.matching a.part_is;
-        names = open_result_law.names F part (round ∷ []) a.decides.result;
-        wants = a.decides.wants;
+        is_part = k.is_part;
+        before = d.before;
+        behind = d.behind;
+        parts = matching_parts F r list _ h d.list_is;
+        models = with_models F conflicts d.before c.before d.first_are;
+        others = not_refuted F conflicts d.behind c.behind d.rest_are c.others;
+        names = open_result_law.names F d.part (round ∷ []) decides.result;
+        wants = decides.wants;
       };
     }
 

@@ -1,5 +1,5 @@
 -- What is decided of all parts.
-use Rattle.std.specs.Prelude.{◌≡◌, ℕ, List, [], ◌∷◌, ⊤, map, ℤ, Option, Some, None, Result, Ok, IfOk, Contains}
+use Rattle.std.specs.Prelude.{◌≡◌, ℕ, List, [], ◌∷◌, ◌++◌, ⊤, map, ℤ, Option, Some, None, Result, Ok, IfOk}
 use Rattle.lk_model.specs.Formulas.Formula.{Cnf}
 use Rattle.lk_model.specs.declared.document.Round.{Round}
 use Rattle.lk_model.specs.declared.list.OutOfMemory.{OutOfMemory}
@@ -22,13 +22,34 @@ AreAnswers F conflicts _ _ = ⊥
 abbrev pub models : List (List ℤ) → List Answer
 models sets = map (λ (lits : List ℤ). Ok (decision.Model lits)) sets
 
--- a refutation among the answers, or a round that stopped
+-- each is a model, or a round that stopped
+abbrev pub AreNotRefuted : List Answer → Type 0
+AreNotRefuted [] = ⊤
+AreNotRefuted (Ok (decision.Model lits) ∷ answers) = AreNotRefuted answers
+AreNotRefuted (Ok (decision.Stopped r) ∷ answers) = AreNotRefuted answers
+AreNotRefuted _ = ⊥
+
+-- the first refutation: before it stand models and rounds that stopped
+pub record IsFirstRefutation (answers : List Answer) (r : Round) : Type 0 where
+  pub before : List Answer
+  pub behind : List Answer
+  pub answers_are : answers ≡ before ++ Ok (decision.Refuted r) ∷ behind
+  pub others : AreNotRefuted before
+
+-- without a refutation, the first round that stopped: before it stand models
+pub record IsFirstStop (answers : List Answer) (r : Round) : Type 0 where
+  pub before : List (List ℤ)
+  pub behind : List Answer
+  pub answers_are : answers ≡ models before ++ Ok (decision.Stopped r) ∷ behind
+  pub others : AreNotRefuted behind
+
+-- the first refutation, or where there is none the first round that stopped
 abbrev pub IsAmongAnswers : List Answer → Solved → Type 0
 IsAmongAnswers answers (Model lits) = ⊥
-IsAmongAnswers answers (Refuted r) = Contains answers (Ok (decision.Refuted r))
-IsAmongAnswers answers (Unfinished r) = Contains answers (Ok (decision.Stopped r))
+IsAmongAnswers answers (Refuted r) = IsFirstRefutation answers r
+IsAmongAnswers answers (Unfinished r) = IsFirstStop answers r
 
--- of some answers without a refutation: models as long as no round stopped, and then a round that did
+-- of some answers without a refutation: models as long as no round stopped, and then the first round that did
 abbrev pub IsGatheredSoFar : List Answer → List (List ℤ) → Option Round → Type 0
 IsGatheredSoFar answers sets None = answers ≡ models sets
-IsGatheredSoFar answers sets (Some r) = Contains answers (Ok (decision.Stopped r))
+IsGatheredSoFar answers sets (Some r) = IsFirstStop answers r

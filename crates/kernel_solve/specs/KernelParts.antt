@@ -28,6 +28,12 @@ pub record AreKernelParts (F : Cnf) (kept : List ℕ) (list : List (List ℕ)) :
   pub are : AreParts (clauses_at F kept) parts
   pub told_are : list ≡ map (told kept) parts
 
+-- the parts of the matching kernel, in their order
+pub record AreMatchingParts (F : Cnf) (list : List (List ℕ)) : Type 0 where
+  pub kept : List ℕ
+  pub kernel : Kernel Matching F kept
+  pub are : AreKernelParts F kept list
+
 -- positions of clauses that are not empty
 pub record IsFilledPart (F : Cnf) (part : List ℕ) : Type 0 where
   pub positions : IsTrue (are_positions F part)

@@ -39,8 +39,9 @@ pub enum Solved {
 ///
 /// With two workers or more, two parts of the formula or more are worked on in halves: the left half enters the
 /// gate as 0 and the right one as 1, each before its matching kernel is looked for. So it is again with the parts
-/// of the kernel, each half before its search. The error is that there is no memory; more steps than have numbers
-/// of 64 bits count as that.
+/// of the kernel, each half before its search. (No clause speaks of halves and of the gate, or says that every
+/// number of workers gives the same answer; tests do.) The error is that there is no memory; more steps than have
+/// numbers of 64 bits count as that.
 pub fn solve<R: Threads + Sync, G: Gate>(
     rt: &R,
     alloc: Global,

@@ -9,7 +9,7 @@ use Rattle.command_words.specs.Lawful.{Request, request_of}
 use Rattle.command_words.specs.Settings.{Options}
 use Rattle.command_words.specs.declared.command.Command.TheVariants.{Mus}
 use Rattle.command_inputs.specs.Inputs.{Told}
-use Rattle.command_endings.specs.Commands.Solving.{IsEnough, HasModel, HasNoModel}
+use Rattle.command_endings.specs.Commands.Solving.{IsEnough, IsEnoughToRefute, HasModel, HasNoModel}
 use Rattle.command_endings.specs.Commands.Extracting.{WritesCore, WritesUnfinished, Answers}
 use Rattle.status_lines.specs.Statuses.{code}
 use Rattle.status_lines.specs.declared.status.Status.{Status}
@@ -50,7 +50,7 @@ unextracted (Some bytes) F options text s w = record { formula = F; spells = s; 
 
 -- WHAT IS DECIDED
 
-has_core : (words : List Word) (told : Told) (name : Word) (options : Options) (F : Cnf) → AskFor words Mus (name ∷ []) options → IsSomeAnd (told name) (λ bytes. Spells bytes F) → IsEnough options.conflicts F → HasNoModel F → IsDecided (request_of words) told Done
+has_core : (words : List Word) (told : Told) (name : Word) (options : Options) (F : Cnf) → AskFor words Mus (name ∷ []) options → IsSomeAnd (told name) (λ bytes. Spells bytes F) → IsEnoughToRefute options.conflicts F → HasNoModel F → IsDecided (request_of words) told Done
 has_core words told name options F asked h enough m =
     let t = told_text (told name) F h in
     subst (λ (o : Option Request). IsDecided o told Done) (sym asked) (record { told_all = (t.0, tt); values = (F, tt); read = (t.1, tt); decides = (enough, m) })
@@ -82,7 +82,7 @@ mus_outcomes words shelf out say name options asked = record {
   model = λ F h enough m. has_model words shelf.told name options F asked h enough m;
   complete = λ F h enough. elim (model_or_none F (told_form (shelf.told name) F h)) [
     | inl m ↦ inr (has_model words shelf.told name options F asked h enough m)
-    | inr m ↦ inl (has_core words shelf.told name options F asked h enough m)
+    | inr m ↦ inl (has_core words shelf.told name options F asked h (inl enough) m)
   ];
   refuses = λ h. subst (λ (o : Option Request). IsDecided o shelf.told Input) (sym asked) (inl (not_spelled (shelf.told name) h));
 }

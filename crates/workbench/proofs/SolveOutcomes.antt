@@ -10,7 +10,7 @@ use Rattle.command_words.specs.Settings.{Options}
 use Rattle.command_words.specs.declared.command.Command.TheVariants.{Solve}
 use Rattle.command_inputs.specs.Inputs.{Told}
 use Rattle.text_laws.proofs.SpelledFormulas.{spelled_form}
-use Rattle.command_endings.specs.Commands.Solving.{IsEnough, HasModel, HasNoModel, WritesModel, WritesRefutation, WritesUnfinished, Answers}
+use Rattle.command_endings.specs.Commands.Solving.{IsEnough, IsEnoughToRefute, HasModel, HasNoModel, WritesModel, WritesRefutation, WritesUnfinished, Answers}
 use Rattle.status_lines.specs.Statuses.{code}
 use Rattle.status_lines.specs.declared.status.Status.{Status}
 use Rattle.status_lines.specs.declared.status.Status.TheVariants as status
@@ -62,7 +62,7 @@ has_model words told name options F asked h enough m =
     let t = told_text (told name) F h in
     subst (λ (o : Option Request). IsDecided o told Satisfiable) (sym asked) (record { told_all = (t.0, tt); values = (F, tt); read = (t.1, tt); decides = (enough, m) })
 
-has_none : (words : List Word) (told : Told) (name : Word) (options : Options) (F : Cnf) → AskFor words Solve (name ∷ []) options → IsSomeAnd (told name) (λ bytes. Spells bytes F) → IsEnough options.conflicts F → HasNoModel F → IsDecided (request_of words) told Unsatisfiable
+has_none : (words : List Word) (told : Told) (name : Word) (options : Options) (F : Cnf) → AskFor words Solve (name ∷ []) options → IsSomeAnd (told name) (λ bytes. Spells bytes F) → IsEnoughToRefute options.conflicts F → HasNoModel F → IsDecided (request_of words) told Unsatisfiable
 has_none words told name options F asked h enough m =
     let t = told_text (told name) F h in
     subst (λ (o : Option Request). IsDecided o told Unsatisfiable) (sym asked) (record { told_all = (t.0, tt); values = (F, tt); read = (t.1, tt); decides = (enough, m) })
@@ -89,7 +89,7 @@ solve_outcomes words shelf out say name options asked = record {
   no_model = λ F h enough m. has_none words shelf.told name options F asked h enough m;
   complete = λ F h enough. elim (model_or_none F (told_form (shelf.told name) F h)) [
     | inl m ↦ inl (has_model words shelf.told name options F asked h enough m)
-    | inr m ↦ inr (has_none words shelf.told name options F asked h enough m)
+    | inr m ↦ inr (has_none words shelf.told name options F asked h (inl enough) m)
   ];
   refuses = λ h. subst (λ (o : Option Request). IsDecided o shelf.told Input) (sym asked) (inl (not_spelled (shelf.told name) h));
 }

@@ -9,7 +9,7 @@ use Rattle.command_words.specs.Lawful.{request_of}
 use Rattle.command_words.specs.Settings.{Options}
 use Rattle.command_words.specs.declared.command.Command.TheVariants.{Mus}
 use Rattle.status_lines.specs.RunLines.{conflicts_line}
-use Rattle.command_endings.specs.Commands.Solving.{IsEnough, HasModel, HasNoModel}
+use Rattle.command_endings.specs.Commands.Solving.{IsEnough, IsEnoughToRefute, HasModel, HasNoModel}
 use Rattle.command_endings.specs.Commands.Extracting.{WritesCore, WritesUnfinished}
 use Rattle.status_lines.specs.declared.status.Status.TheVariants.{Done, Input, Satisfiable}
 use Rattle.workbench.specs.Endings.{Shelved, Sunk, Takes, Ends, IsDecided}
@@ -29,16 +29,17 @@ pub record IsUnextracted (text : List ℕ) (options : Options) (written : List �
   pub writes : WritesUnfinished options formula written
 
 -- With status 0 a core of the formula stands on `out`, and with 10 a model; nothing was said. With 5 an unfinished document stands
--- there, and `say` has the number of its learned clauses; the budget is not enough then. With 2 the text, where it is told, is
--- outside the grammar. No status but these comes. A told text outside the grammar decides 2. One of a formula for which the
--- budget is enough decides 0 if the formula has no model, and 10 if it has one; and it has one or none.
+-- there, and `say` has the number of its learned clauses; the budget is not enough then, and no clause is empty. With 2 the text,
+-- where it is told, is outside the grammar. No status but these comes. A told text outside the grammar decides 2. One of a formula
+-- for which the budget is enough decides 0 if the formula has no model, and 10 if it has one; and it has one or none. If a clause
+-- is empty, it decides 0 whatever the budget.
 pub record MusMeans (words : List Word) (shelf : Shelved) (out say : Sunk) (name : Word) (options : Options) : Type 0 where
   pub done : Ends words shelf out say 0 → (text : List ℕ) × IfSome (shelf.told name) (λ bytes. IsExtracted bytes text) × Takes out text × (say.after ≡ say.before)
   pub satisfiable : Ends words shelf out say 10 → (text : List ℕ) × IfSome (shelf.told name) (λ bytes. IsSatisfied bytes text) × Takes out text × (say.after ≡ say.before)
   pub budget : Ends words shelf out say 5 → (text : List ℕ) × IfSome (shelf.told name) (λ bytes. IsUnextracted bytes options text) × Takes out text × Takes say (conflicts_line options.conflicts)
   pub refused : Ends words shelf out say 2 → IfSome (shelf.told name) (λ bytes. fault_of bytes ≢ None)
   pub statuses : (answer : ℕ) → Ends words shelf out say answer → IsTrue (list_any (nat_eq answer) (0 ∷ 2 ∷ 3 ∷ 5 ∷ 9 ∷ 10 ∷ []))
-  pub no_model : (F : Cnf) → IsSomeAnd (shelf.told name) (λ bytes. Spells bytes F) → IsEnough options.conflicts F → HasNoModel F → IsDecided (request_of words) shelf.told Done
+  pub no_model : (F : Cnf) → IsSomeAnd (shelf.told name) (λ bytes. Spells bytes F) → IsEnoughToRefute options.conflicts F → HasNoModel F → IsDecided (request_of words) shelf.told Done
   pub model : (F : Cnf) → IsSomeAnd (shelf.told name) (λ bytes. Spells bytes F) → IsEnough options.conflicts F → HasModel F → IsDecided (request_of words) shelf.told Satisfiable
   pub complete : (F : Cnf) → IsSomeAnd (shelf.told name) (λ bytes. Spells bytes F) → IsEnough options.conflicts F
       → IsDecided (request_of words) shelf.told Done ⊎ IsDecided (request_of words) shelf.told Satisfiable

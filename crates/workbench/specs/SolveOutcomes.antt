@@ -9,7 +9,7 @@ use Rattle.command_words.specs.Lawful.{request_of}
 use Rattle.command_words.specs.Settings.{Options}
 use Rattle.command_words.specs.declared.command.Command.TheVariants.{Solve}
 use Rattle.status_lines.specs.RunLines.{conflicts_line}
-use Rattle.command_endings.specs.Commands.Solving.{IsEnough, HasModel, HasNoModel, WritesModel, WritesRefutation, WritesUnfinished}
+use Rattle.command_endings.specs.Commands.Solving.{IsEnough, IsEnoughToRefute, HasModel, HasNoModel, WritesModel, WritesRefutation, WritesUnfinished}
 use Rattle.status_lines.specs.declared.status.Status.TheVariants.{Input, Satisfiable, Unsatisfiable}
 use Rattle.workbench.specs.Endings.{Shelved, Sunk, Takes, Ends, IsDecided}
 use Rattle.workbench.specs.Outcomes.{AskFor, IsNoFormulaText}
@@ -32,9 +32,10 @@ pub record IsUndecided (text : List ℕ) (options : Options) (written : List ℕ
   pub writes : WritesUnfinished options formula written
 
 -- With status 10 a model of the formula stands on `out`, and with 20 a refutation; nothing was said. With 5 an unfinished
--- document stands there, and `say` has the number of its learned clauses; the budget is not enough then. With 2 the text, where
--- it is told, is outside the grammar. No status but these comes. A told text outside the grammar decides 2. One of a formula for
--- which the budget is enough decides 10 if the formula has a model, and 20 if it has none; and it has one or none.
+-- document stands there, and `say` has the number of its learned clauses; the budget is not enough then, no clause is empty, and
+-- each part of the matching kernel has a model or stopped so too. With 2 the text, where it is told, is outside the grammar. No
+-- status but these comes. A told text outside the grammar decides 2. One of a formula for which the budget is enough decides 10 if
+-- the formula has a model, and 20 if it has none; and it has one or none. If a clause is empty, it decides 20 whatever the budget.
 pub record SolveMeans (words : List Word) (shelf : Shelved) (out say : Sunk) (name : Word) (options : Options) : Type 0 where
   pub satisfiable : Ends words shelf out say 10 → (text : List ℕ) × IfSome (shelf.told name) (λ bytes. IsSatisfied bytes text) × Takes out text × (say.after ≡ say.before)
   pub unsatisfiable : Ends words shelf out say 20 → (text : List ℕ) × IfSome (shelf.told name) (λ bytes. IsRefuted bytes options text) × Takes out text × (say.after ≡ say.before)
@@ -42,7 +43,7 @@ pub record SolveMeans (words : List Word) (shelf : Shelved) (out say : Sunk) (na
   pub refused : Ends words shelf out say 2 → IfSome (shelf.told name) (λ bytes. fault_of bytes ≢ None)
   pub statuses : (answer : ℕ) → Ends words shelf out say answer → IsTrue (list_any (nat_eq answer) (2 ∷ 3 ∷ 5 ∷ 9 ∷ 10 ∷ 20 ∷ []))
   pub model : (F : Cnf) → IsSomeAnd (shelf.told name) (λ bytes. Spells bytes F) → IsEnough options.conflicts F → HasModel F → IsDecided (request_of words) shelf.told Satisfiable
-  pub no_model : (F : Cnf) → IsSomeAnd (shelf.told name) (λ bytes. Spells bytes F) → IsEnough options.conflicts F → HasNoModel F → IsDecided (request_of words) shelf.told Unsatisfiable
+  pub no_model : (F : Cnf) → IsSomeAnd (shelf.told name) (λ bytes. Spells bytes F) → IsEnoughToRefute options.conflicts F → HasNoModel F → IsDecided (request_of words) shelf.told Unsatisfiable
   pub complete : (F : Cnf) → IsSomeAnd (shelf.told name) (λ bytes. Spells bytes F) → IsEnough options.conflicts F
       → IsDecided (request_of words) shelf.told Satisfiable ⊎ IsDecided (request_of words) shelf.told Unsatisfiable
   pub refuses : IsNoFormulaText (shelf.told name) → IsDecided (request_of words) shelf.told Input

@@ -12,7 +12,7 @@ use Rattle.kernel_solve.specs.EmptyClause.{first_empty}
 use Rattle.answer_check.specs.declared.answer.Answer.TheVariants.{Core}
 use Rattle.command_words.specs.Settings.{Options}
 use Rattle.status_lines.specs.RunLines.{conflicts_line}
-use Rattle.command_endings.specs.Commands.Solving.{IsEnough, HasModel, HasNoModel, WritesAnswer, WritesModel}
+use Rattle.command_endings.specs.Commands.Solving.{IsEnough, IsEnoughToRefute, HasModel, HasNoModel, WritesAnswer, WritesModel}
 use Rattle.command_endings.specs.Commands.Verifying.{IsMinimalCore}
 use Rattle.status_lines.specs.declared.status.Status.{Status}
 use Rattle.status_lines.specs.declared.status.Status.TheVariants.{Done, Budget, Satisfiable}
@@ -29,10 +29,11 @@ pub record WritesCore (F : Cnf) (written : List ℕ) : Type 0 where
 
 -- WHERE THE BUDGET IS USED UP
 
--- What is written is the text of an unfinished document that is sound for the formula of its own clause lines, which are the
--- clauses at some positions, ascending. It has one round, with as many learned clauses as were allowed, which are fewer than all
--- that can be learned, and the search there is not at its end (`WantsMore`).
+-- No clause is empty. What is written is the text of an unfinished document that is sound for the formula of its own clause lines,
+-- which are the clauses at some positions, ascending. It has one round, with as many learned clauses as were allowed, which are
+-- fewer than all that can be learned, and the search there is not at its end (`WantsMore`).
 pub record WritesUnfinished (options : Options) (F : Cnf) (written : List ℕ) : Type 0 where
+  pub filled : first_empty F ≡ None
   pub part : List ℕ
   pub positions : IsTrue (are_positions F part)
   pub unfinished : IsUnfinishedText (clauses_at F part) None options.conflicts written
@@ -52,8 +53,8 @@ Answers options F Satisfiable written said = WritesModel F written × (said ≡ 
 Answers options F Budget written said = WritesUnfinished options F written × (said ≡ conflicts_line options.conflicts)
 Answers options F _ written said = ⊥
 
--- where the budget is enough, that the formula has no model, or that it has one
+-- Where the budget is enough, that the formula has no model, or that it has one. Where a clause is empty, each budget is enough.
 abbrev pub Decides : Options → Cnf → Status → Type 0
-Decides options F Done = IsEnough options.conflicts F × HasNoModel F
+Decides options F Done = IsEnoughToRefute options.conflicts F × HasNoModel F
 Decides options F Satisfiable = IsEnough options.conflicts F × HasModel F
 Decides options F _ = ⊥

@@ -1,5 +1,5 @@
 -- The command `solve`.
-use Rattle.std.specs.Prelude.{◌≡◌, ℕ, ◌^◌, ◌≤◌, ◌<◌, List, [], ◌∷◌, length, ℤ, None, IfSome, IsTrue}
+use Rattle.std.specs.Prelude.{◌≡◌, ◌⊎◌, ℕ, ◌^◌, ◌≤◌, ◌<◌, List, [], ◌∷◌, length, ℤ, None, is_some, IfSome, IsTrue}
 use Rattle.lk_model.specs.Lists.{among}
 use Rattle.lk_model.specs.Formulas.Formula.{Cnf}
 use Rattle.lk_model.specs.Formulas.Assignment.{assignment_of}
@@ -12,7 +12,7 @@ use Rattle.lk_model.specs.Reduction.{IsModel, IsUnfinishedText}
 use Rattle.lk_model.specs.declared.class.Class.TheVariants.{General}
 use Rattle.lk_model.specs.declared.document.Round.{Round}
 use Rattle.kernel_solve.specs.EmptyClause.{first_empty, empty_round}
-use Rattle.kernel_solve.specs.Solutions.{StopsIn}
+use Rattle.kernel_solve.specs.Solutions.{RefutesIn, StopsIn}
 use Rattle.answer_check.specs.Answers.{is_answer, answer_text}
 use Rattle.answer_check.specs.AnswerChecks.{first_failure_of_answer}
 use Rattle.answer_check.specs.declared.answer.Answer.{Answer}
@@ -25,6 +25,10 @@ use Rattle.status_lines.specs.declared.status.Status.TheVariants.{Budget, Satisf
 -- so many learned clauses are enough for each formula of as many variables
 abbrev pub IsEnough : ℕ → Cnf → Type 0
 IsEnough conflicts F = 3 ^ F.vars ≤ conflicts
+
+-- they are enough, or none is needed, since a clause is empty
+abbrev pub IsEnoughToRefute : ℕ → Cnf → Type 0
+IsEnoughToRefute conflicts F = IsEnough conflicts F ⊎ IsTrue (is_some (first_empty F))
 
 -- some assignment satisfies each clause, or none does
 abbrev pub HasModel : Cnf → Type 0
@@ -49,7 +53,7 @@ pub record WritesModel (F : Cnf) (written : List ℕ) : Type 0 where
 
 -- A refutation: so no assignment satisfies the formula. The positions that it uses are in the general kernel. Each of its
 -- steps is used, and it has at most as many learned clauses as were allowed. If a clause is empty, it is the one step of the
--- first such clause.
+-- first such clause. Else it refutes one part of the matching kernel, and no part before that one is refuted (`RefutesIn`).
 pub record WritesRefutation (options : Options) (F : Cnf) (written : List ℕ) : Type 0 where
   pub round : Round
   pub writes : WritesAnswer F (Refuted round) written
@@ -58,12 +62,13 @@ pub record WritesRefutation (options : Options) (F : Cnf) (written : List ℕ) :
   pub needed : IsTrue (is_trimmed round)
   pub most : length (learned_steps (round ∷ [])) ≤ options.conflicts
   pub empty : IfSome (first_empty F) (λ p. round ≡ empty_round F p)
+  pub first : first_empty F ≡ None → (part : List ℕ) × RefutesIn F options.conflicts part round
 
 -- WHERE THE BUDGET IS USED UP
 
--- No clause is empty. What is written is the text of a sound unfinished document of the formula. It has one round, with as many learned clauses as
--- were allowed, which are fewer than all that can be learned. Its chains name positions of one part of the matching kernel,
--- where the search is not at its end (`StopsIn`).
+-- No clause is empty. What is written is the text of a sound unfinished document of the formula. It has one round, with as
+-- many learned clauses as were allowed, which are fewer than all that can be learned. Its chains name positions of one part of
+-- the matching kernel, where the search is not at its end. No part is refuted, and those before that one have models (`StopsIn`).
 pub record WritesUnfinished (options : Options) (F : Cnf) (written : List ℕ) : Type 0 where
   pub filled : first_empty F ≡ None
   pub unfinished : IsUnfinishedText F None options.conflicts written
@@ -72,7 +77,7 @@ pub record WritesUnfinished (options : Options) (F : Cnf) (written : List ℕ) :
   pub learned : length (learned_steps (round ∷ [])) ≡ options.conflicts
   pub few : options.conflicts < 3 ^ F.vars
   pub part : List ℕ
-  pub stops : StopsIn F part round
+  pub stops : StopsIn F options.conflicts part round
 
 -- HOW IT ENDS
 
@@ -83,8 +88,8 @@ Answers options F Unsatisfiable written said = WritesRefutation options F writte
 Answers options F Budget written said = WritesUnfinished options F written × (said ≡ conflicts_line options.conflicts)
 Answers options F _ written said = ⊥
 
--- where the budget is enough, that the formula has a model, or that it has none
+-- Where the budget is enough, that the formula has a model, or that it has none. Where a clause is empty, each budget is enough.
 abbrev pub Decides : Options → Cnf → Status → Type 0
 Decides options F Satisfiable = IsEnough options.conflicts F × HasModel F
-Decides options F Unsatisfiable = IsEnough options.conflicts F × HasNoModel F
+Decides options F Unsatisfiable = IsEnoughToRefute options.conflicts F × HasNoModel F
 Decides options F _ = ⊥

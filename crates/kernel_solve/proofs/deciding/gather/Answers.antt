@@ -4,7 +4,7 @@ use Rattle.std.proofs.lemmas.Grind.{common_steps}
 use Rattle.lk_model.specs.declared.document.Round.{Round}
 use Rattle.part_formula.specs.declared.deciding.Decision.{Decision}
 use Rattle.kernel_solve.specs.Answers.{Answer, IsGatheredSoFar}
-use Rattle.kernel_solve.proofs.Gathering.{model_more, stopped_more, refuted_among, all_come, stopped_among, all_models}
+use Rattle.kernel_solve.proofs.Gathering.{model_more, stopped_more, first_refutation, all_come, first_stop, all_models}
 use Rattle.kernel_solve.proofs.deciding.gather.Goals as goal
 
 -- an answer that is a decision
@@ -37,13 +37,13 @@ loop-answer-preserved c = record {
 pub returns-in-Refuted : goal.returns-in-Refuted
 returns-in-Refuted c =
     let all : c.loop-answer.yielded ++ c.in-Some.answer ∷ [] ++ into_iter_items c.next.new.self ≡ c.args.answers = grind (arith, common_steps) in
-    refuted_among c.args.answers c.loop-answer.yielded (into_iter_items c.next.new.self) c.in-Some.answer c.in-Refuted.round
-    (decided c.in-Some.answer c.in_ok-model.field-0 _ c.in_ok-model.was c.in-Refuted.is) all
+    first_refutation c.args.answers c.loop-answer.yielded (into_iter_items c.next.new.self) c.loop-answer.models c.loop-answer.stopped c.in-Some.answer c.in-Refuted.round
+    (decided c.in-Some.answer c.in_ok-model.field-0 _ c.in_ok-model.was c.in-Refuted.is) all c.loop-answer.invariant.so_far
 
 pub returns-in-Some-stopped : goal.returns-in-Some-stopped
 returns-in-Some-stopped c =
     let h = c.loop-answer.invariant in
-    stopped_among c.args.answers c.loop-answer.yielded c.loop-answer.models c.loop-answer.stopped c.in-Some-stopped.round
+    first_stop c.args.answers c.loop-answer.yielded c.loop-answer.models c.loop-answer.stopped c.in-Some-stopped.round
     (all_come c.args.answers c.loop-answer.yielded (into_iter_items c.loop-answer.answer-iterator) (into_iter_len c.loop-answer.answer-iterator) h.rest h.long c.in-None.ensures.steps.0)
     c.in-Some-stopped.is h.so_far
 
