@@ -49,6 +49,7 @@ pub minimal_core : (F : Cnf) (core : MusAnswer) → IsTrue (is_answer F.vars (le
 minimal_core F core form shown =
     let minimal = answer_law.minimal F core form shown in
     record {
+      positions = core_positions F core form;
       no_model = none_of_all F core.core (core_positions F core form) minimal.unsatisfiable;
       minimal = minimal;
       kernel = λ kept kernel. answer_law.kernel F kept core form shown kernel;

@@ -1,10 +1,10 @@
 -- The command `verify`.
-use Rattle.std.specs.Prelude.{◌≡◌, ℕ, List, [], Option, Some, None}
+use Rattle.std.specs.Prelude.{◌≡◌, ℕ, List, [], Option, Some, None, IsTrue}
 use Rattle.lk_model.specs.Lists.{among}
 use Rattle.lk_model.specs.Formulas.Formula.{Cnf}
 use Rattle.lk_model.specs.Formulas.Assignment.{assignment_of}
 use Rattle.lk_model.specs.Formulas.Autarky.{Within}
-use Rattle.lk_model.specs.Formulas.Lean.{Kernel, all_of}
+use Rattle.lk_model.specs.Formulas.Lean.{Kernel, all_of, are_positions}
 use Rattle.lk_model.specs.Formulas.Minimal.{IsUnsatisfiable, IsMinimallyUnsatisfiable}
 use Rattle.lk_model.specs.Chains.Rounds.{used_positions}
 use Rattle.lk_model.specs.Texts.PlainText.{line}
@@ -34,9 +34,10 @@ pub record IsRefuted (F : Cnf) (round : Round) : Type 0 where
   pub no_model : IsUnsatisfiable F (all_of F)
   pub used : (kept : List ℕ) → Kernel General F kept → Within (among (used_positions F round)) (among kept)
 
--- A core shows that the formula has no model: its clauses have none, each smaller set of them has one, and they are in the
+-- A core is positions, ascending. It shows that the formula has no model: its clauses have none, each smaller set of them has one, and they are in the
 -- general kernel.
 pub record IsMinimalCore (F : Cnf) (core : List ℕ) : Type 0 where
+  pub positions : IsTrue (are_positions F core)
   pub no_model : IsUnsatisfiable F (all_of F)
   pub minimal : IsMinimallyUnsatisfiable F (among core)
   pub kernel : (kept : List ℕ) → Kernel General F kept → Within (among core) (among kept)
