@@ -34,8 +34,8 @@ pub record IsRefuted (F : Cnf) (round : Round) : Type 0 where
   pub no_model : IsUnsatisfiable F (all_of F)
   pub used : (kept : List ℕ) → Kernel General F kept → Within (among (used_positions F round)) (among kept)
 
--- A core is positions, ascending. It shows that the formula has no model: its clauses have none, each smaller set of them has one, and they are in the
--- general kernel.
+-- A core is positions, ascending. It shows that the formula has no model: its clauses have none, each smaller set of them has
+-- one, and they are in the general kernel.
 pub record IsMinimalCore (F : Cnf) (core : List ℕ) : Type 0 where
   pub positions : IsTrue (are_positions F core)
   pub no_model : IsUnsatisfiable F (all_of F)
