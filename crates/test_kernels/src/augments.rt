@@ -8,6 +8,7 @@ ghost use Rattle.bipartite_match.specs.Ways.{IsStart};
 use crate::matchings::pairs;
 use bipartite_match::{Matching, Start, Steps, augment};
 use lk_model::Formula;
+use lk_samples::number_of;
 use std::alloc::Global;
 use std::test::Fail;
 
@@ -40,8 +41,8 @@ fn start_of(f: &Formula, part: &[u32], m: &Matching, word: &str) -> Option<Start
     ensures { IfSome result (IsStart f.now part.now m.now) }
 {
     match word.strip_prefix("v") {
-        Some(v) => variable_start(m, v.parse().unwrap_or(0)),
-        None => clause_start(m, word.parse().unwrap_or(0)),
+        Some(v) => variable_start(m, number_of(v)),
+        None => clause_start(m, number_of(word)),
     }
 }
 

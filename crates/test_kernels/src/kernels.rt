@@ -14,6 +14,9 @@
 //! - `augment`, for single searches over the whole formula, where no clause has a variable at first. In place of a part it
 //!   has starts, each the position of a clause, or `v` and a variable. It tells of each whether there is one pair more, and
 //!   how many there are.
+//! - `edits`, for clauses that come and go, where all clauses of the formula are live at first. In place of a part it has words
+//!   with commas between them: `add L ..`, `remove NUMBER`, `kernel`, which tells the numbers of the matching kernel of the live
+//!   clauses, and `memory`, which tells the stop without memory.
 //!
 //! `drawn N` tells the pure kernels of so many drawn formulas, and `small` of all formulas of at most four clauses over three
 //! variables, in the order of `small.rt`, the number of pairs, what walks reach, and what the matching kernel keeps.
@@ -21,12 +24,13 @@ ghost use Rattle.std.specs.Prelude.{IsTrue};
 ghost use Rattle.lk_model.specs.Formulas.Lean.{are_positions};
 
 use crate::augments::tell_searches;
+use crate::edits::tell_edits;
 use crate::matchings::{tell_kernel, tell_matching};
 use crate::pure::{tell_drawn, tell_pure};
 use crate::small::tell_small;
 use deficiency::{Deficiency, max_deficiency};
 use lk_model::{Formula, OutOfMemory};
-use lk_samples::{formula_of_text, part_of_text};
+use lk_samples::{formula_of_text, number_of, part_of_text};
 use std::alloc::{AllocError, Global};
 use std::test::Fail;
 
@@ -69,6 +73,9 @@ fn tell_of(
     text: &str,
     out: &mut String,
 ) -> Result<(), Fail> {
+    if word == "edits" {
+        return tell_edits(alloc, f, text, out);
+    }
     let is_search = word == "augment";
     let part = part_of_text(alloc, f, if is_search { "" } else { text })?;
     if is_search {
@@ -81,7 +88,7 @@ fn tell_of(
 fn tell_over(alloc: Global, word: &str, text: &str, out: &mut String) -> Result<(), Fail> {
     let (vars, text) = text.split_once(";").unwrap_or((text, ""));
     let (clauses, text) = text.split_once(";").unwrap_or((text, ""));
-    let f = formula_of_text(alloc, vars.parse().unwrap_or(0), clauses)?;
+    let f = formula_of_text(alloc, number_of(vars), clauses)?;
     tell_of(alloc, word, &f, text, out)
 }
 
@@ -89,7 +96,7 @@ fn tell_over(alloc: Global, word: &str, text: &str, out: &mut String) -> Result<
 pub(crate) fn tell(alloc: Global, line: &str, out: &mut String) -> Result<(), Fail> {
     let (word, text) = line.split_once(" ").unwrap_or((line, ""));
     match word {
-        "drawn" => tell_drawn(alloc, text.parse().unwrap_or(0), out),
+        "drawn" => tell_drawn(alloc, number_of(text), out),
         "small" => tell_small(alloc, out),
         _ => tell_over(alloc, word, text, out),
     }

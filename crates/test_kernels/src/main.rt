@@ -1,4 +1,4 @@
-//! Tests of the kernels of pure literals, of matchings and of linear autarkies, and of what they stand on.
+//! Tests of the kernels of pure literals, of matchings and of linear autarkies, of what they stand on, and of edits.
 //!
 //! A line `@ NAME` of the input chooses the driver of the lines behind it: `kernels`, `rows` or `linear`, each described at
 //! the head of its file. Each line is printed again, and behind it what is told of it, in lines that begin with `=`. A line
@@ -7,6 +7,7 @@
 
 mod augments;
 mod drawn;
+mod edits;
 mod kernels;
 mod linear;
 mod matchings;

@@ -106,10 +106,14 @@ fn tell_sparse(alloc: Global, row: &[i128], out: &mut String) -> Result<(), OutO
         return Ok(put_none(out)?);
     }
     let sparse = SparseRow::of(alloc, row)?;
+    Ok(put_sparse(&sparse, out)?)
+}
+
+fn put_sparse(sparse: &SparseRow, out: &mut String) -> Result<(), AllocError> {
     put_entries(sparse.entries(), out)?;
     writeln!(out, "= {} columns", sparse.columns())?;
-    put_numbers(&sparse, out)?;
-    Ok(writeln!(out, "= {}", sparse.entry(u32::MAX))?)
+    put_numbers(sparse, out)?;
+    writeln!(out, "= {}", sparse.entry(u32::MAX))
 }
 
 /// Writes how a combination ends.

@@ -6,7 +6,7 @@ use crate::linear::sums;
 use crate::telling::{put_begun, put_lean, put_stage, put_wide};
 use exact_pivot::{Next, PivotStop, Tableau};
 use lk_model::Formula;
-use lk_samples::{formula_of_text, positions};
+use lk_samples::{formula_of_text, number_of, positions};
 use std::alloc::{AllocError, Global};
 use std::test::Fail;
 
@@ -91,7 +91,7 @@ fn tell_of(alloc: Global, f: &Formula, is_whole: bool, out: &mut String) -> Resu
 /// Writes the run of the formula that a text has.
 pub(crate) fn tell_run(alloc: Global, text: &str, out: &mut String) -> Result<(), Fail> {
     let (n, clauses) = text.split_once(";").unwrap_or((text, ""));
-    let f = formula_of_text(alloc, n.parse().unwrap_or(0), clauses)?;
+    let f = formula_of_text(alloc, number_of(n), clauses)?;
     tell_of(alloc, &f, true, out)
 }
 
