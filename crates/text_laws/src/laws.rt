@@ -2,7 +2,6 @@
 ghost use Rattle.text_laws.specs.SpellsLaw.{FormulaLaw, PlainLaw, SpellsLaw, CoreSpellsLaw};
 
 /// What a text spells is a formula over its variables.
-#[tactic(auto, using(crate::proofs::SpelledFormulas::spelled_form))]
 pub fn formula_law()
     ensures { FormulaLaw }
 {}
