@@ -16,10 +16,11 @@ mod report;
 mod solve;
 mod verify;
 
-use command_endings::{Ending, demo};
+use command_endings::demo;
 use command_inputs::Stop;
 use command_words::{Command, Request};
 use lk_outside::{Gate, Shelf};
+use status_lines::Ending;
 use std::alloc::Global;
 use std::thread::Threads;
 
