@@ -6,7 +6,7 @@
 # The formula is examples/square.cnf where none is named. The status is that of `leank solve`: 10 with a model, 20
 # where there is none, 5 where the budget is used up.
 set -eu
-here=$(cd "$(dirname "$0")" && pwd)
+here=$(CDPATH='' cd -- "$(dirname -- "$(readlink -f -- "$0")")" && pwd)
 leank=$here/../bin/leank
 formula=${1:-$here/square.cnf}
 answer=$(mktemp)

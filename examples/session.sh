@@ -5,34 +5,39 @@
 #     examples/session.sh [FORMULA]
 #
 # The formula is examples/ladder.cnf where none is named. It is given to the first of cadical, minisat and
-# picosat that is found; where none is, examples/ladder.model serves for examples/ladder.cnf.
+# picosat that is found; where none is, examples/ladder.model serves for examples/ladder.cnf. The status is 0 with a
+# model, 20 where the solver says that there is none, and 1 where the solver says neither.
 set -eu
-here=$(cd "$(dirname "$0")" && pwd)
+here=$(CDPATH='' cd -- "$(dirname -- "$(readlink -f -- "$0")")" && pwd)
 leank=$here/../bin/leank
 formula=${1:-$here/ladder.cnf}
 work=$(mktemp -d)
 trap 'rm -rf "$work"' EXIT
 
-# Writes the model of the kept clauses as solvers print it. A solver ends with 10 where there is one.
+# Writes the model of the kept clauses as solvers print it, and notes the solver's status: 10 where there is a model,
+# 20 where there is none, and anything else where it does not know, was killed or refused the file.
 solve() {
     found=0
     case $1 in
     cadical) cadical -q "$work/reduced" >"$work/model" || found=$? ;;
     picosat) picosat "$work/reduced" >"$work/model" || found=$? ;;
     minisat)
-        # It writes the bare literals to a file.
+        # It writes the bare literals to a file, with a blank before the 0 where no variable occurs.
         minisat -verb=0 "$work/reduced" "$work/literals" >"$work/log" 2>&1 || found=$?
-        sed -e 's/^SAT$/s SATISFIABLE/' -e 's/^\(-\{0,1\}[0-9]\)/v \1/' "$work/literals" >"$work/model"
+        if [ -e "$work/literals" ]; then
+            sed -e 's/^SAT$/s SATISFIABLE/' -e 's/^ *\(-\{0,1\}[0-9]\)/v \1/' "$work/literals" >"$work/model"
+        fi
         ;;
     esac
-    [ "$found" -eq 10 ]
 }
 
-# Whether the literals of a `v` line satisfy each clause of a formula.
+# Whether the literals of a `v` line satisfy each clause of a formula. Carriage returns are blanks, and what stands behind
+# an end mark does not count.
 satisfies() {
     awk '
+        { gsub(/\r/, " ") }
         FNR == NR { for (i = 2; i <= NF; i++) is_true[$i] = 1; next }
-        $1 == "%" { exit }
+        /^[ \t]*%/ { exit }
         NF == 0 || /^[ \t]*[cp]/ { next }
         {
             for (i = 1; i <= NF; i++) {
@@ -57,10 +62,18 @@ done
 
 if [ -n "$solver" ]; then
     echo "solver: $solver"
-    if ! solve "$solver"; then
+    solve "$solver"
+    case $found in
+    10) ;;
+    20)
         echo "no model: the kept clauses have none, and so the formula has none"
-        exit 0
-    fi
+        exit 20
+        ;;
+    *)
+        echo "$solver ended with status $found, which says neither that there is a model nor that there is none" >&2
+        exit 1
+        ;;
+    esac
 elif [ $# -eq 0 ]; then
     echo "solver: none found, so the model is that of examples/ladder.model"
     cp "$here/ladder.model" "$work/model"
