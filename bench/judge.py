@@ -135,8 +135,8 @@ class Lines:
 
     def __init__(self, kind, text):
         self.kind = kind
-        *lines, self.rest = text.decode("latin-1").split("\n")
-        self.lines = [line.split(" ") for line in lines]
+        # (no word that may come has a byte beyond ASCII; `rest` is what follows the last byte 10)
+        *self.lines, self.rest = text.decode("latin-1").split("\n")
         self.read = 0
 
     def refuse(self, line):
@@ -144,14 +144,14 @@ class Lines:
 
     def comes(self, *words):
         """Whether the next line is there, with its byte 10, and begins with these words."""
-        return self.read < len(self.lines) and self.lines[self.read][:len(words)] == list(words)
+        return self.read < len(self.lines) and self.lines[self.read].split(" ", len(words))[:len(words)] == list(words)
 
     def line(self, *words):
         """The next line, which has to begin with these words: what follows them."""
         if not self.comes(*words):
             self.refuse(self.read + 1)
         self.read += 1
-        return Words(self, self.lines[self.read - 1][len(words):])
+        return Words(self, self.lines[self.read - 1].split(" ")[len(words):])
 
     def end(self):
         if self.read < len(self.lines) or self.rest:

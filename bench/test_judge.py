@@ -27,7 +27,7 @@ FORGED_EACH = 8
 CLASSES = ["pure", "matching", "linear", "general"]
 NUMBERS = [0, 1, -1, 2, -2, 3, 2**32 - 1, 2**32, 2**63 - 1, 2**63, 2**64, 2**127 - 1, 2**127, -(2**127 - 1), -(2**127),
            1_000_000, 1_000_001, 4_000_000, 4_000_001]
-WORDS = ["", "+1", "01", "-0", "00", "x", "c", "p", "cnf", "0", "\t1", "1\r", "1_0", "\u00b2", "%", "--1", "1.0", "9" * 45]
+WORDS = [*CLASSES, "unfinished", "mus", "", "+1", "01", "-0", "00", "x", "c", "p", "cnf", "0", "\t1", "1\r", "1_0", "\u00b2", "%", "--1", "1.0", "9" * 45]
 
 
 class Difference(Exception):
@@ -153,6 +153,125 @@ def joined(lines):
 
 
 # ---------------------------------------------------------------------------------------------------------------------
+# Corners of the page
+
+# Formulas, and the lines of texts that are judged as documents and as answers; a line in brackets is there and is not.
+SQUARE = (2, [[1, 2], [1, -2], [-1, 2], [-1, -2]])
+KEPT = ["c keep 1 2 3 4 0", "c set 0"]
+SQUARE_LINES = ["1 2 0", "1 -2 0", "-1 2 0", "-1 -2 0"]
+BIG = str(2**127 - 1)
+
+
+def square(name, *lines, version=1, keep=KEPT):
+    return SQUARE, [f"c leank {version} {name}", "c formula 2 4", *keep, *lines, "p cnf 2 4", *SQUARE_LINES]
+
+
+def empty(name, n, *lines, m=0, version=1):
+    return (n, [[]] * m), [f"c leank {version} {name}", f"c formula {n} {m}", *lines, f"p cnf {n} 0"]
+
+
+def core(*lines):
+    return SQUARE, ["c leank 1 mus", "c formula 2 4", *lines]
+
+
+STEPS = ["c round", "c step 5 1 0 1 2 2 0", "c step 6 0 3 2 4 -1 5 0"]
+CORNERS = [
+    *(empty(name, n, "c keep 0", "c set 0", *(["c order 0"] if name == "pure" else []))
+      for name in CLASSES for n in (0, 1, 1_000_000, 1_000_001)),
+    *(empty("matching", 0, "c keep 0", "c set 0", m=m) for m in (1, 2, 4_000_000, 4_000_001) if m < 3),
+    *(((0, []), ["c leank 1 matching", f"c formula 0 {m}", "c keep 0", "c set 0", "p cnf 0 0"]) for m in (4_000_000, 4_000_001)),
+    empty("general", 1, "c keep 0", "c set 0", "c round"),
+    empty("general", 1, "c keep 0", "c set 0", "c round", "c step 1 0 1 0"),
+    empty("general", 1, "c keep 0", "c set 0", "c step 1 0 1 0"),
+    *(empty("unfinished", 1, f"c learned {learned}", "c round", *more)
+      for learned in (0, 1, 2**63 - 1, 2**63) for more in ([], ["c round"], ["c step 1 0 1 0"])),
+    empty("unfinished", 1, "c learned 0"),
+    *(empty(name, 2, *lines, "c keep 0", "c set 0", version=version)
+      for name in ("matching", "general") for version in (0, 1, 2, 3) for lines in ([], ["c protect 0"], ["c protect 1 2 0"], ["c protect 2 1 0"], ["c protect 3 0"])),
+    # Rows: own positions that come twice, and escapes to them.
+    *(square("matching", f"c row 1 {m} {e} {r}", f"c row 2 {k} {f} {q}")
+      for m, e, r, k, f, q in [(1, 2, 0, 1, 2, 0), (1, 1, 1, 2, 3, 0), (1, 2, 1, 2, 3, 0), (1, 2, 0, 2, 3, 1), (1, 2, 1, 2, 1, 0),
+                               (1, 3, 2**32 - 1, 2, 3, 2**32), (1, 3, 2**32 - 1, 2, 4, 0), (4, 3, 0, 2, 4, 1), (2, 2, 0, 2, 2, 0)]),
+    *(((3, [[1, 2, 3]] * 6), ["c leank 1 matching", "c formula 3 6", "c keep 1 2 3 4 5 6 0", "c set 0", *rows, "p cnf 3 6",
+                              *["1 2 3 0"] * 6])
+      for ranks in ((1, 2, 9), (9, 2, 1), (1, 2, 1), (2, 2, 2), (1, 1, 0)) for rows in [
+          [f"c row 1 5 1 {ranks[0]}", f"c row 2 4 5 {ranks[1]}", f"c row 3 5 6 {ranks[2]}"],
+          [f"c row 1 5 6 {ranks[0]}", f"c row 2 4 5 {ranks[1]}", f"c row 3 3 5 {ranks[2]}"]]),
+    # Owners: a variable that comes twice, a false literal, an empty clause.
+    *(((2, [[1, 2], [1, -2], [2]]), ["c leank 1 matching", "c formula 2 3", "c keep 0", "c set 1 2 0", *own, "p cnf 2 0"])
+      for own in (["c own 1 1", "c own 2 1", "c own 3 2"], ["c own 1 2", "c own 2 1", "c own 3 2"], ["c own 1 1", "c own 2 2", "c own 3 2"],
+                  ["c own 1 1", "c own 3 2"])),
+    # Sums that are wider than the numbers, and numbers at their limits.
+    *(square("linear", f"c dual 1 {y}", f"c dual 2 {y}", f"c dual 3 {y}", f"c dual 4 {z}", *units)
+      for y, z in ((BIG, BIG), (BIG, "1"), ("1", BIG), (str(2**127), "1"), ("-" + BIG, "1"), ("1", "-" + str(2**127)))
+      for units in (["c unit 1 2 1 1 2 1 0", "c unit 2 2 1 1 2 -1 0"], [f"c unit 1 2 1 {BIG} 2 {BIG} 3 {BIG} 4 {BIG} 0", "c unit 2 1 0"])),
+    square("linear", "c dual 1 1", "c dual 2 1", "c dual 3 1", "c dual 4 1", "c unit 1 0 0", "c unit 2 0 0"),
+    square("linear", "c dual 1 1", "c dual 2 1", "c dual 3 1", "c dual 4 1", f"c unit 1 {BIG} 1 {BIG} 2 {BIG} 3 {BIG} 4 -{BIG} 0", "c unit 2 1 0"),
+    *(((2, [[1, -1], [1, 2], [2, -1]]), ["c leank 1 linear", "c formula 2 3", "c keep 0", "c set 1 2 0", *stages, "p cnf 2 0"])
+      for stages in (["c stage 1 1 2 1 0"], ["c stage 1 1 0", "c stage 2 1 0"], ["c stage 0", "c stage 2 1 0", "c stage 1 1 0"],
+                     [f"c stage 1 {BIG} 2 {BIG} 0"], ["c stage 2 1 0", "c stage 1 -1 0"], [f"c stage 1 {BIG} 2 1 0"],
+                     ["c stage 1 0 0"], ["c stage 2 1 1 1 0"], ["c stage 1 1 1 1 0"], ["c stage 1 1 2 1"], ["c stage"])),
+    # Orders: literals that come twice, are not in the set line, or are missing.
+    *(((3, [[1, 2], [-1, 2, 3], [-2, 3]]), ["c leank 1 pure", "c formula 3 3", "c keep 0", f"c set {line} 0", f"c order {order}0", "p cnf 3 0"])
+      for line in ("1 2 3", "1 3", "2 3") for order in ("3 2 1 ", "3 1 ", "3 2 ", "3 3 2 ", "3 -2 ", "1 3 ", "", "3 2 1 1 ", "2 3 ", "3 ")),
+    # Rounds: steps of another round, steps behind the empty one, steps that are not reached, tautologies.
+    *(square("general", *rounds) for rounds in (
+        STEPS, [*STEPS, "c round", "c step 7 0 1 0"], [*STEPS, "c round", "c step 7 0 6 0"], [*STEPS, "c round", "c step 7 0 5 1 1 0"],
+        [*STEPS, "c step 7 0 1 0"], [*STEPS, "c round"], STEPS[:2], STEPS[:1], STEPS[1:], [], ["c round", *STEPS],
+        ["c round", "c step 5 0 5 0"], ["c round", "c step 5 0 1 1 5 0"], ["c round", "c step 5 1 2 0 1 0", *STEPS[1:]],
+        ["c round", "c step 5 2 1 0 1 0"], ["c round", "c step 5 1 -1 0 1 2 4 0"], ["c round", "c step 5 1 -1 0 1 2 4 0", "c step 6 1 2 0 1 1 5 0"],
+        ["c round", "c step 5 2 -2 0 1 1 4 0", "c step 6 1 0 1 2 2 0", "c step 7 0 3 2 4 -1 6 0"],
+        ["c round", "c step 5 1 1 0 1 0"], ["c round", "c step 5 1 0 1 1"], ["c round", "c step 5 1 0 1 2 0"], ["c round", "c step 5 1 0"],
+        ["c round 0"], ["c round", "c step 6 0 1 0"])),
+    *(square("unfinished", *rounds, keep=[f"c learned {learned}"]) for learned in (0, 1, 2) for rounds in (
+        STEPS, STEPS[:2], STEPS[:1], [*STEPS, "c round"], [*STEPS, "c round", "c round"], [*STEPS, "c round", "c step 7 0 1 0"], [*STEPS, "c step 7 1 0 1 0"],
+        [*STEPS, "c round", "c step 7 0 1 0", "c round"], [], ["c round", "c step 5 1 -1 0 1 2 4 0"], ["c round", "c step 5 1 2 0 1 0"],
+        [*STEPS[:2], "c step 6 1 0 1 2 2 0"], [*STEPS[:2], "c step 6 1 0 5 0"], ["c round", "c step 5 2 -2 0 1 1 4 0"])),
+    # Answers and cores.
+    *((formula, lines) for formula in ((0, []), (1, []), (0, [[]]), (1, [[1]]), (1, [[1], [-1]]), (2, [[1, -1]])) for lines in (
+        ["s SATISFIABLE", "v 0"], ["s SATISFIABLE", "v 1 0"], ["s SATISFIABLE", "v -1 0"], ["s SATISFIABLE", "v 1 2 0"], ["s SATISFIABLE", "v 2 1 0"],
+        ["s SATISFIABLE", "v 1 1 0"], ["s SATISFIABLE", "v 1 -1 0"], ["s SATISFIABLE"], ["s UNSATISFIABLE", "v 0"], ["s UNSATISFIABLE", "c round", "c step 1 0 1 0"],
+        ["s UNSATISFIABLE", "c round", "c step 2 0 1 0"], ["s UNSATISFIABLE", "c round", "c step 3 0 1 1 2 0"], ["s UNSATISFIABLE", "c round", "c step 3 0 1 1 2 0", "c round"],
+        ["s UNSATISFIABLE", "c round"], ["s UNSATISFIABLE"], ["s UNKNOWN"], ["s SATISFIABLE ", "v 0"], ["s"], [], [""], ["c leank 1 mus"], ["c leank 2 mus"],
+        ["c leank 1 mus", "c formula 0 1", "c core 1 0", "c round", "c step 2 0 1 0", "c without 1 0", "p cnf 0 1", "0"],
+        ["c leank 1 mus", "c formula 0 1", "c core 0", "c round", "c step 2 0 1 0", "p cnf 0 0"],
+        ["c leank 1 mus", "c formula 1 2", "c core 1 2 0", "c round", "c step 3 0 1 1 2 0", "c without 1 -1 0", "c without 2 1 0", "p cnf 1 2", "1 0", "-1 0"],
+        ["c leank 1 mus", "c formula 1 2", "c core 1 2 0", "c round", "c step 3 0 1 1 2 0", "c without 1 -1 1 0", "c without 2 1 0", "p cnf 1 2", "1 0", "-1 0"],
+        ["c leank 1 mus", "c formula 1 2", "c core 1 2 0", "c round", "c step 3 0 1 1 2 0", "c without 1 1 -1 0", "c without 2 1 0", "p cnf 1 2", "1 0", "-1 0"],
+        ["c leank 1 mus", "c formula 1 2", "c core 1 2 0", "c round", "c step 3 0 1 1 2 0", "c without 1 0", "c without 2 0", "p cnf 1 2", "1 0", "-1 0"],
+        ["c leank 1 mus", "c formula 1 2", "c core 1 2 0", "c round", "c step 3 0 1 1 2 0", "c without 1 0", "c without 1 0", "p cnf 1 2", "1 0", "-1 0"],
+        ["c leank 1 mus", "c formula 1 2", "c core 1 2 0", "c round", "c step 3 0 1 1 2 0", "c without 1 0", "p cnf 1 2", "1 0", "-1 0"],
+        ["c leank 1 mus", "c formula 1 2", "c core 1 2 0", "c round", "c step 3 1 0 1 0", "p cnf 1 2", "1 0", "-1 0"])),
+    *(core("c core 1 2 3 4 0", *STEPS, *lines, "p cnf 2 4", *SQUARE_LINES)
+      for lines in (["c without 1 -1 -2 0", "c without 2 -1 2 0", "c without 3 1 -2 0", "c without 4 1 2 0"],
+                    ["c without 1 -1 -2 0", "c without 2 -1 0", "c without 3 1 -2 0", "c without 4 1 2 0"],
+                    ["c without 2 -1 2 0", "c without 1 -1 -2 0", "c without 3 1 -2 0", "c without 4 1 2 0"],
+                    ["c without 1 -2 -1 0", "c without 2 -1 2 0", "c without 3 1 -2 0", "c without 4 1 2 0"])),
+    core("c core 1 2 3 0", *STEPS, "c without 1 0", "c without 2 0", "c without 3 0", "p cnf 2 3", *SQUARE_LINES[:3]),
+]
+
+FORMULAS = ["", "\n", "p", "p cnf 0 0", "p cnf 0 0\n", "p cnf 00 00\n", "p cnf 0 1\n", "p cnf 0 1\n0", "p cnf 0 1\n0\n", "p cnf 0 0\n0\n",
+            "p cnf 1 1\n-01 0\n", "p cnf 1 1\n-0 0\n", "p cnf 1 1\n-00 0\n", "p cnf 1 1\n-001 0\n", "p cnf 1 1\n001 000\n", "p cnf 1 1\n+1 0\n",
+            "p cnf 1 1\n1\n", "p cnf 1 1\n1", "p cnf 1 1\n1 % 0\n", "p cnf 1 1\n1\n%\n", "p cnf 1 1\n% 0\n", "p cnf 1 2\n1 0\n1\n%", "p cnf 1 2\n1 0\n%\n1 0\n",
+            "% p cnf 0 0\n", "c p cnf 0 0\n", "cp cnf 0 0\np cnf 0 0\n", "x\n", "1 0\n", "p  cnf\t1\r1\r\n1 0\r\n", " p cnf 1 1\n 1 0\n", "p cnf 1 1 \n1 0", "pcnf 1 1\n1 0\n",
+            "p cnf 1\n1 0\n", "p cnf 1 1 1\n1 0\n", "p dnf 1 1\n1 0\n", "p cnf -1 1\n", "p cnf 1 -1\n", "p cnf -0 0\n", "p cnf x 0\n", "p cnf 1000000 0\n", "p cnf 1000001 0\n",
+            "p cnf 0 4000001\n", "p cnf 0 4000000\n", "p cnf 99999999999999999999999999 x\n", "p cnf 99999999999999999999999999 0\n", "p cnf 1 1\np cnf 1 1\n", "p cnf 1 1\n1 p 0\n",
+            "p cnf 1 1\n1\npx\n", "p cnf 1 1\n1 0 1\n", "p cnf 1 1\n1 0 2\n", "p cnf 1 1\n1 0 x\n", "p cnf 1 1\n2 0\n", "p cnf 1 1\n-2 0\n", "p cnf 1 1\n99999999999999999999999999999999999999999999999 0\n",
+            "p cnf 1 1\n1 1 1 -1 1 0\n", "p cnf 1 1\n1 c\n0\n", "p cnf 1 1\n1 \nc 0 x\n0\n", "p cnf 1 1\n1\x0b0\n", "p cnf 1 1\n1\x000\n", "p cnf 1 1\n--1 0\n", "p cnf 1 1\n- 1 0\n", "p cnf 1 1\n1- 0\n",
+            "p cnf 1 0\nx", "p cnf 1 0\n0", "p cnf 1 0\n%", "p cnf 1 1\n\n\n", "p cnf 1 1\n\n\n1", "p cnf 1 1\n1 0\nc", "p cnf 1 1\n1 0\n\xb9\n", "p cnf 1 1\n\xb2 0\n", "p cnf 1 1\n1 0\np", "p cnf 1 1\nx\np"]
+
+
+def judge_corners(both):
+    for (n, clauses), lines in CORNERS:
+        for command in ("check", "verify"):
+            both.judge(command, formula_text(n, clauses), joined(lines), "corners")
+    # (a document of the formula that is empty: what is told is the fault of the formula, or its other size)
+    for text in FORMULAS:
+        both.judge("verify", text.encode("latin-1"), b"s SATISFIABLE\nv 1 0\n", "formulas")
+        both.judge("check", text.encode("latin-1"), b"c leank 1 general\nc formula 1 1\nc keep 0\nc set 1 0\np cnf 1 0\n", "formulas")
+
+
+# ---------------------------------------------------------------------------------------------------------------------
 # Drawn formulas
 
 def drawn_formula(draw):
@@ -213,9 +332,15 @@ def is_number(word):
 def forge(draw, text, formula):
     """The text with a drawn change."""
     lines = text.decode("latin-1").split("\n")
-    change = draw.choice([number_changed] * 8 + [word_changed] * 3 + [line_changed] * 5 + [kept_changed] * 2
-                         + [literal_flipped] * 2 + [rounds_changed] * 4 + [bytes_changed] + [all_multiplied])
+    change = draw.choice([number_changed] * 3 + [word_changed] * 2 + [line_changed] * 2 + [bytes_changed]
+                         + [kept_changed] * 2 + [literal_flipped] * 3 + [protected_changed] * 2 + [class_changed] * 10
+                         + [rounds_changed] * 4 + [all_multiplied] + [size_changed])
     return change(draw, lines, formula).encode("latin-1", "replace")
+
+
+def forge_formula(draw, text, formula):
+    change = draw.choice([number_changed, word_changed, line_changed, bytes_changed, sign_changed, sign_changed])
+    return change(draw, text.decode("latin-1").split("\n"), formula).encode("latin-1", "replace")
 
 
 def number_changed(draw, lines, formula):
@@ -336,13 +461,15 @@ def rounds_changed(draw, lines, formula):
     elif change == 3:
         lines.insert(draw.choice(steps), "c round")
     else:
-        # A weaker clause is stated, or a tautology, by a chain without turns.
-        i = draw.choice(steps)
-        clause = sorted(set(draw.choice(formula[1] or [[]])), key=lambda l: (abs(l), l < 0))
-        chain = [draw.randrange(1, first + 3)]
-        for _ in range(draw.randrange(2)):
-            chain += [draw.choice(clause or [1]), draw.randrange(1, first + 3)]
-        lines.insert(i, " ".join(map(str, ["c step", 0, *clause, 0, *chain, 0])))
+        # A further step states a clause of the formula, or a resolvent of two, which may be a tautology.
+        p, q = (draw.randrange(1, len(formula[1]) + 1) for _ in range(2))
+        clause, other = set(formula[1][p - 1]), set(formula[1][q - 1])
+        chain = [p]
+        for literal in [l for l in clause if -l in other][:1]:
+            chain += [literal, q]
+            clause = clause - {literal} | other - {-literal}
+        clause = sorted(clause, key=lambda l: (abs(l), l < 0))
+        lines.insert(draw.choice(steps), " ".join(map(str, ["c step", 0, *clause, 0, *chain, 0])))
     # The numbers of steps in chains follow, where the step is still there.
     new_number, number = {}, first
     for i, line in enumerate(lines):
@@ -359,6 +486,102 @@ def rounds_changed(draw, lines, formula):
     if draw.random() < 0.7:
         learned = sum(1 for line in lines if re.match("c step [0-9]+ [^0]", line))
         lines = [f"c learned {learned}" if line.startswith("c learned ") else line for line in lines]
+    return "\n".join(lines)
+
+
+def protected_changed(draw, lines, formula):
+    """Other variables are protected, or none are, with the version that has them."""
+    if not re.match("c leank [12] ", lines[0]) or len(lines) < 3:
+        return number_changed(draw, lines, formula)
+    _, _, version, name = lines[0].split(" ", 3)
+    rest = lines[2:] if version == "1" else lines[3:]
+    chosen = sorted({draw.randrange(1, formula[0] + 1) for _ in range(draw.randrange(3))}) if formula[0] else []
+    if version == "2" and draw.random() < 0.3:
+        return "\n".join([f"c leank 1 {name}", lines[1], *rest])
+    return "\n".join([f"c leank 2 {name}", lines[1], " ".join(map(str, ["c protect", *chosen, 0])), *rest])
+
+
+def size_changed(draw, lines, formula):
+    """The number of variables or clauses is another one, in both lines that have it."""
+    change = draw.randrange(3)
+    for i, line in enumerate(lines):
+        words = line.split(" ")
+        if words[:2] in (["c", "formula"], ["p", "cnf"]) and len(words) == 4 and is_number(words[2]) and is_number(words[3]):
+            if change < 2:
+                words[2] = str(int(words[2]) + [1, -1][change])
+            elif words[1] == "formula":
+                words[3] = str(int(words[3]) + 1)
+            lines[i] = " ".join(words)
+    return "\n".join(lines)
+
+
+def sign_changed(draw, lines, formula):
+    """A literal of a clause line is its complement."""
+    places = [(i, j) for i, line in enumerate(lines) if kind_of_line(line) == "clause"
+              for j, word in enumerate(line.split(" ")) if is_number(word) and int(word)]
+    if places:
+        i, j = draw.choice(places)
+        words = lines[i].split(" ")
+        words[j] = str(-int(words[j]))
+        lines[i] = " ".join(words)
+    return "\n".join(lines)
+
+
+CLASS_LINES = ["c order", "c pair", "c own", "c row", "c stage", "c dual", "c unit", "c step", "c without"]
+
+
+def class_changed(draw, lines, formula):
+    """A line of the class is left out, doubled for another variable or position, or has another number in its range."""
+    n, m = formula[0], len(formula[1])
+    places = [i for i, line in enumerate(lines) if kind_of_line(line) in CLASS_LINES and len(line.split(" ")) > 2]
+    if not places or n * m == 0:
+        return number_changed(draw, lines, formula)
+    kind = draw.choice(sorted({kind_of_line(lines[i]) for i in places}))
+    i = draw.choice([i for i in places if kind_of_line(lines[i]) == kind])
+    words = lines[i].split(" ")
+    change = draw.random()
+    if change < 0.15:
+        lines.pop(i)
+        return "\n".join(lines)
+    literal = str(draw.choice([1, -1]) * draw.randrange(1, n + 1))
+    small = str(draw.choice([-2, -1, 1, 1, 2, 3, 5]))
+    position, variable = str(draw.randrange(1, m + 1)), str(draw.randrange(1, n + 1))
+    if change < 0.3 and kind in ("c pair", "c own", "c row", "c dual", "c unit"):
+        # The line once more, for a number that has none; between those below and above it.
+        new = draw.randrange(1, (m if kind in ("c own", "c dual") else n) + 1)
+        others = {i: int(line.split(" ")[2]) for i, line in enumerate(lines) if kind_of_line(line) == kind and is_number(line.split(" ")[2])}
+        at = min((i for i, number in others.items() if number > new), default=max(others) + 1)
+        return "\n".join([*lines[:at], " ".join([*words[:2], str(new), *words[3:]]), *lines[at:]])
+    if change < 0.4 and kind == "c stage":
+        k = draw.choice([i for i in places if kind_of_line(lines[i]) == kind])
+        lines[i], lines[k] = lines[k], lines[i]
+        return "\n".join(lines)
+    if kind == "c order":
+        j = draw.randrange(2, len(words))
+        if change < 0.6:
+            words.insert(j, literal)
+        else:
+            k = draw.randrange(2, len(words))
+            words[j], words[k] = words[k], words[j]
+    elif kind == "c without":
+        words = [*words[:3], *(str(v if draw.random() < 0.5 else -v) for v in range(1, n + 1) if draw.random() < 0.8), "0"]
+    elif kind == "c step":
+        j = draw.randrange(3, len(words))
+        turned = draw.choice([literal, position, str(m + draw.randrange(1, 4)), str(-int(words[j])) if is_number(words[j]) else "0"])
+        if draw.random() < 0.5 and words[j] != "0":
+            words[j] = turned
+        elif draw.random() < 0.5:
+            del words[len(words) - 3:len(words) - 1]
+        else:
+            words[-1:] = [literal, position, "0"]
+    else:
+        ranges = {"pair": [position] * 2, "own": [variable], "row": [position, position, str(draw.randrange(4))],
+                  "stage": [variable] + [small] * 3, "dual": [draw.choice([small, "0"])],
+                  "unit": [small, position, small, position, small]}[words[1]]
+        begin = 2 if kind == "c stage" else 3
+        j = draw.randrange(begin, len(words) - (kind in ("c stage", "c unit")))
+        words[j] = ranges[min(j - begin, len(ranges) - 1)]
+    lines[i] = " ".join(words)
     return "\n".join(lines)
 
 
@@ -424,7 +647,7 @@ def a_round(both, draw):
                 forged = forge(draw, forged, (n, clauses))
             both.judge(command, formula, forged, "forged")
         both.judge({"check": "verify", "verify": "check"}[command], formula, written, "for the other command")
-        other = forge(draw, formula, (n, clauses))
+        other = forge_formula(draw, formula, (n, clauses))
         both.judge(command, other, written, "for a forged formula")
 
 
@@ -439,6 +662,7 @@ def main():
         both = Both(given.leank, room)
         try:
             print("{} worked texts and {} examples of the page".format(*judge_page(both, given.every)))
+            judge_corners(both)
             for number in range(given.rounds):
                 a_round(both, random.Random(f"{given.seed} {number}"))
         except Difference as difference:
