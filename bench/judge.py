@@ -73,7 +73,7 @@ def read_formula(text):
         return formula
     except FormulaFault as fault:
         place, reason = fault.args
-        if place >= MOST_BYTES:
+        if len(text) > MOST_BYTES <= place:
             place, reason = MOST_BYTES, "too long"
         raise Fault("formula", text.count(b"\n", 0, place) + 1, reason) from None
 
@@ -82,8 +82,10 @@ def parse_formula(text):
     header, clauses, clause, literals = None, [], [], 0
     begin, end = 0, len(text)
     for line in text.split(b"\n"):
+        # Each word with its first and its last byte.
         words = [(word.group(), begin + word.start(), begin + word.end() - 1) for word in re.finditer(rb"[^ \t\r]+", line)]
         begin += len(line) + 1
+        last_of_line = min(begin, len(text)) - 1
         if not words or words[0][0].startswith(b"c"):
             continue
         first, first_byte, _ = words[0]
@@ -95,9 +97,9 @@ def parse_formula(text):
                 raise FormulaFault(first_byte, "no header")
             header = [decimal(word) for word, _, _ in words[2:]]
             if [word for word, _, _ in words[:2]] != [b"p", b"cnf"] or len(header) != 2 or None in header or min(header) < 0:
-                raise FormulaFault(begin - 1, "bad header")
+                raise FormulaFault(last_of_line, "bad header")
             if header[0] > MOST_VARIABLES or header[1] > MOST_CLAUSES:
-                raise FormulaFault(begin - 1, "past a limit")
+                raise FormulaFault(last_of_line, "past a limit")
             continue
         if first.startswith(b"p"):
             raise FormulaFault(first_byte, "second header")

@@ -19,12 +19,13 @@ import sys
 import tempfile
 from collections import Counter
 
+import corners
 import judge
 from formulas import drawn_clause, pigeons
 
 PAGE = os.path.join(os.path.dirname(os.path.abspath(__file__)), "..", "docs", "FORMAT.md")
 FORGED_EACH = 8
-CLASSES = ["pure", "matching", "linear", "general"]
+CLASSES = corners.CLASSES
 NUMBERS = [0, 1, -1, 2, -2, 3, 2**32 - 1, 2**32, 2**63 - 1, 2**63, 2**64, 2**127 - 1, 2**127, -(2**127 - 1), -(2**127),
            1_000_000, 1_000_001, 4_000_000, 4_000_001]
 WORDS = [*CLASSES, "unfinished", "mus", "", "+1", "01", "-0", "00", "x", "c", "p", "cnf", "0", "\t1", "1\r", "1_0", "\u00b2", "%", "--1", "1.0", "9" * 45]
@@ -155,118 +156,12 @@ def joined(lines):
 # ---------------------------------------------------------------------------------------------------------------------
 # Corners of the page
 
-# Formulas, and the lines of texts that are judged as documents and as answers; a line in brackets is there and is not.
-SQUARE = (2, [[1, 2], [1, -2], [-1, 2], [-1, -2]])
-KEPT = ["c keep 1 2 3 4 0", "c set 0"]
-SQUARE_LINES = ["1 2 0", "1 -2 0", "-1 2 0", "-1 -2 0"]
-BIG = str(2**127 - 1)
-
-
-def square(name, *lines, version=1, keep=KEPT):
-    return SQUARE, [f"c leank {version} {name}", "c formula 2 4", *keep, *lines, "p cnf 2 4", *SQUARE_LINES]
-
-
-def empty(name, n, *lines, m=0, version=1):
-    return (n, [[]] * m), [f"c leank {version} {name}", f"c formula {n} {m}", *lines, f"p cnf {n} 0"]
-
-
-def core(*lines):
-    return SQUARE, ["c leank 1 mus", "c formula 2 4", *lines]
-
-
-STEPS = ["c round", "c step 5 1 0 1 2 2 0", "c step 6 0 3 2 4 -1 5 0"]
-CORNERS = [
-    *(empty(name, n, "c keep 0", "c set 0", *(["c order 0"] if name == "pure" else []))
-      for name in CLASSES for n in (0, 1, 1_000_000, 1_000_001)),
-    *(empty("matching", 0, "c keep 0", "c set 0", m=m) for m in (1, 2, 4_000_000, 4_000_001) if m < 3),
-    *(((0, []), ["c leank 1 matching", f"c formula 0 {m}", "c keep 0", "c set 0", "p cnf 0 0"]) for m in (4_000_000, 4_000_001)),
-    empty("general", 1, "c keep 0", "c set 0", "c round"),
-    empty("general", 1, "c keep 0", "c set 0", "c round", "c step 1 0 1 0"),
-    empty("general", 1, "c keep 0", "c set 0", "c step 1 0 1 0"),
-    *(empty("unfinished", 1, f"c learned {learned}", "c round", *more)
-      for learned in (0, 1, 2**63 - 1, 2**63) for more in ([], ["c round"], ["c step 1 0 1 0"])),
-    empty("unfinished", 1, "c learned 0"),
-    *(empty(name, 2, *lines, "c keep 0", "c set 0", version=version)
-      for name in ("matching", "general") for version in (0, 1, 2, 3) for lines in ([], ["c protect 0"], ["c protect 1 2 0"], ["c protect 2 1 0"], ["c protect 3 0"])),
-    # Rows: own positions that come twice, and escapes to them.
-    *(square("matching", f"c row 1 {m} {e} {r}", f"c row 2 {k} {f} {q}")
-      for m, e, r, k, f, q in [(1, 2, 0, 1, 2, 0), (1, 1, 1, 2, 3, 0), (1, 2, 1, 2, 3, 0), (1, 2, 0, 2, 3, 1), (1, 2, 1, 2, 1, 0),
-                               (1, 3, 2**32 - 1, 2, 3, 2**32), (1, 3, 2**32 - 1, 2, 4, 0), (4, 3, 0, 2, 4, 1), (2, 2, 0, 2, 2, 0)]),
-    *(((3, [[1, 2, 3]] * 6), ["c leank 1 matching", "c formula 3 6", "c keep 1 2 3 4 5 6 0", "c set 0", *rows, "p cnf 3 6",
-                              *["1 2 3 0"] * 6])
-      for ranks in ((1, 2, 9), (9, 2, 1), (1, 2, 1), (2, 2, 2), (1, 1, 0)) for rows in [
-          [f"c row 1 5 1 {ranks[0]}", f"c row 2 4 5 {ranks[1]}", f"c row 3 5 6 {ranks[2]}"],
-          [f"c row 1 5 6 {ranks[0]}", f"c row 2 4 5 {ranks[1]}", f"c row 3 3 5 {ranks[2]}"]]),
-    # Owners: a variable that comes twice, a false literal, an empty clause.
-    *(((2, [[1, 2], [1, -2], [2]]), ["c leank 1 matching", "c formula 2 3", "c keep 0", "c set 1 2 0", *own, "p cnf 2 0"])
-      for own in (["c own 1 1", "c own 2 1", "c own 3 2"], ["c own 1 2", "c own 2 1", "c own 3 2"], ["c own 1 1", "c own 2 2", "c own 3 2"],
-                  ["c own 1 1", "c own 3 2"])),
-    # Sums that are wider than the numbers, and numbers at their limits.
-    *(square("linear", f"c dual 1 {y}", f"c dual 2 {y}", f"c dual 3 {y}", f"c dual 4 {z}", *units)
-      for y, z in ((BIG, BIG), (BIG, "1"), ("1", BIG), (str(2**127), "1"), ("-" + BIG, "1"), ("1", "-" + str(2**127)))
-      for units in (["c unit 1 2 1 1 2 1 0", "c unit 2 2 1 1 2 -1 0"], [f"c unit 1 2 1 {BIG} 2 {BIG} 3 {BIG} 4 {BIG} 0", "c unit 2 1 0"])),
-    square("linear", "c dual 1 1", "c dual 2 1", "c dual 3 1", "c dual 4 1", "c unit 1 0 0", "c unit 2 0 0"),
-    square("linear", "c dual 1 1", "c dual 2 1", "c dual 3 1", "c dual 4 1", f"c unit 1 {BIG} 1 {BIG} 2 {BIG} 3 {BIG} 4 -{BIG} 0", "c unit 2 1 0"),
-    *(((2, [[1, -1], [1, 2], [2, -1]]), ["c leank 1 linear", "c formula 2 3", "c keep 0", "c set 1 2 0", *stages, "p cnf 2 0"])
-      for stages in (["c stage 1 1 2 1 0"], ["c stage 1 1 0", "c stage 2 1 0"], ["c stage 0", "c stage 2 1 0", "c stage 1 1 0"],
-                     [f"c stage 1 {BIG} 2 {BIG} 0"], ["c stage 2 1 0", "c stage 1 -1 0"], [f"c stage 1 {BIG} 2 1 0"],
-                     ["c stage 1 0 0"], ["c stage 2 1 1 1 0"], ["c stage 1 1 1 1 0"], ["c stage 1 1 2 1"], ["c stage"])),
-    # Orders: literals that come twice, are not in the set line, or are missing.
-    *(((3, [[1, 2], [-1, 2, 3], [-2, 3]]), ["c leank 1 pure", "c formula 3 3", "c keep 0", f"c set {line} 0", f"c order {order}0", "p cnf 3 0"])
-      for line in ("1 2 3", "1 3", "2 3") for order in ("3 2 1 ", "3 1 ", "3 2 ", "3 3 2 ", "3 -2 ", "1 3 ", "", "3 2 1 1 ", "2 3 ", "3 ")),
-    # Rounds: steps of another round, steps behind the empty one, steps that are not reached, tautologies.
-    *(square("general", *rounds) for rounds in (
-        STEPS, [*STEPS, "c round", "c step 7 0 1 0"], [*STEPS, "c round", "c step 7 0 6 0"], [*STEPS, "c round", "c step 7 0 5 1 1 0"],
-        [*STEPS, "c step 7 0 1 0"], [*STEPS, "c round"], STEPS[:2], STEPS[:1], STEPS[1:], [], ["c round", *STEPS],
-        ["c round", "c step 5 0 5 0"], ["c round", "c step 5 0 1 1 5 0"], ["c round", "c step 5 1 2 0 1 0", *STEPS[1:]],
-        ["c round", "c step 5 2 1 0 1 0"], ["c round", "c step 5 1 -1 0 1 2 4 0"], ["c round", "c step 5 1 -1 0 1 2 4 0", "c step 6 1 2 0 1 1 5 0"],
-        ["c round", "c step 5 2 -2 0 1 1 4 0", "c step 6 1 0 1 2 2 0", "c step 7 0 3 2 4 -1 6 0"],
-        ["c round", "c step 5 1 1 0 1 0"], ["c round", "c step 5 1 0 1 1"], ["c round", "c step 5 1 0 1 2 0"], ["c round", "c step 5 1 0"],
-        ["c round 0"], ["c round", "c step 6 0 1 0"])),
-    *(square("unfinished", *rounds, keep=[f"c learned {learned}"]) for learned in (0, 1, 2) for rounds in (
-        STEPS, STEPS[:2], STEPS[:1], [*STEPS, "c round"], [*STEPS, "c round", "c round"], [*STEPS, "c round", "c step 7 0 1 0"], [*STEPS, "c step 7 1 0 1 0"],
-        [*STEPS, "c round", "c step 7 0 1 0", "c round"], [], ["c round", "c step 5 1 -1 0 1 2 4 0"], ["c round", "c step 5 1 2 0 1 0"],
-        [*STEPS[:2], "c step 6 1 0 1 2 2 0"], [*STEPS[:2], "c step 6 1 0 5 0"], ["c round", "c step 5 2 -2 0 1 1 4 0"])),
-    # Answers and cores.
-    *((formula, lines) for formula in ((0, []), (1, []), (0, [[]]), (1, [[1]]), (1, [[1], [-1]]), (2, [[1, -1]])) for lines in (
-        ["s SATISFIABLE", "v 0"], ["s SATISFIABLE", "v 1 0"], ["s SATISFIABLE", "v -1 0"], ["s SATISFIABLE", "v 1 2 0"], ["s SATISFIABLE", "v 2 1 0"],
-        ["s SATISFIABLE", "v 1 1 0"], ["s SATISFIABLE", "v 1 -1 0"], ["s SATISFIABLE"], ["s UNSATISFIABLE", "v 0"], ["s UNSATISFIABLE", "c round", "c step 1 0 1 0"],
-        ["s UNSATISFIABLE", "c round", "c step 2 0 1 0"], ["s UNSATISFIABLE", "c round", "c step 3 0 1 1 2 0"], ["s UNSATISFIABLE", "c round", "c step 3 0 1 1 2 0", "c round"],
-        ["s UNSATISFIABLE", "c round"], ["s UNSATISFIABLE"], ["s UNKNOWN"], ["s SATISFIABLE ", "v 0"], ["s"], [], [""], ["c leank 1 mus"], ["c leank 2 mus"],
-        ["c leank 1 mus", "c formula 0 1", "c core 1 0", "c round", "c step 2 0 1 0", "c without 1 0", "p cnf 0 1", "0"],
-        ["c leank 1 mus", "c formula 0 1", "c core 0", "c round", "c step 2 0 1 0", "p cnf 0 0"],
-        ["c leank 1 mus", "c formula 1 2", "c core 1 2 0", "c round", "c step 3 0 1 1 2 0", "c without 1 -1 0", "c without 2 1 0", "p cnf 1 2", "1 0", "-1 0"],
-        ["c leank 1 mus", "c formula 1 2", "c core 1 2 0", "c round", "c step 3 0 1 1 2 0", "c without 1 -1 1 0", "c without 2 1 0", "p cnf 1 2", "1 0", "-1 0"],
-        ["c leank 1 mus", "c formula 1 2", "c core 1 2 0", "c round", "c step 3 0 1 1 2 0", "c without 1 1 -1 0", "c without 2 1 0", "p cnf 1 2", "1 0", "-1 0"],
-        ["c leank 1 mus", "c formula 1 2", "c core 1 2 0", "c round", "c step 3 0 1 1 2 0", "c without 1 0", "c without 2 0", "p cnf 1 2", "1 0", "-1 0"],
-        ["c leank 1 mus", "c formula 1 2", "c core 1 2 0", "c round", "c step 3 0 1 1 2 0", "c without 1 0", "c without 1 0", "p cnf 1 2", "1 0", "-1 0"],
-        ["c leank 1 mus", "c formula 1 2", "c core 1 2 0", "c round", "c step 3 0 1 1 2 0", "c without 1 0", "p cnf 1 2", "1 0", "-1 0"],
-        ["c leank 1 mus", "c formula 1 2", "c core 1 2 0", "c round", "c step 3 1 0 1 0", "p cnf 1 2", "1 0", "-1 0"])),
-    *(core("c core 1 2 3 4 0", *STEPS, *lines, "p cnf 2 4", *SQUARE_LINES)
-      for lines in (["c without 1 -1 -2 0", "c without 2 -1 2 0", "c without 3 1 -2 0", "c without 4 1 2 0"],
-                    ["c without 1 -1 -2 0", "c without 2 -1 0", "c without 3 1 -2 0", "c without 4 1 2 0"],
-                    ["c without 2 -1 2 0", "c without 1 -1 -2 0", "c without 3 1 -2 0", "c without 4 1 2 0"],
-                    ["c without 1 -2 -1 0", "c without 2 -1 2 0", "c without 3 1 -2 0", "c without 4 1 2 0"])),
-    core("c core 1 2 3 0", *STEPS, "c without 1 0", "c without 2 0", "c without 3 0", "p cnf 2 3", *SQUARE_LINES[:3]),
-]
-
-FORMULAS = ["", "\n", "p", "p cnf 0 0", "p cnf 0 0\n", "p cnf 00 00\n", "p cnf 0 1\n", "p cnf 0 1\n0", "p cnf 0 1\n0\n", "p cnf 0 0\n0\n",
-            "p cnf 1 1\n-01 0\n", "p cnf 1 1\n-0 0\n", "p cnf 1 1\n-00 0\n", "p cnf 1 1\n-001 0\n", "p cnf 1 1\n001 000\n", "p cnf 1 1\n+1 0\n",
-            "p cnf 1 1\n1\n", "p cnf 1 1\n1", "p cnf 1 1\n1 % 0\n", "p cnf 1 1\n1\n%\n", "p cnf 1 1\n% 0\n", "p cnf 1 2\n1 0\n1\n%", "p cnf 1 2\n1 0\n%\n1 0\n",
-            "% p cnf 0 0\n", "c p cnf 0 0\n", "cp cnf 0 0\np cnf 0 0\n", "x\n", "1 0\n", "p  cnf\t1\r1\r\n1 0\r\n", " p cnf 1 1\n 1 0\n", "p cnf 1 1 \n1 0", "pcnf 1 1\n1 0\n",
-            "p cnf 1\n1 0\n", "p cnf 1 1 1\n1 0\n", "p dnf 1 1\n1 0\n", "p cnf -1 1\n", "p cnf 1 -1\n", "p cnf -0 0\n", "p cnf x 0\n", "p cnf 1000000 0\n", "p cnf 1000001 0\n",
-            "p cnf 0 4000001\n", "p cnf 0 4000000\n", "p cnf 99999999999999999999999999 x\n", "p cnf 99999999999999999999999999 0\n", "p cnf 1 1\np cnf 1 1\n", "p cnf 1 1\n1 p 0\n",
-            "p cnf 1 1\n1\npx\n", "p cnf 1 1\n1 0 1\n", "p cnf 1 1\n1 0 2\n", "p cnf 1 1\n1 0 x\n", "p cnf 1 1\n2 0\n", "p cnf 1 1\n-2 0\n", "p cnf 1 1\n99999999999999999999999999999999999999999999999 0\n",
-            "p cnf 1 1\n1 1 1 -1 1 0\n", "p cnf 1 1\n1 c\n0\n", "p cnf 1 1\n1 \nc 0 x\n0\n", "p cnf 1 1\n1\x0b0\n", "p cnf 1 1\n1\x000\n", "p cnf 1 1\n--1 0\n", "p cnf 1 1\n- 1 0\n", "p cnf 1 1\n1- 0\n",
-            "p cnf 1 0\nx", "p cnf 1 0\n0", "p cnf 1 0\n%", "p cnf 1 1\n\n\n", "p cnf 1 1\n\n\n1", "p cnf 1 1\n1 0\nc", "p cnf 1 1\n1 0\n\xb9\n", "p cnf 1 1\n\xb2 0\n", "p cnf 1 1\n1 0\np", "p cnf 1 1\nx\np"]
-
-
 def judge_corners(both):
-    for (n, clauses), lines in CORNERS:
+    for (n, clauses), lines in corners.TEXTS:
         for command in ("check", "verify"):
             both.judge(command, formula_text(n, clauses), joined(lines), "corners")
     # (a document of the formula that is empty: what is told is the fault of the formula, or its other size)
-    for text in FORMULAS:
+    for text in corners.FORMULAS:
         both.judge("verify", text.encode("latin-1"), b"s SATISFIABLE\nv 1 0\n", "formulas")
         both.judge("check", text.encode("latin-1"), b"c leank 1 general\nc formula 1 1\nc keep 0\nc set 1 0\np cnf 1 0\n", "formulas")
 
