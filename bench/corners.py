@@ -5,6 +5,7 @@ BIG = 2**127 - 1
 SQUARE = (2, [[1, 2], [1, -2], [-1, 2], [-1, -2]])
 SQUARE_LINES = ["1 2 0", "1 -2 0", "-1 2 0", "-1 -2 0"]
 STEPS = ["c round", "c step 5 1 0 1 2 2 0", "c step 6 0 3 2 4 -1 5 0"]
+EMPTY = ["c step 6 1 0 1 2 2 0", "c step 7 0 3 2 4 -1 6 0"]
 TAUTOLOGY = "c step 5 1 -1 0 1 2 4 0"
 
 
@@ -72,12 +73,33 @@ def weights():
     for units in (["1 0 0", "2 0 0"], [f"1 {BIG} {wide}", "2 1 0"], [f"1 {4 * BIG} {wide}", "2 1 0"]):
         yield square("linear", *(f"c dual {p} 1" for p in range(1, 5)), *("c unit " + unit for unit in units))
     for stages in (["1 1 2 1 0"], ["1 1 0", "2 1 0"], ["0", "2 1 0", "1 1 0"], [f"1 {BIG} 2 {BIG} 0"], ["2 1 0", "1 -1 0"],
-                   [f"1 {BIG} 2 1 0"], [f"1 {BIG + 1} 2 1 0"], ["1 0 0"], ["2 1 1 1 0"], ["1 1 1 1 0"], ["1 1 2 1"], [""]):
+                   [f"1 {BIG} 2 1 0"], [f"1 {BIG + 1} 2 1 0"], ["1 0 0"], ["2 1 1 1 0"], ["1 1 1 1 0"], ["1 1 2 1"], [""],
+                   ["1 1 2 1 0", "1 -1 0"], ["1 1 2 1 0", "2 -1 0", "1 -2 0"]):
         yield text("linear", 2, [[1, -1], [1, 2], [2, -1]], "c keep 0", "c set 1 2 0", *("c stage " + stage for stage in stages))
     # The shares of four clauses {1} add up to what no share may be.
     for d in (BIG, BIG + 1, -BIG):
         yield text("linear", 1, [[1]] * 4 + [[-1]] * 4, "c keep 1 2 3 4 5 6 7 8 0", "c set 0", *(f"c dual {p} {BIG}" for p in range(1, 9)),
                    f"c unit 1 {d} 1 {BIG} 2 {BIG} 3 {BIG} 4 {BIG} 5 {BIG} 6 {BIG} 7 {BIG} 0", kept=["1 0"] * 4 + ["-1 0"] * 4)
+
+
+def partly_kept():
+    """Lines that name a position which is not kept, where the clause has what it should have; and two faults at once."""
+    for pair in ("2 3 2", "2 1 2", "2 3 4"):
+        yield text("pure", 4, [[1, 2], [-2, 3], [2, -3], [-2, 4]], "c keep 2 3 0", "c set 1 4 0", "c order 4 1 0",
+                   f"c pair {pair}", "c pair 3 2 3", kept=["-2 3 0", "2 -3 0"])
+    n, clauses = 3, [*SQUARE[1], [1, 3]]
+    keep = ["c keep 1 2 3 4 0", "c set 3 0"]
+    for row in ("1 1 3 0", "1 5 3 0", "1 1 5 0"):
+        yield text("matching", n, clauses, *keep, "c own 5 3", f"c row {row}", "c row 2 2 3 0", kept=SQUARE_LINES)
+    yield text("matching", n, clauses, *keep, "c own 1 1", "c own 5 3", "c row 1 1 3 0", "c row 2 2 3 0", kept=SQUARE_LINES)
+    for unit in ("1 2 1 1 2 1 0", "1 1 5 1 0", "1 2 1 1 2 1 5 1 0", "1 3 1 1 2 1 5 1 0"):
+        for more in ([], ["c dual 5 1"]):
+            for stage in ("3 1 0", "3 -1 0", "1 -1 3 1 0"):
+                yield text("linear", n, clauses, *keep, f"c stage {stage}", *(f"c dual {p} 1" for p in range(1, 5)), *more,
+                           f"c unit {unit}", "c unit 2 2 1 1 2 -1 0", kept=SQUARE_LINES)
+    for stages in (["1 1 2 1 0"], [f"1 {BIG} 2 1 0"]):
+        for more in ([], ["c dual 1 1"], ["c unit 1 1 0"]):
+            yield text("linear", 2, [[1, -1], [1, 2], [2, -1]], "c keep 0", "c set 1 2 0", *("c stage " + stage for stage in stages), *more)
 
 
 def rounds():
@@ -88,13 +110,16 @@ def rounds():
                       ["c step 5 0 5 0"], ["c step 5 0 1 1 5 0"], ["c step 5 1 2 0 1 0", "c step 6 0 3 2 4 -1 5 0"], ["c step 5 2 1 0 1 0"],
                       [TAUTOLOGY], [TAUTOLOGY, "c step 6 1 2 0 1 1 5 0"], [TAUTOLOGY, "c step 6 1 2 0 5 1 5 2 5 0"], ["c step 6 0 1 0"],
                       [TAUTOLOGY, "c step 6 1 0 1 2 2 0", "c step 7 0 3 2 4 -1 6 0"], [TAUTOLOGY, "c step 6 1 0 1 2 2 0", "c step 7 0 3 2 4 -1 5 -1 6 0"],
-                      ["c step 5 1 1 0 1 0"], ["c step 5 1 0 1 1"], ["c step 5 1 0 1 2 0"], ["c step 5 1 0"], ["c step 5 1 0 1 2 2 0 0"]))):
+                      ["c step 5 1 2 0 1 1 1 0", *EMPTY], ["c step 5 1 2 0 1 2 1 0", *EMPTY], ["c step 5 2 0 1 1 1 0", *EMPTY], ["c step 5 1 1 0 1 0"], ["c step 5 1 0 1 1"], ["c step 5 1 0 1 2 0"], ["c step 5 1 0"], ["c step 5 1 0 1 2 2 0 0"]))):
         yield square("general", *lines)
     for learned in (0, 1, 2):
         for lines in (STEPS, STEPS[:2], STEPS[:1], [*STEPS, "c round"], [*STEPS, "c round", "c round"], [*STEPS, "c round", "c step 7 0 1 0"],
                       [*STEPS, "c step 7 1 0 1 0"], [*STEPS, "c round", "c step 7 0 1 0", "c round"], [], ["c round", TAUTOLOGY],
                       ["c round", "c step 5 1 2 0 1 0"], [*STEPS[:2], "c step 6 1 0 1 2 2 0"], [*STEPS[:2], "c step 6 1 0 5 0"]):
             yield square("unfinished", f"c learned {learned}", *lines)
+    for protect in ("0", "1 0", "2 0", "1 2 0"):
+        for lines in (["c step 5 2 0 1 0"], ["c step 5 1 0 1 0"], ["c step 5 1 0 1 2 2 0"], ["c step 5 1 0 1 2 2 0", "c step 6 1 0 5 0"], ["c step 5 0 1 0", "c round"]):
+            yield text("unfinished", *SQUARE, f"c protect {protect}", "c learned 1", "c round", *lines, version=2, kept=SQUARE_LINES)
 
 
 def answers():
@@ -126,7 +151,7 @@ def cores():
     yield SQUARE, [*core, "c core 0", *STEPS, "p cnf 2 0"]
 
 
-TEXTS = [found for corners in (empties, orders, owners, rows, weights, rounds, answers, cores) for found in corners()]
+TEXTS = [found for corners in (empties, orders, owners, rows, weights, partly_kept, rounds, answers, cores) for found in corners()]
 
 HEADER = "p cnf 1 1\n"
 FORMULAS = [

@@ -194,6 +194,11 @@ def drawn_formula(draw):
             clauses += [[a, b], [a, -b], [-a, b], [-a, -b]]
     if draw.random() < 0.15 and clauses:
         clauses.append(list(draw.choice(clauses)))
+    if draw.random() < 0.4:
+        # Further clauses share variables with the others, and have one of their own: they are in no kernel.
+        for _ in range(draw.randrange(1, 5)):
+            n += 1
+            clauses.append([*(draw.choice(draw.choice(clauses) or [n]) for _ in range(draw.randrange(3)) if clauses), draw.choice([n, -n])])
     if draw.random() < 0.1 and n:
         clauses.append([1, draw.randrange(1, n + 1), -1])
     if draw.random() < 0.05:
