@@ -580,7 +580,10 @@ def report(counts):
         for name in dict.fromkeys(key[1] for key in sorted(counts) if key[0] == origin):
             row = {key[2]: count for key, count in sorted(counts.items()) if key[:2] == (origin, name)}
             print(f"    {name}: " + ", ".join(f"{kind} {count}" for kind, count in row.items()))
-    print("all: " + str(sum(count for key, count in counts.items() if key[0] != "nothing written")))
+    judged = {key: count for key, count in counts.items() if key[0] != "nothing written"}
+    print(f"all: {sum(judged.values())}")
+    for kind in sorted({key[2] for key in judged}):
+        print(f"    {kind}: {sum(count for key, count in judged.items() if key[2] == kind)}")
 
 
 if __name__ == "__main__":
