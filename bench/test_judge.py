@@ -184,6 +184,10 @@ def drawn_formula(draw):
         draw.shuffle(clauses)
         if draw.random() < 0.4:
             clauses.pop()
+    elif kind == 3 and draw.random() < 0.5:
+        # (mus refutes most of these with a few learned clauses, and then may not decide on fewer of the clauses)
+        n = draw.randrange(8, 13)
+        clauses = [drawn_clause(draw, range(1, n + 1), 3) for _ in range(int(6.5 * n))]
     else:
         n = draw.randrange(2, 9)
         width = draw.choice([2, 2, 3, 3])
@@ -520,6 +524,7 @@ def texts_of(both, draw, path, n):
     yield "check", both.run("reduce", "general", path, "--conflicts", str(draw.choice([1, 1, 2, 3, 4])))
     yield "verify", both.run("solve", path, *budget)
     yield "verify", both.run("mus", path, *budget)
+    yield "verify", both.run("mus", path, "--conflicts", str(draw.choice([1, 3, 4, 5])))
 
 
 def a_round(both, draw):
