@@ -20,7 +20,7 @@
 #   ti is in F     F contains C(i-1) already. The turn gives no hint.
 #   -ti is in F    F contains Di. This is the last hint, and we stop.
 #   neither        Di is a unit hint: -ti is unset, and the other literals are in F. So ti comes to F.
-# Behind the turn F contains C(i-1), and still no two complementary literals. In the end it contains C0, the last hint.
+# After that F contains C(i-1), and still no two complementary literals. In the end it contains C0, the last hint.
 #
 # Tautologies. The last hint lies in F, and a unit hint in F and -ti, where ti is not in F. So no hint has two complementary
 # literals. A step with two such literals gets no line, since no line needs it. In all others Cn has no two at first, as F
