@@ -1,7 +1,7 @@
 //! What `edits` answers.
 //!
-//! The matching of the live clauses stays maximum from edit to edit by at most one search for each, so that what an
-//! edit costs besides the kernel that is written is this search. A counter shows how many searches were made with it;
+//! The matching of the live clauses stays maximum from edit to edit by at most one counted search for each, so that what
+//! an edit costs besides the kernel that is written is this search. The counter shows the searches that were made with it;
 //! its ledger is unknown to the functions that search.
 ghost use Rattle.std.specs.Prelude.{◌≡◌, ◌+◌, ◌≤◌, None, length, IfOk, OnOk, IsTrue};
 ghost use Rattle.edit_text.specs.LiveClauses.{live_of};
@@ -38,7 +38,7 @@ pub fn answer(alloc: Global, read: &Edited, options: &Options<'_>) -> Result<End
 }
 
 /// The lines of the matching kernels of what is live: as it stands, and behind each of these edits. For each edit at
-/// most one search is made.
+/// most one search is counted.
 fn text_of<L>(
     alloc: Global,
     live: &mut Live,
@@ -58,7 +58,7 @@ fn text_of<L>(
     Ok(text)
 }
 
-/// Makes an edit that can be made, with at most one search.
+/// Makes an edit that can be made, with at most one counted search.
 fn make<L>(
     alloc: Global,
     live: &mut Live,

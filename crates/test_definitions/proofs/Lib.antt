@@ -5,6 +5,8 @@ pub mod DimacsTexts
 pub mod DocumentTexts
 pub mod TextFronts
 pub mod Autarkies
+pub mod WorkedClasses
+pub mod WorkedKernels
 pub mod Verdicts
 pub mod SingleSteps
 pub mod LinearRuns
