@@ -1,8 +1,7 @@
 -- {1}, {1} and {-1}: three clauses and one variable, so the greatest deficiency is 2.
-use Rattle.std.specs.Prelude.{◌≡◌, ◌≤◌, ◌+◌, ◌||◌, ℕ, zero, suc, Bool, true, false, List, [], ◌∷◌, length, IsTrue, refl}
+use Rattle.std.specs.Prelude.{◌≡◌, ◌≤◌, ◌+◌, ℕ, zero, suc, Bool, List, [], ◌∷◌, length, IsTrue, refl}
 use Rattle.std.proofs.Common.{arith}
-use Rattle.lk_model.specs.Formulas.Formula.{clause_at, variables_at, variable_occurs}
-use Rattle.lk_model.specs.Formulas.Literal.{mentions}
+use Rattle.lk_model.specs.Formulas.Formula.{variables_at, variable_occurs}
 use Rattle.lk_model.specs.Formulas.Lean.{are_positions}
 use Rattle.lk_model.proofs.Rising.{rising_count}
 use Rattle.deficiency.specs.Deficiency.{HasDeficiency, IsMaxDeficiency}

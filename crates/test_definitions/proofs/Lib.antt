@@ -7,6 +7,7 @@ pub mod TextFronts
 pub mod Autarkies
 pub mod WorkedClasses
 pub mod WorkedKernels
+pub mod GreatestDeficiency
 pub mod Verdicts
 pub mod SingleSteps
 pub mod LinearRuns

@@ -1,12 +1,12 @@
 -- For each class an assignment that is an autarky of it and one that is not.
-use Rattle.std.specs.Prelude.{◌≡◌, ◌↔◌, ⊤, ◌==◌, ◌&&◌, ℕ, zero, suc, Bool, true, false, not, unwrap_or, if◌then◌else◌, ◌<◌, ◌+◌, List, [], ◌∷◌, ℤ, pos, negsuc, ◌≤ℤ◌, ◌+ℤ◌, neg_ℤ, Option, Some, None, IfSome, IsTrue, refl}
+use Rattle.std.specs.Prelude.{◌≡◌, ◌↔◌, ◌==◌, ◌&&◌, ℕ, zero, suc, true, false, if◌then◌else◌, ◌<◌, ◌+◌, List, [], ◌∷◌, ℤ, pos, negsuc, ◌≤ℤ◌, ◌+ℤ◌, neg_ℤ, Some, None, IfSome, IsTrue, refl}
 use Rattle.std.specs.List.{list_any}
 use Rattle.std.proofs.lemmas.Int.{ints}
 use Rattle.std.proofs.Common.{arith, sym, subst, ◌∙◌}
 use Rattle.lk_model.specs.Lists.{is_nonzero}
 use Rattle.lk_model.specs.Formulas.Literal.{complement, contains, variable}
 use Rattle.lk_model.specs.Formulas.Formula.{Cnf, clause_at}
-use Rattle.lk_model.specs.Formulas.Assignment.{Assignment, makes_true, touches, satisfies}
+use Rattle.lk_model.specs.Formulas.Assignment.{Assignment, makes_true, touches}
 use Rattle.lk_model.specs.Formulas.Balance.{Weighting, balance}
 use Rattle.lk_model.specs.Formulas.Autarky.{IsAutarky, IsPureAutarky, IsMatchingAutarky, IsLinearAutarky, HasEarlier, first_sign, first_balance}
 use Rattle.lk_model.specs.Formulas.Lean.{all_of}

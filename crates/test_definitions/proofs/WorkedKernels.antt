@@ -4,11 +4,10 @@ use Rattle.std.specs.List.{list_any}
 use Rattle.std.specs.Ordering.{int_eq}
 use Rattle.std.proofs.Common.{arith, sym, subst, ◌∙◌}
 use Rattle.lk_model.proofs.Literals.{same_int}
-use Rattle.std.proofs.lemmas.Int.{ints}
 use Rattle.lk_model.specs.declared.class.Class.{Class}
 use Rattle.lk_model.specs.declared.class.Class.TheVariants.{Pure, Matching, Linear, General}
 use Rattle.lk_model.specs.Lists.{among}
-use Rattle.lk_model.specs.Formulas.Literal.{variable, complement, contains, is_distinct}
+use Rattle.lk_model.specs.Formulas.Literal.{variable, complement, contains}
 use Rattle.lk_model.specs.Formulas.Formula.{Cnf, clause_at}
 use Rattle.lk_model.specs.Formulas.Assignment.{Assignment, makes_true, touches, satisfies}
 use Rattle.lk_model.specs.Formulas.Balance.{Weighting}
