@@ -12,7 +12,7 @@ use Rattle.lk_model.proofs.Variables.{variable_bound}
 use Rattle.bipartite_match.specs.declared.matching.Matching.{Matching}
 use Rattle.bipartite_match.specs.Matchings.{IsMatching, pair_count}
 use Rattle.bipartite_match.specs.Covers.{IsCover, CoverLaw}
-use Rattle.bipartite_match.proofs.Numbers.{within, rising_once}
+use Rattle.bipartite_match.proofs.Numbers.{rising_once}
 use Rattle.bipartite_match.proofs.Owning.{index_within, some_position}
 use Rattle.bipartite_match.proofs.Koenig.{maximum_has_cover}
 use Rattle.bipartite_match.proofs.Used.{used, in_used, from_used, length-used}
