@@ -79,6 +79,7 @@ fn finish(draft: Draft) -> Result<Option<Document>, OutOfMemory>
     if has_ended(&draft) {
         Ok(Some(document_of(draft)?))
     } else {
+        drop(draft);
         Ok(None)
     }
 }

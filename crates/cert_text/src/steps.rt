@@ -14,6 +14,7 @@ use formula_text::{is_problem, take_clause};
 use line_text::{behind, first_field, literals_in, numbers_in, one_number, two_numbers};
 use lk_model::{Formula, FormulaError, List, MAX_CLAUSES, MAX_VARS, OpenClause, OutOfMemory};
 use std::alloc::Global;
+use std::mem;
 
 /// The greatest number of learned clauses.
 const MAX_LEARNED: u64 = (1 << 63) - 1;
@@ -62,7 +63,7 @@ fn take_format(alloc: Global, draft: &mut Draft, line: &[u8]) -> bool
     };
     draft.due = LineDue::Sizes;
     draft.protect = protect;
-    draft.part = part;
+    drop(mem::replace(&mut draft.part, part));
     true
 }
 

@@ -1,8 +1,8 @@
 -- Clauses by flags of literals.
-use Rattle.std.proofs.Common.{◌≡◌, ◌≢◌, ◌<◌, Bool, true, false, cond, not, ◌&&◌, ◌||◌, List, [], ◌∷◌, ◌++◌, refl, sym, ◌∙◌, ap, subst, ℤ, length, set}
+use Rattle.std.proofs.Common.{◌≡◌, ◌≢◌, ◌<◌, ◌≤◌, Bool, true, false, cond, not, ◌&&◌, ◌||◌, List, [], ◌∷◌, ◌++◌, refl, sym, ◌∙◌, ap, subst, ℤ, length, set}
 use Rattle.std.specs.Ordering.{int_eq}
 use Rattle.std.proofs.lemmas.Bool.Decides.{Decides-int_eq}
-use Rattle.std.proofs.lemmas.List.{get_or-set_same, get_or-set_other}
+use Rattle.std.proofs.lemmas.List.{get_or-set_same, get_or-set_other, get_or_past}
 use Rattle.lk_model.specs.Formulas.Literal.{contains, rank_of}
 use Rattle.lk_model.specs.Chains.Chain.{without}
 use Rattle.lk_model.proofs.Booleans.{and_true, or_left, or_right}
@@ -45,6 +45,43 @@ flag_written flags l b k lt = at (int_eq k l) refl
       where
         int_self : (x y : ℤ) → x ≡ y → int_eq x y ≡ true
         int_self x y s = (Decides-int_eq x y).1 s
+
+-- a flag that is taken back
+pub flag_cleared : (flags : List Bool) (l k : ℤ) → rank_of l < length flags
+    → is_flagged (set flags (rank_of l) false) k ≡ (is_flagged flags k && not (int_eq k l))
+flag_cleared flags l k lt = flag_written flags l false k lt ∙ cleared (int_eq k l) (is_flagged flags k)
+  where
+    cleared : (t b : Bool) → cond t false b ≡ (b && not t)
+    cleared true true = refl
+    cleared true false = refl
+    cleared false true = refl
+    cleared false false = refl
+
+-- there is none to take back
+pub flag_absent : (flags : List Bool) (l k : ℤ) → length flags ≤ rank_of l → is_flagged flags k ≡ (is_flagged flags k && not (int_eq k l))
+flag_absent flags l k le = at (int_eq k l) refl (is_flagged flags k) refl
+  where
+    at : (t : Bool) → int_eq k l ≡ t → (b : Bool) → is_flagged flags k ≡ b → b ≡ (b && not t)
+    at true e true f =
+        sym f ∙ subst (λ (m : ℤ). is_flagged flags m ≡ false) (sym (same_int k l e)) (get_or_past flags (rank_of l) false le)
+    at true e false f = refl
+    at false e true f = refl
+    at false e false f = refl
+
+-- the flag of one literal more is taken back
+pub unflag_more : (flags now after : List Bool) (lits : List ℤ) (l : ℤ)
+    → ((k : ℤ) → is_flagged now k ≡ (is_flagged flags k && not (contains lits k)))
+    → ((k : ℤ) → is_flagged after k ≡ (is_flagged now k && not (int_eq k l))) → (k : ℤ)
+    → is_flagged after k ≡ (is_flagged flags k && not (contains (lits ++ l ∷ []) k))
+unflag_more flags now after lits l before taken k =
+    taken k ∙ ap (λ (b : Bool). b && not (int_eq k l)) (before k) ∙ last (is_flagged flags k) (contains lits k) (int_eq k l)
+    ∙ ap (λ (b : Bool). is_flagged flags k && not b) (sym (contains_append lits (l ∷ []) k))
+  where
+    last : (a b c : Bool) → ((a && not b) && not c) ≡ (a && not (b || (c || false)))
+    last false b c = refl
+    last true true c = refl
+    last true false true = refl
+    last true false false = refl
 
 -- a literal that is taken out
 pub taken_out : (flags flags' : List Bool) (came : List ℤ) (l : ℤ) → HaveCome flags came

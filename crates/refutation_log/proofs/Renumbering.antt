@@ -1,6 +1,6 @@
 -- New numbers of steps.
-use Rattle.std.proofs.Common.{◌≡◌, ℕ, zero, suc, ◌+◌, ◌-◌, ◌<◌, ◌≤◌, Bool, true, cond, List, [], ◌∷◌, ◌++◌, refl, sym, ◌∙◌, ap, subst, arith, length, map, get_or, filter, take, drop}
-use Rattle.std.proofs.lemmas.List.{drop_more, get_or_at, length-map, length-take-le, map-id, take_more, map-append}
+use Rattle.std.proofs.Common.{◌≡◌, ℕ, zero, suc, ◌+◌, ◌-◌, ◌<◌, ◌≤◌, Bool, true, false, cond, List, [], ◌∷◌, ◌++◌, refl, sym, ◌∙◌, ap, subst, arith, length, map, get_or, filter, take, drop}
+use Rattle.std.proofs.lemmas.List.{drop_more, get_or_at, length-map, length-take-le, map-id, take_more, map-append, append-nil}
 use Rattle.std.proofs.lemmas.List.Elements.{filter-append}
 use Rattle.std.proofs.lemmas.List.FromFn.{filter_of_map_range_with_len_more}
 use Rattle.std.specs.List.{range_with_len}
@@ -27,6 +27,14 @@ more_passes p f xs i x lt e passes =
     ap (λ ys. map f (filter p ys)) more
     ∙ ap (map f) (filter-append p (take i xs) (x ∷ []) ∙ ap (λ b. filter p (take i xs) ++ cond b (x ∷ []) []) passes)
     ∙ map-append f (filter p (take i xs)) (x ∷ [])
+
+-- one more element that fails
+pub more_fails : {X : Type 0} (p : X → Bool) (f : X → X) (xs : List X) (i : ℕ) (x : X) → i < length xs → x ≡ get_or xs i x → p x ≡ false
+    → map f (filter p (take (i + 1) xs)) ≡ map f (filter p (take i xs))
+more_fails p f xs i x lt e fails =
+    let more : take (i + 1) xs ≡ take i xs ++ x ∷ [] = take_more xs i x lt ∙ ap (λ y. take i xs ++ y ∷ []) (sym e) in
+    ap (λ ys. map f (filter p ys)) more
+    ∙ ap (map f) (filter-append p (take i xs) (x ∷ []) ∙ ap (λ b. filter p (take i xs) ++ cond b (x ∷ []) []) fails ∙ append-nil (filter p (take i xs)))
 
 -- tests that agree on a range
 pub same_in_range : (p q : ℕ → Bool) (n a : ℕ) → ((k : ℕ) → a ≤ k → k < a + n → p k ≡ q k) → filter p (range_with_len a n) ≡ filter q (range_with_len a n)

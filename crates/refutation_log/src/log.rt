@@ -22,8 +22,7 @@ ghost use Rattle.refutation_log.specs.SameClause.{IsSameClause};
 use crate::axioms::positions_used;
 use crate::chain_clause::FlaggedClause;
 use crate::logged_step::{LoggedStep, logged, unlogged};
-use crate::numbers::{kept_steps, new_numbers};
-use crate::reach::marks_of;
+use crate::numbers::{kept_steps, trimming};
 use crate::work::Work;
 use lk_model::{Crossed, List, Lit, OutOfMemory, Round, Turn};
 use std::alloc::Global;
@@ -164,9 +163,10 @@ impl Log {
         ensures steps { IfOk result (λ r. r.steps ≡ self.steps) }
         ensures log { IsLog self.first self.steps }
     {
-        let alloc = *self.steps.allocator();
+        let steps = self.into_steps();
+        let alloc = *steps.allocator();
         Ok(Round {
-            steps: List::from_vec(unlogged(alloc, self.steps)?),
+            steps: List::from_vec(unlogged(alloc, steps)?),
         })
     }
 
@@ -180,11 +180,21 @@ impl Log {
         ensures steps { IfOk result (λ r. r.steps ≡ trimmed next self.steps) }
         ensures log { IsLog self.first self.steps }
     {
-        let alloc = *self.steps.allocator();
-        let marks = marks_of(alloc, 0, self.first, &self.steps)?;
-        let numbers = new_numbers(alloc, &marks.steps, next)?;
-        let steps = kept_steps(alloc, self.steps, self.first, &marks.steps, &numbers)?;
-        Ok(Round { steps })
+        let first = self.first();
+        let steps = self.into_steps();
+        let alloc = *steps.allocator();
+        let (marks, numbers) = trimming(alloc, first, &steps, next)?;
+        Ok(Round {
+            steps: kept_steps(alloc, steps, first, &marks, &numbers)?,
+        })
+    }
+
+    // Its steps.
+    fn into_steps(self) -> Vec<LoggedStep>
+        ensures steps { result.items ≡ self.steps }
+        ensures log { IsLog self.first result.items }
+    {
+        self.steps
     }
 
     // The clause after the last turn.

@@ -4,16 +4,35 @@ ghost use Rattle.std.specs.List.{list_all};
 ghost use Rattle.lk_model.specs.Chains.Chain.{names_of};
 ghost use Rattle.lk_model.specs.declared.document.Turn.{Turn as ATurn};
 ghost use Rattle.refutation_log.specs.Trimmed.{with_numbers};
-ghost use Rattle.refutation_log.specs.Numbers.{number_by_table, is_marked, AreNewNumbers};
+ghost use Rattle.refutation_log.specs.Numbers.{number_by_table, is_marked, AreNewNumbers, IsTrimming};
 ghost use Rattle.refutation_log.specs.Derivation.{are_numbered, names_lower};
 
 use crate::logged_step::LoggedStep;
+use crate::reach::marks_of;
 use lk_model::{List, OutOfMemory, Step, Turn};
 use std::alloc::Global;
 
-/// For each step the number at which it stands if it is kept: `next`, and one more for each kept step
-/// before it.
-pub(crate) fn new_numbers(alloc: Global, kept: &[bool], next: u64) -> Result<Vec<u64>, OutOfMemory>
+/// A mark for each step that is reached backwards from the last one, and for each step its number where those with a
+/// mark are numbered from `next`.
+pub(crate) fn trimming(
+    alloc: Global,
+    first: u64,
+    steps: &Vec<LoggedStep>,
+    next: u64,
+) -> Result<(Vec<bool>, Vec<u64>), OutOfMemory>
+    requires numbered { IsTrue (are_numbered first steps.now.items) }
+    requires names { IsTrue (list_all names_lower steps.now.items) }
+    requires room { next + length steps.now.items < 2 ^ 64 }
+    ensures { IfOk result (λ t. IsTrimming first next steps.now.items t.0.items t.1.items) }
+{
+    let marks = marks_of(alloc, 0, first, steps)?;
+    let numbers = new_numbers(alloc, &marks.steps, next)?;
+    Ok((marks.steps, numbers))
+}
+
+// For each step the number at which it stands if it is kept: `next`, and one more for each kept step
+// before it.
+fn new_numbers(alloc: Global, kept: &[bool], next: u64) -> Result<Vec<u64>, OutOfMemory>
     requires { next + length kept.now < 2 ^ 64 }
     ensures { IfOk result (λ v. AreNewNumbers kept.now next v.items) }
 {

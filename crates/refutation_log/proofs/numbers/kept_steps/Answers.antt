@@ -11,7 +11,7 @@ use Rattle.refutation_log.specs.Trimmed.{with_numbers}
 use Rattle.refutation_log.specs.Numbers.{number_by_table, is_marked}
 use Rattle.refutation_log.proofs.Steps.{number_get}
 use Rattle.refutation_log.proofs.Marking.{names_all}
-use Rattle.refutation_log.proofs.Renumbering.{more_passes}
+use Rattle.refutation_log.proofs.Renumbering.{more_passes, more_fails}
 use Rattle.refutation_log.proofs.numbers.kept_steps.Goals as goal
 
 pub overflow_sub-number : goal.overflow_sub-number
@@ -50,3 +50,14 @@ loop-step-preserved-in-Continue-branch-2 c =
     rw (length_push c.loop-step.yielded c.in-Some.step)
     (c.in_ok-push.ensures.ok ∙ ap (λ (s : Step). c.loop-step.kept ++ s ∷ []) (c.with_new_numbers.ensures ∙ ap f c.in_ok-step.ensures) ∙ ap (λ (ss : List Step). ss ++ f c.in-Some.step ∷ []) c.loop-step.invariant
     ∙ sym (more_passes (is_marked c.args.first c.args.marks.now) f c.args.steps.items (length c.loop-step.yielded) c.in-Some.step t.0 t.1 marked))
+
+pub loop-step-preserved-else-marks-number : goal.loop-step-preserved-else-marks-number
+loop-step-preserved-else-marks-number c =
+    let g = c.into_iter-step-iterator.ensures.into_iter_gives in
+    let t = YieldsList-turn (YieldsList-from_vec c.args.steps.items g.0 (g.1 ∙ c.args.steps.ok.0)) c.loop-step.yielded _ c.loop-step.yielded_by c.next.result c.next.new.self c.in-Some.step c.in-Some.is c.next.ensures.steps in
+    let f = with_numbers (number_by_table c.args.first c.args.numbers.now) in
+    let unmarked : is_marked c.args.first c.args.marks.now c.in-Some.step ≡ false =
+    subst (λ (k : ℕ). slice_index_or c.args.marks.now (k - c.args.first) false ≡ false) c.number.ensures c.if-marks-number.false in
+    rw (length_push c.loop-step.yielded c.in-Some.step)
+    (c.loop-step.invariant
+    ∙ sym (more_fails (is_marked c.args.first c.args.marks.now) f c.args.steps.items (length c.loop-step.yielded) c.in-Some.step t.0 t.1 unmarked))
