@@ -10,48 +10,67 @@ use crate::command::{Command, formula};
 use crate::given::{put_general, results_of_text};
 use crate::joinable::joined;
 use crate::joining::kernel_by_parts;
+use crate::lines::put_own;
+use lk_model::{Formula, GeneralResult, MatchingResult, OutOfMemory};
 use lk_samples::{drawn_formula, positions};
 use matching_kernel::matching_kernel;
-use std::alloc::Global;
+use std::alloc::{AllocError, Global};
 use std::test::Fail;
 
 /// Tells the matching kernel of a formula.
 fn tell_kernel(alloc: Global, c: &Command<'_>, out: &mut String) -> Result<(), Fail> {
     let f = formula(alloc, c)?;
-    let r = kernel_by_parts(alloc, &f)?;
+    Ok(tell_parts(alloc, &f, out)?)
+}
+
+fn tell_parts(alloc: Global, f: &Formula, out: &mut String) -> Result<(), OutOfMemory> {
+    let r = kernel_by_parts(alloc, f)?;
+    Ok(put_kernel(&r, out)?)
+}
+
+fn put_kernel(r: &MatchingResult, out: &mut String) -> Result<(), AllocError> {
     write!(out, "= kept {:?}; own", r.kept.as_slice())?;
-    for o in r.own.as_slice() {
-        write!(out, " {}:{}", o.pos, o.var)?;
-    }
+    put_own(r.own.as_slice(), out)?;
     out.push_str("; rows")?;
     for row in r.rows.as_slice() {
         write!(out, " {}", row.var)?;
     }
-    out.push('\n')?;
-    Ok(())
+    out.push('\n')
 }
 
 /// Tells what the results of a text are, joined.
 fn tell_general(alloc: Global, c: &Command<'_>, out: &mut String) -> Result<(), Fail> {
     let found = results_of_text(alloc, c.text)?;
-    match joined(alloc, c.first, found)? {
-        Some(r) => put_general(&r, out)?,
-        None => out.push_str("= not joinable\n")?,
+    Ok(put_joined(joined(alloc, c.first, found)?, out)?)
+}
+
+fn put_joined(joined: Option<GeneralResult>, out: &mut String) -> Result<(), AllocError> {
+    match joined {
+        Some(r) => put_general(&r, out),
+        None => out.push_str("= not joinable\n"),
     }
-    Ok(())
 }
 
 /// Whether the kernel of a formula that a seed draws is the one that is found in one piece.
 fn is_whole(alloc: Global, seed: u32) -> Result<bool, Fail> {
     let f = drawn_formula(alloc, 20, seed, 16)?;
-    let all = positions(alloc, &f)?;
-    let whole = matching_kernel(alloc, &f, all.as_slice())?;
-    let joined = kernel_by_parts(alloc, &f)?;
+    Ok(is_joined(alloc, &f)?)
+}
+
+fn is_joined(alloc: Global, f: &Formula) -> Result<bool, OutOfMemory> {
+    let whole = kernel(alloc, f)?;
+    let joined = kernel_by_parts(alloc, f)?;
     Ok(
         joined.kept.as_slice() == whole.kept.as_slice()
             && joined.own.len() == whole.own.len()
             && joined.rows.len() == whole.rows.len(),
     )
+}
+
+/// The kernel of a formula in one piece.
+fn kernel(alloc: Global, f: &Formula) -> Result<MatchingResult, OutOfMemory> {
+    let all = positions(alloc, f)?;
+    matching_kernel(alloc, f, all.as_slice())
 }
 
 /// Tells how many of so many drawn formulas have the same kernel in one piece.

@@ -1,12 +1,13 @@
 //! Whether the clauses of parts have a model.
 ghost use Rattle.std.specs.Prelude.{◌≡◌, IsTrue};
 ghost use Rattle.lk_model.specs.Formulas.Lean.{are_positions};
-ghost use Rattle.part_formula.specs.Decisions.{are_filled};
+ghost use Rattle.part_formula.specs.Decisions.{are_filled, IsDecision};
 
 use crate::command::{Command, budget_of, formula};
+use crate::lines::put_model;
 use check_rounds::misstated_step;
-use lk_model::Formula;
-use lk_samples::{part_of_text, put_literals, put_round};
+use lk_model::{Budget, Formula, OutOfMemory, Round};
+use lk_samples::{part_of_text, put_round};
 use part_formula::{Decision, decide_part};
 use std::alloc::{AllocError, Global};
 use std::test::Fail;
@@ -23,38 +24,60 @@ fn is_filled(f: &Formula, part: &[u32]) -> bool
     filled
 }
 
-/// Writes what is decided: the literals of a model, or a round.
-fn put_decision(decision: &Decision, out: &mut String) -> Result<(), AllocError> {
+/// Writes a round behind a head.
+fn put_decided(head: &str, round: &Round, out: &mut String) -> Result<(), AllocError> {
+    out.push_str(head)?;
+    put_round(round, out)
+}
+
+/// Writes what is decided: the literals of a model, or a round, and of a refutation the first step that does not state
+/// the clause of its chain.
+fn put_decision(
+    alloc: Global,
+    f: &Formula,
+    part: &[u32],
+    conflicts: Budget,
+    decision: &Decision,
+    out: &mut String,
+) -> Result<(), OutOfMemory>
+    requires part { IsTrue (are_positions f.now part.now) }
+    requires decided { IsDecision f.now part.now conflicts decision.now }
+{
     match decision {
-        Decision::Model(set) => {
-            out.push_str("= model")?;
-            put_literals(set.as_slice(), out)?;
-            out.push('\n')
-        }
+        Decision::Model(set) => Ok(put_model(set.as_slice(), out)?),
         Decision::Refuted(round) => {
-            out.push_str("= refuted\n")?;
-            put_round(round, out)
+            put_decided("= refuted\n", round, out)?;
+            let step = misstated_step(alloc, f, part, round)?;
+            Ok(writeln!(out, "= misstated {step:?}")?)
         }
-        Decision::Stopped(round) => {
-            out.push_str("= stopped\n")?;
-            put_round(round, out)
-        }
+        Decision::Stopped(round) => Ok(put_decided("= stopped\n", round, out)?),
     }
 }
 
-/// Tells what is decided of some positions of a formula, and of a refutation the first step that does not state the
-/// clause of its chain.
+/// Tells what is decided of some positions of a formula.
 pub(crate) fn tell_decision(alloc: Global, c: &Command<'_>, out: &mut String) -> Result<(), Fail> {
     let f = formula(alloc, c)?;
-    let part = part_of_text(alloc, &f, c.more)?;
-    if !is_filled(&f, &part) {
+    tell_text(alloc, &f, c, out)
+}
+
+fn tell_text(alloc: Global, f: &Formula, c: &Command<'_>, out: &mut String) -> Result<(), Fail> {
+    let part = part_of_text(alloc, f, c.more)?;
+    tell_part(alloc, f, &part, c.second, out)
+}
+
+fn tell_part(
+    alloc: Global,
+    f: &Formula,
+    part: &[u32],
+    conflicts: u32,
+    out: &mut String,
+) -> Result<(), Fail>
+    requires { IsTrue (are_positions f.now part.now) }
+{
+    if !is_filled(f, part) {
         return Err(Fail::from("an empty clause"));
     }
-    let decision = decide_part(alloc, &f, &part, budget_of(c.second)?)?;
-    put_decision(&decision, out)?;
-    if let Decision::Refuted(round) = &decision {
-        let step = misstated_step(alloc, &f, &part, round)?;
-        writeln!(out, "= misstated {step:?}")?;
-    }
-    Ok(())
+    let budget = budget_of(conflicts)?;
+    let decision = decide_part(alloc, f, part, budget)?;
+    Ok(put_decision(alloc, f, part, budget, &decision, out)?)
 }

@@ -3,7 +3,7 @@ ghost use Rattle.std.specs.Prelude.{◌≤◌};
 
 use crate::command::budget_of;
 use crate::judging::{put_judged, put_mus};
-use crate::lines::{put_general, put_solved};
+use crate::lines::{put_general, put_kept, put_solved};
 use kernel_solve::solve;
 use lk_model::Formula;
 use lk_outside::{Gate, OpenGate};
@@ -23,37 +23,25 @@ pub(crate) struct Search<'a> {
     pub conflicts: u32,
 }
 
-/// What so many workers find with a gate.
-pub(crate) fn found_with<R: Threads + Sync, G: Gate>(
+/// Writes what so many workers find with a gate.
+pub(crate) fn put_found<R: Threads + Sync, G: Gate>(
     rt: &R,
     alloc: Global,
     gate: &G,
     s: &Search<'_>,
     workers: u32,
-) -> Result<String, Fail> {
+    out: &mut String,
+) -> Result<(), Fail> {
     let f = s.formula;
     let workers = workers.max(1);
     let budget = budget_of(s.conflicts)?;
-    let mut out = String::new(alloc);
     match s.way {
-        "matching" => {
-            let found = matching_by_parts(rt, alloc, gate, f, workers)?;
-            write!(out, "= {:?}", found.kept.as_slice())?;
-        }
-        "general" => put_general(
-            &general_by_parts(rt, alloc, gate, f, budget, workers)?,
-            &mut out,
-        )?,
-        "solution" => put_solved(&solve(rt, alloc, gate, f, budget, workers)?, &mut out)?,
-        "judged" => put_judged(
-            alloc,
-            s,
-            &solve(rt, alloc, gate, f, budget, workers)?,
-            &mut out,
-        )?,
-        _ => put_mus(alloc, s, &minimal(alloc, f, budget)?, &mut out)?,
+        "matching" => Ok(put_kept(matching_by_parts(rt, alloc, gate, f, workers)?, out)?),
+        "general" => Ok(put_general(general_by_parts(rt, alloc, gate, f, budget, workers)?, out)?),
+        "solution" => Ok(put_solved(solve(rt, alloc, gate, f, budget, workers)?, out)?),
+        "judged" => put_judged(alloc, s, solve(rt, alloc, gate, f, budget, workers)?, out),
+        _ => put_mus(alloc, s, minimal(alloc, f, budget)?, out),
     }
-    Ok(out)
 }
 
 /// What so many workers find with a gate that holds nothing.
@@ -63,5 +51,7 @@ pub(crate) fn found<R: Threads + Sync>(
     s: &Search<'_>,
     workers: u32,
 ) -> Result<String, Fail> {
-    found_with(rt, alloc, &OpenGate, s, workers)
+    let mut out = String::new(alloc);
+    put_found(rt, alloc, &OpenGate, s, workers, &mut out)?;
+    Ok(out)
 }

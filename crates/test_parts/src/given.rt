@@ -11,13 +11,17 @@ use std::test::Fail;
 /// The results of a text, with bars between them. A text of nothing has none.
 pub(crate) fn results_of_text(alloc: Global, text: &str) -> Result<List<GeneralResult>, Fail> {
     let mut found = List::new(alloc);
-    if text.trim().is_empty() {
-        return Ok(found);
+    if !text.trim().is_empty() {
+        push_results(alloc, text, &mut found)?;
     }
+    Ok(found)
+}
+
+fn push_results(alloc: Global, text: &str, found: &mut List<GeneralResult>) -> Result<(), Fail> {
     for part in text.split("|") {
         found.push(result_of_text(alloc, part)?)?;
     }
-    Ok(found)
+    Ok(())
 }
 
 /// The result of a text.
@@ -27,21 +31,40 @@ fn result_of_text(alloc: Global, text: &str) -> Result<GeneralResult, Fail> {
         set: List::new(alloc),
         rounds: List::new(alloc),
     };
-    let mut steps = List::new(alloc);
-    for entry in text.split(";") {
-        let entry = entry.trim();
-        let (word, more) = entry.split_once(" ").unwrap_or((entry, ""));
-        match word {
-            "kept" => r.kept = List::from_vec(numbers_of_text(alloc, more)?),
-            "set" => r.set = List::from_vec(literals_of_text(alloc, more)?),
-            "step" => steps.push(step_of_text(alloc, more)?)?,
-            "end" => r.rounds.push(Round {
-                steps: mem::replace(&mut steps, List::new(alloc)),
-            })?,
-            _ => {}
-        }
-    }
+    take_entries(alloc, text, &mut r, &mut List::new(alloc))?;
     Ok(r)
+}
+
+/// Takes the entries of a text, with the steps of the last round.
+fn take_entries(
+    alloc: Global,
+    text: &str,
+    r: &mut GeneralResult,
+    steps: &mut List<Step>,
+) -> Result<(), Fail> {
+    for entry in text.split(";") {
+        take_entry(alloc, entry.trim(), r, steps)?;
+    }
+    Ok(())
+}
+
+fn take_entry(
+    alloc: Global,
+    entry: &str,
+    r: &mut GeneralResult,
+    steps: &mut List<Step>,
+) -> Result<(), Fail> {
+    let (word, more) = entry.split_once(" ").unwrap_or((entry, ""));
+    match word {
+        "kept" => r.kept = List::from_vec(numbers_of_text(alloc, more)?),
+        "set" => r.set = List::from_vec(literals_of_text(alloc, more)?),
+        "step" => steps.push(step_of_text(alloc, more)?)?,
+        "end" => r.rounds.push(Round {
+            steps: mem::replace(steps, List::new(alloc)),
+        })?,
+        _ => {}
+    }
+    Ok(())
 }
 
 /// The step of a number, the first clause's number, turns and literals.
@@ -54,17 +77,26 @@ fn step_of_text(alloc: Global, text: &str) -> Result<Step, Fail> {
         first: first.parse().unwrap_or(0),
         turns: List::new(alloc),
     };
-    for word in more.split_whitespace() {
-        let (lit, behind) = word.split_once("/").unwrap_or((word, ""));
-        let lit = Lit::new(lit.parse().unwrap_or(0)).ok_or("no literal")?;
-        if behind.is_empty() {
-            step.clause.push(lit)?;
-        } else {
-            let with = behind.parse().unwrap_or(0);
-            step.turns.push(Turn { lit, with })?;
-        }
-    }
+    push_words(more, &mut step)?;
     Ok(step)
+}
+
+fn push_words(words: &str, step: &mut Step) -> Result<(), Fail> {
+    for word in words.split_whitespace() {
+        push_word(word, step)?;
+    }
+    Ok(())
+}
+
+/// Appends a turn, or a literal of the clause.
+fn push_word(word: &str, step: &mut Step) -> Result<(), Fail> {
+    let (lit, behind) = word.split_once("/").unwrap_or((word, ""));
+    let lit = Lit::new(lit.parse().unwrap_or(0)).ok_or("no literal")?;
+    if behind.is_empty() {
+        return Ok(step.clause.push(lit)?);
+    }
+    let with = behind.parse().unwrap_or(0);
+    Ok(step.turns.push(Turn { lit, with })?)
 }
 
 /// Writes a result as such a text.

@@ -62,6 +62,44 @@ fn tell_sides<R: Threads + Sync>(
     Ok(())
 }
 
+/// Tells the numbers with their indices, and whether the halves meet at a gate.
+fn tell_meeting<R: Threads + Sync>(
+    rt: &R,
+    alloc: Global,
+    numbers: &[u32],
+    workers: u32,
+    out: &mut String,
+) -> Result<(), Fail>
+    requires few { length numbers.now < 2 ^ 32 }
+    requires workers { 1 ≤ workers }
+{
+    let gate = Meeting::new();
+    let sums = with_index(rt, alloc, &gate, numbers, workers)?;
+    let (times, met) = (gate.times(), gate.met());
+    writeln!(
+        out,
+        "= {:?}; entered {times:?}; met {met:?}",
+        sums.as_slice()
+    )?;
+    Ok(())
+}
+
+/// Tells the numbers with their indices.
+fn tell_sums<R: Threads + Sync>(
+    rt: &R,
+    alloc: Global,
+    numbers: &[u32],
+    workers: u32,
+    out: &mut String,
+) -> Result<(), Fail>
+    requires few { length numbers.now < 2 ^ 32 }
+    requires workers { 1 ≤ workers }
+{
+    let sums = with_index(rt, alloc, &OpenGate, numbers, workers)?;
+    writeln!(out, "= {:?}", sums.as_slice())?;
+    Ok(())
+}
+
 /// Tells the numbers of a text with their indices, and of `meet` whether the halves meet at a gate.
 pub(crate) fn tell_halves<R: Threads + Sync>(
     rt: &R,
@@ -73,17 +111,9 @@ pub(crate) fn tell_halves<R: Threads + Sync>(
     if c.first == 0 || numbers.len() > 1000 {
         return Err(Fail::from("no workers, or too many numbers"));
     }
-    if c.word == "sides" {
-        return tell_sides(rt, alloc, &numbers, c.first, out);
+    match c.word {
+        "sides" => tell_sides(rt, alloc, &numbers, c.first, out),
+        "halves" => tell_sums(rt, alloc, &numbers, c.first, out),
+        _ => tell_meeting(rt, alloc, &numbers, c.first, out),
     }
-    if c.word == "halves" {
-        let sums = with_index(rt, alloc, &OpenGate, &numbers, c.first)?;
-        writeln!(out, "= {:?}", sums.as_slice())?;
-        return Ok(());
-    }
-    let gate = Meeting::new();
-    let sums = with_index(rt, alloc, &gate, &numbers, c.first)?;
-    write!(out, "= {:?}; entered {:?}", sums.as_slice(), gate.times())?;
-    writeln!(out, "; met {:?}", gate.met())?;
-    Ok(())
 }

@@ -1,13 +1,13 @@
 //! Whether answers are right, by a program that knows nothing of how they were found.
 use crate::found::Search;
-use crate::lines::{put_core, put_positions};
+use crate::lines::{put_core, put_model, put_positions};
 use kernel_solve::Solved;
-use lk_model::{Formula, MusResult, Step, Without};
-use lk_samples::{has_part, put_literals, put_steps};
+use lk_model::{Formula, Lit, MusResult, Step, Without};
+use lk_samples::{has_part, put_steps};
 use mus_core::Mus;
 use par_parts::parts;
 use plain_judge::{clause_at, has_model, is_model, is_named, learns, lie_in, refutes};
-use std::alloc::Global;
+use std::alloc::{AllocError, Global};
 use std::test::Fail;
 
 /// The number of the part, from 1 on, in which chains lie, and 0 where there is none.
@@ -27,29 +27,36 @@ fn part_of(alloc: Global, f: &Formula, steps: &[Step]) -> Result<usize, Fail> {
 pub(crate) fn put_judged(
     alloc: Global,
     s: &Search<'_>,
-    solved: &Solved,
+    solved: Solved,
     out: &mut String,
 ) -> Result<(), Fail> {
-    let f = s.formula;
-    let (steps, right) = match solved {
-        Solved::Model(lits) => {
-            let right = is_model(f, lits.as_slice());
-            write!(out, "= model; right {right}")?;
-            return Ok(());
-        }
-        Solved::Refuted(round) => {
-            out.push_str("= refuted")?;
-            let steps = round.steps.as_slice();
-            (steps, refutes(alloc, f, s.conflicts, steps)?)
-        }
-        Solved::Unfinished(round) => {
-            out.push_str("= unfinished")?;
-            let steps = round.steps.as_slice();
-            (steps, learns(alloc, f, s.conflicts, steps)?)
-        }
+    match solved {
+        Solved::Model(lits) => Ok(put_model_judged(s.formula, lits.as_slice(), out)?),
+        Solved::Refuted(round) => put_round_judged(alloc, s, true, round.steps.as_slice(), out),
+        Solved::Unfinished(round) => put_round_judged(alloc, s, false, round.steps.as_slice(), out),
+    }
+}
+
+fn put_model_judged(f: &Formula, lits: &[Lit], out: &mut String) -> Result<(), AllocError> {
+    let right = is_model(f, lits);
+    write!(out, "= model; right {right}")
+}
+
+fn put_round_judged(
+    alloc: Global,
+    s: &Search<'_>,
+    is_refuted: bool,
+    steps: &[Step],
+    out: &mut String,
+) -> Result<(), Fail> {
+    let (f, most) = (s.formula, s.conflicts);
+    let (word, right) = if is_refuted {
+        ("refuted", refutes(alloc, f, most, steps)?)
+    } else {
+        ("unfinished", learns(alloc, f, most, steps)?)
     };
     let part = part_of(alloc, f, steps)?;
-    write!(out, " in part {part}; right {right}")?;
+    write!(out, "= {word} in part {part}; right {right}")?;
     Ok(())
 }
 
@@ -163,42 +170,65 @@ fn is_core(alloc: Global, s: &Search<'_>, r: &MusResult) -> Result<bool, Fail> {
 pub(crate) fn put_mus(
     alloc: Global,
     s: &Search<'_>,
-    mus: &Mus,
+    mus: Mus,
     out: &mut String,
 ) -> Result<(), Fail> {
-    let f = s.formula;
-    let whole = matches!(s.way, "find" | "told");
-    let right = match mus {
-        Mus::Core(r) => {
-            put_core(s.way, r, out)?;
-            is_core(alloc, s, r)?
+    let put = put_answer(s.way, &mus, out);
+    let right = is_right(alloc, s, &mus);
+    drop(mus);
+    let right = right?;
+    put?;
+    Ok(put_right(s.way, right, out)?)
+}
+
+/// Writes an answer in the way of a command.
+fn put_answer(way: &str, mus: &Mus, out: &mut String) -> Result<(), AllocError> {
+    match mus {
+        Mus::Core(r) => put_core(way, r, out),
+        Mus::Model(lits) if matches!(way, "find" | "told") => put_model(lits.as_slice(), out),
+        Mus::Model(_) => out.push_str("= model"),
+        Mus::Unfinished { part, round, .. } => {
+            put_unfinished(way, part.as_slice(), round.steps.as_slice(), out)
         }
-        Mus::Model(lits) => {
-            out.push_str("= model")?;
-            if whole {
-                put_literals(lits.as_slice(), out)?;
-                out.push('\n')?;
-            }
-            is_model(f, lits.as_slice())
-        }
-        Mus::Unfinished { part, texts, round } => {
-            out.push_str("= unfinished")?;
-            if whole {
-                out.push_str(" over")?;
-                put_positions(part.as_slice(), out)?;
-                out.push('\n')?;
-            }
-            if s.way == "find" {
-                put_steps(round.steps.as_slice(), out)?;
-            }
-            are_texts(f, part.as_slice(), texts)
-                && learns(alloc, texts, s.conflicts, round.steps.as_slice())?
-        }
-    };
-    match s.way {
-        "find" => {}
-        "told" => writeln!(out, "= right {right}")?,
-        _ => write!(out, "; right {right}")?,
+    }
+}
+
+fn put_unfinished(
+    way: &str,
+    part: &[u32],
+    steps: &[Step],
+    out: &mut String,
+) -> Result<(), AllocError> {
+    out.push_str("= unfinished")?;
+    if !matches!(way, "find" | "told") {
+        return Ok(());
+    }
+    out.push_str(" over")?;
+    put_positions(part, out)?;
+    out.push('\n')?;
+    if way == "find" {
+        return put_steps(steps, out);
     }
     Ok(())
+}
+
+/// Whether an answer is right.
+fn is_right(alloc: Global, s: &Search<'_>, mus: &Mus) -> Result<bool, Fail> {
+    match mus {
+        Mus::Core(r) => is_core(alloc, s, r),
+        Mus::Model(lits) => Ok(is_model(s.formula, lits.as_slice())),
+        Mus::Unfinished { part, texts, round } => Ok(
+            are_texts(s.formula, part.as_slice(), texts)
+                && learns(alloc, texts, s.conflicts, round.steps.as_slice())?,
+        ),
+    }
+}
+
+/// Writes whether an answer is right, but not behind a whole one.
+fn put_right(way: &str, right: bool, out: &mut String) -> Result<(), AllocError> {
+    match way {
+        "find" => Ok(()),
+        "told" => writeln!(out, "= right {right}"),
+        _ => write!(out, "; right {right}"),
+    }
 }

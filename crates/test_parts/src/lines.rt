@@ -1,65 +1,105 @@
 //! What is found, as lines.
 use kernel_solve::Solved;
-use lk_model::{General, GeneralResult, MatchingResult, MusResult};
+use lk_model::{
+    General, GeneralResult, Lit, MatchRow, MatchingResult, MusResult, Own, Round, Step,
+};
 use lk_samples::{put_literals, put_rounds, put_steps};
 use std::alloc::AllocError;
 
+/// Writes the kept positions of a matching kernel.
+pub(crate) fn put_kept(found: MatchingResult, out: &mut String) -> Result<(), AllocError> {
+    write!(out, "= {:?}", found.kept.as_slice())
+}
+
 /// Writes a matching kernel: the kept positions, the own lines and the rows.
-pub(crate) fn put_matching(found: &MatchingResult, out: &mut String) -> Result<(), AllocError> {
-    write!(out, "= kept {:?} own", found.kept.as_slice())?;
-    for line in found.own.as_slice() {
-        write!(out, " {}:{}", line.pos, line.var)?;
-    }
+pub(crate) fn put_matching(found: MatchingResult, out: &mut String) -> Result<(), AllocError> {
+    put_matching_lines(
+        found.kept.as_slice(),
+        found.own.as_slice(),
+        found.rows.as_slice(),
+        out,
+    )
+}
+
+fn put_matching_lines(
+    kept: &[u32],
+    own: &[Own],
+    rows: &[MatchRow],
+    out: &mut String,
+) -> Result<(), AllocError> {
+    write!(out, "= kept {kept:?} own")?;
+    put_own(own, out)?;
     out.push_str(" rows")?;
-    for row in found.rows.as_slice() {
+    for row in rows {
         write!(out, " {}:{}:{}:{}", row.var, row.own, row.escape, row.rank)?;
     }
     out.push('\n')
 }
 
+/// Writes own lines.
+pub(crate) fn put_own(own: &[Own], out: &mut String) -> Result<(), AllocError> {
+    for line in own {
+        write!(out, " {}:{}", line.pos, line.var)?;
+    }
+    Ok(())
+}
+
 /// Writes a general kernel: the kept positions and the literals that are set, or that it is unfinished, and the rounds.
-pub(crate) fn put_general(found: &General, out: &mut String) -> Result<(), AllocError> {
+pub(crate) fn put_general(found: General, out: &mut String) -> Result<(), AllocError> {
     match found {
-        General::Done(r) => {
-            write!(out, "= kept {:?} set", r.kept.as_slice())?;
-            put_literals(r.set.as_slice(), out)?;
-            out.push('\n')?;
-            put_rounds(r.rounds.as_slice(), out)
-        }
-        General::Unfinished(rounds) => {
-            out.push_str("= unfinished\n")?;
-            put_rounds(rounds.as_slice(), out)
-        }
+        General::Done(r) => put_done(&r, out),
+        General::Unfinished(rounds) => put_open(rounds.as_slice(), out),
     }
 }
 
-/// Writes how many positions are kept, and how many rounds and steps there are.
-pub(crate) fn put_counts(r: &GeneralResult, out: &mut String) -> Result<(), AllocError> {
-    let (kept, rounds) = (r.kept.len(), r.rounds.len());
+fn put_done(r: &GeneralResult, out: &mut String) -> Result<(), AllocError> {
+    write!(out, "= kept {:?} set", r.kept.as_slice())?;
+    put_literals(r.set.as_slice(), out)?;
+    out.push('\n')?;
+    put_rounds(r.rounds.as_slice(), out)
+}
+
+fn put_open(rounds: &[Round], out: &mut String) -> Result<(), AllocError> {
+    out.push_str("= unfinished\n")?;
+    put_rounds(rounds, out)
+}
+
+/// Writes how many positions a general kernel keeps, and how many rounds and steps there are; or that it is unfinished.
+pub(crate) fn put_sizes(found: General, out: &mut String) -> Result<(), AllocError> {
+    match found {
+        General::Done(r) => put_counts(r.kept.len(), r.rounds.as_slice(), out),
+        General::Unfinished(rounds) => put_open(rounds.as_slice(), out),
+    }
+}
+
+fn put_counts(kept: usize, rounds: &[Round], out: &mut String) -> Result<(), AllocError> {
     let mut steps = 0usize;
-    for round in r.rounds.as_slice() {
+    for round in rounds {
         steps = steps.wrapping_add(round.steps.len());
     }
-    writeln!(out, "= {kept} kept, {rounds} rounds, {steps} steps")
+    writeln!(out, "= {kept} kept, {} rounds, {steps} steps", rounds.len())
 }
 
 /// Writes an answer: the literals of a model, or the steps of a round.
-pub(crate) fn put_solved(solved: &Solved, out: &mut String) -> Result<(), AllocError> {
+pub(crate) fn put_solved(solved: Solved, out: &mut String) -> Result<(), AllocError> {
     match solved {
-        Solved::Model(lits) => {
-            out.push_str("= model")?;
-            put_literals(lits.as_slice(), out)?;
-            out.push('\n')
-        }
-        Solved::Refuted(round) => {
-            out.push_str("= refuted\n")?;
-            put_steps(round.steps.as_slice(), out)
-        }
-        Solved::Unfinished(round) => {
-            out.push_str("= unfinished\n")?;
-            put_steps(round.steps.as_slice(), out)
-        }
+        Solved::Model(lits) => put_model(lits.as_slice(), out),
+        Solved::Refuted(round) => put_named("= refuted\n", round.steps.as_slice(), out),
+        Solved::Unfinished(round) => put_named("= unfinished\n", round.steps.as_slice(), out),
     }
+}
+
+/// Writes the literals of a model.
+pub(crate) fn put_model(lits: &[Lit], out: &mut String) -> Result<(), AllocError> {
+    out.push_str("= model")?;
+    put_literals(lits, out)?;
+    out.push('\n')
+}
+
+/// Writes steps behind a head.
+fn put_named(head: &str, steps: &[Step], out: &mut String) -> Result<(), AllocError> {
+    out.push_str(head)?;
+    put_steps(steps, out)
 }
 
 /// Writes positions.

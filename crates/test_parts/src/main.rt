@@ -20,7 +20,6 @@ mod composing;
 mod cores;
 mod deciding;
 mod found;
-mod gate;
 mod given;
 mod halves;
 mod joinable;

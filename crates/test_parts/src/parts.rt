@@ -53,7 +53,7 @@ pub(crate) fn tell<R: Threads + Sync>(
         "parts" | "parts-without" | "groups" | "units" | "chain" => tell_parts(alloc, c, out),
         "halves" | "meet" | "sides" => tell_halves(rt, alloc, c, out),
         "kernel" | "general" => tell_same(rt, alloc, c, out),
-        "workers" | "general-workers" => tell_met(rt, alloc, c, out),
+        "workers" | "general-workers" => tell_met(rt, alloc, c, 2, out),
         "alone" | "matching" | "matching-end" => tell_alone(alloc, c, out),
         "alone-drawn" | "matching-drawn" => tell_drawn(alloc, c, out),
         "decide" => tell_decision(alloc, c, out),

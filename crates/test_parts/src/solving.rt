@@ -16,7 +16,7 @@
 //!   whether all answers are right, also with a small budget, and those of a search through all assignments.
 use crate::answers::{tell_budgets, tell_drawn};
 use crate::command::Command;
-use crate::workers::{tell_pairs, tell_same};
+use crate::workers::{tell_met, tell_same};
 use std::alloc::Global;
 use std::test::Fail;
 use std::thread::Threads;
@@ -31,7 +31,7 @@ pub(crate) fn tell<R: Threads + Sync>(
     match c.word {
         "solve" | "told" => tell_same(rt, alloc, c, out),
         "budgets" => tell_budgets(rt, alloc, c, "judged", out),
-        "gate" => tell_pairs(rt, alloc, c, out),
+        "gate" => tell_met(rt, alloc, c, c.third, out),
         "drawn" => tell_drawn(rt, alloc, c, "judged", out),
         _ => Ok(()),
     }

@@ -3,14 +3,13 @@ ghost use Rattle.std.specs.Prelude.{◌≤◌};
 
 use crate::alone::counts;
 use crate::command::{Command, budget_of, formula};
-use crate::found::{Search, found, found_with};
-use crate::gate::{Pairs, counts as counts_of};
-use crate::lines::{put_counts, put_general};
-use lk_model::{Formula, General};
+use crate::found::{Search, found, put_found};
+use crate::lines::put_sizes;
+use lk_model::{Formula, OutOfMemory};
 use lk_outside::OpenGate;
 use lk_samples::Meeting;
 use part_kernels::{general_by_parts, matching_by_parts};
-use std::alloc::Global;
+use std::alloc::{AllocError, Global};
 use std::test::Fail;
 use std::thread::Threads;
 
@@ -46,6 +45,28 @@ fn is_same<R: Threads + Sync>(
     Ok(true)
 }
 
+/// What one worker finds, and whether each of these numbers of workers finds the same.
+fn first_of<R: Threads + Sync>(
+    rt: &R,
+    alloc: Global,
+    s: &Search<'_>,
+    numbers: &[u32],
+) -> Result<(String, bool), Fail> {
+    let first = found(rt, alloc, s, 1)?;
+    let same = is_same(rt, alloc, s, first.as_str(), numbers)?;
+    Ok((first, same))
+}
+
+/// Which numbers of workers are tried beside one, and how that is told.
+fn others_of(word: &str) -> (&'static [u32], &'static str) {
+    match word {
+        "kernel" => (&[2, 3, 8, 64], "; the same"),
+        "general" => (&[2, 3, 8], "= the same"),
+        "told" => (&[2, 3], "= the same by 2 and 3 workers"),
+        _ => (&[2, 3], "; the same by 2 and 3 workers"),
+    }
+}
+
 /// Tells what one worker finds, and whether others find the same.
 pub(crate) fn tell_same<R: Threads + Sync>(
     rt: &R,
@@ -54,21 +75,19 @@ pub(crate) fn tell_same<R: Threads + Sync>(
     out: &mut String,
 ) -> Result<(), Fail> {
     let f = formula(alloc, c)?;
-    let s = search_of(c, &f);
-    let first = found(rt, alloc, &s, 1)?;
-    out.push_str(first.as_str())?;
-    let numbers: &[u32] = match c.word {
-        "kernel" => &[2, 3, 8, 64],
-        "general" => &[2, 3, 8],
-        _ => &[2, 3],
-    };
-    let same = is_same(rt, alloc, &s, first.as_str(), numbers)?;
-    match c.word {
-        "kernel" => writeln!(out, "; the same {same}")?,
-        "general" => writeln!(out, "= the same {same}")?,
-        "told" => writeln!(out, "= the same by 2 and 3 workers {same}")?,
-        _ => writeln!(out, "; the same by 2 and 3 workers {same}")?,
-    }
+    put_same(rt, alloc, c.word, &search_of(c, &f), out)
+}
+
+fn put_same<R: Threads + Sync>(
+    rt: &R,
+    alloc: Global,
+    word: &str,
+    s: &Search<'_>,
+    out: &mut String,
+) -> Result<(), Fail> {
+    let (numbers, end) = others_of(word);
+    let (first, same) = first_of(rt, alloc, s, numbers)?;
+    writeln!(out, "{first}{end} {same}")?;
     Ok(())
 }
 
@@ -80,12 +99,24 @@ pub(crate) fn tell_fours<R: Threads + Sync>(
     out: &mut String,
 ) -> Result<(), Fail> {
     let f = formula(alloc, c)?;
-    let s = search_of(c, &f);
-    let kept = matching_by_parts(rt, alloc, &OpenGate, &f, 1)?.kept.len();
-    let first = found(rt, alloc, &s, 1)?;
-    let same = is_same(rt, alloc, &s, first.as_str(), &[2, 3, 8, 64])?;
-    writeln!(out, "= {kept} of {}; the same {same}", f.len())?;
+    put_fours(rt, alloc, &search_of(c, &f), out)
+}
+
+fn put_fours<R: Threads + Sync>(
+    rt: &R,
+    alloc: Global,
+    s: &Search<'_>,
+    out: &mut String,
+) -> Result<(), Fail> {
+    let kept = kept_count(rt, alloc, s.formula)?;
+    let same = first_of(rt, alloc, s, &[2, 3, 8, 64])?.1;
+    writeln!(out, "= {kept} of {}; the same {same}", s.formula.len())?;
     Ok(())
+}
+
+/// How many clauses one worker keeps.
+fn kept_count<R: Threads + Sync>(rt: &R, alloc: Global, f: &Formula) -> Result<usize, OutOfMemory> {
+    Ok(matching_by_parts(rt, alloc, &OpenGate, f, 1)?.kept.len())
 }
 
 /// Tells of the parts of four clauses how much is kept and by how many rounds and steps, whether two workers find the
@@ -97,15 +128,19 @@ pub(crate) fn tell_squares<R: Threads + Sync>(
     out: &mut String,
 ) -> Result<(), Fail> {
     let f = formula(alloc, c)?;
-    let s = search_of(c, &f);
-    let general = general_by_parts(rt, alloc, &OpenGate, &f, budget_of(c.second)?, 1)?;
-    match &general {
-        General::Done(r) => put_counts(r, out)?,
-        General::Unfinished(_) => put_general(&general, out)?,
-    }
-    let one = found(rt, alloc, &s, 1)?;
-    let same = is_same(rt, alloc, &s, one.as_str(), &[2])?;
-    let (parts, alike) = counts(alloc, c, &f, 20)?;
+    put_squares(rt, alloc, c, &search_of(c, &f), out)
+}
+
+fn put_squares<R: Threads + Sync>(
+    rt: &R,
+    alloc: Global,
+    c: &Command<'_>,
+    s: &Search<'_>,
+    out: &mut String,
+) -> Result<(), Fail> {
+    put_kernel_sizes(rt, alloc, s, out)?;
+    let same = first_of(rt, alloc, s, &[2])?.1;
+    let (parts, alike) = counts(alloc, c, s.formula, 20)?;
     writeln!(
         out,
         "= two workers the same {same}; alone the same in {alike} of {parts}"
@@ -113,34 +148,38 @@ pub(crate) fn tell_squares<R: Threads + Sync>(
     Ok(())
 }
 
-/// Tells what two workers find, and whether their halves meet at a gate.
+/// Writes how much one worker keeps, and by how many rounds and steps.
+fn put_kernel_sizes<R: Threads + Sync>(
+    rt: &R,
+    alloc: Global,
+    s: &Search<'_>,
+    out: &mut String,
+) -> Result<(), Fail> {
+    let budget = budget_of(s.conflicts)?;
+    let general = general_by_parts(rt, alloc, &OpenGate, s.formula, budget, 1)?;
+    Ok(put_sizes(general, out)?)
+}
+
+/// Tells what so many workers find, and whether their halves meet at a gate; of `gate` how often each met the other.
 pub(crate) fn tell_met<R: Threads + Sync>(
     rt: &R,
     alloc: Global,
     c: &Command<'_>,
+    workers: u32,
     out: &mut String,
 ) -> Result<(), Fail> {
     let f = formula(alloc, c)?;
     let gate = Meeting::new();
-    let text = found_with(rt, alloc, &gate, &search_of(c, &f), 2)?;
-    let (times, met) = (gate.times(), gate.met());
-    out.push_str(text.as_str())?;
-    out.push_str(if text.ends_with("\n") { "= " } else { "; " })?;
-    writeln!(out, "entered {times:?}; met {met:?}")?;
-    Ok(())
+    put_found(rt, alloc, &gate, &search_of(c, &f), workers, out)?;
+    Ok(put_gate(&gate, c.word == "gate", out)?)
 }
 
-/// Tells what so many workers find with a gate through which both halves go together, and who went through it.
-pub(crate) fn tell_pairs<R: Threads + Sync>(
-    rt: &R,
-    alloc: Global,
-    c: &Command<'_>,
-    out: &mut String,
-) -> Result<(), Fail> {
-    let f = formula(alloc, c)?;
-    let gate = Pairs::new();
-    let text = found_with(rt, alloc, &gate, &search_of(c, &f), c.third)?;
-    let (entered, met) = (counts_of(&gate.entered), counts_of(&gate.met));
-    writeln!(out, "{text}; entered {entered:?}; met {met:?}")?;
-    Ok(())
+fn put_gate(gate: &Meeting, counts: bool, out: &mut String) -> Result<(), AllocError> {
+    let front = if out.ends_with("\n") { "= " } else { "; " };
+    write!(out, "{front}entered {:?}; met ", gate.times())?;
+    if counts {
+        writeln!(out, "{:?}", gate.times_met())
+    } else {
+        writeln!(out, "{:?}", gate.met())
+    }
 }

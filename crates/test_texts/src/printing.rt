@@ -24,18 +24,28 @@ use std::test::Fail;
 pub(crate) fn tell(alloc: Global, line: &str, out: &mut String) -> Result<(), Fail> {
     let (kind, parts) = line.split_once(";").unwrap_or((line, ""));
     let mut document = empty(alloc, kind)?;
+    let taken = take_parts(alloc, &mut document, parts);
+    let text = print(alloc, &document);
+    drop(document);
+    taken?;
+    put_text(text?, out)
+}
+
+fn put_text(text: Vec<u8>, out: &mut String) -> Result<(), Fail> {
+    Ok(out.push_str(from_utf8(text.as_slice())?)?)
+}
+
+fn take_parts(alloc: Global, document: &mut Document, parts: &str) -> Result<(), Fail> {
     for part in parts.split(";") {
-        take(alloc, &mut document, part.trim())?;
+        take(alloc, document, part.trim())?;
     }
-    let text = print(alloc, &document)?;
-    out.push_str(from_utf8(text.as_slice())?)?;
     Ok(())
 }
 
 /// The document with nothing in it of a class, or the unfinished one.
 fn empty(alloc: Global, kind: &str) -> Result<Document, Fail> {
-    let texts = Formula::new(alloc, 0)?;
     if kind == "unfinished" {
+        let texts = Formula::new(alloc, 0)?;
         return Ok(Document::Unfinished(OpenDocument {
             vars: 0,
             clauses: 0,
@@ -45,13 +55,19 @@ fn empty(alloc: Global, kind: &str) -> Result<Document, Fail> {
             texts,
         }));
     }
+    empty_of(alloc, body(alloc, kind)?)
+}
+
+/// The document with nothing in it but a certificate.
+fn empty_of(alloc: Global, body: Body) -> Result<Document, Fail> {
+    let texts = Formula::new(alloc, 0)?;
     Ok(Document::Done(DoneDocument {
         vars: 0,
         clauses: 0,
         protect: None,
         kept: List::new(alloc),
         set: List::new(alloc),
-        body: body(alloc, kind)?,
+        body,
         texts,
     }))
 }

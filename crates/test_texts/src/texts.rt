@@ -44,11 +44,16 @@ pub(crate) fn tell(
 fn read_formula(alloc: Global, text: &[u8], cut: usize, size: usize) -> Result<Formula, Refused> {
     let (first, rest) = text.split_at(cut.min(text.len()));
     let mut reader = Reader::new(alloc);
+    feed_pieces(&mut reader, first, rest, size)?;
+    reader.finish()
+}
+
+fn feed_pieces(reader: &mut Reader, first: &[u8], rest: &[u8], size: usize) -> Result<(), Refused> {
     reader.feed(first)?;
     for piece in rest.chunks(size.max(1)) {
         reader.feed(piece)?;
     }
-    reader.finish()
+    Ok(())
 }
 
 /// Writes what the reader answers to a text in one piece and in smaller ones, and cut in two at each
@@ -156,8 +161,15 @@ fn tell_document(alloc: Global, text: &[u8], out: &mut String) -> Result<(), All
         return writeln!(out, "= stops at {told}");
     }
     match read(alloc, text) {
-        Ok(Document::Done(d)) => put_parts(&d, out),
-        _ => out.push_str("= unfinished\n"),
+        Ok(document) => put_document(&document, out),
+        Err(_) => out.push_str("= unfinished\n"),
+    }
+}
+
+fn put_document(document: &Document, out: &mut String) -> Result<(), AllocError> {
+    match document {
+        Document::Done(d) => put_parts(d, out),
+        Document::Unfinished(_) => out.push_str("= unfinished\n"),
     }
 }
 
