@@ -1,6 +1,6 @@
 -- The claim of leank, from what the commands answer.
 use Rattle.std.proofs.Common.{◌≡◌, ◌≢◌, ◌∙◌, ℕ, ◌≤◌, ◌^◌, Bool, true, false, cond, List, [], ◌∷◌, ◌++◌, length, map, flat_map, Option, Some, None, refl, ap, sym, subst, append_assoc, ◌⊎◌, inl, inr, arith}
-use Rattle.std.specs.Prelude.{◌↔◌, ⊤, codes, IfSome, IsSome, IsSomeAnd, IsTrue, nat_le, option_map, ℤ, Ok}
+use Rattle.std.specs.Prelude.{◌↔◌, ⊤, codes, IfSome, IsSome, IsTrue, nat_le, option_map, ℤ, Ok}
 use Rattle.std.specs.Io.KnownBytes.{Appends}
 use Rattle.std.proofs.lemmas.Bool.{le-leb, cases_Bool}
 use Rattle.lk_model.specs.Lists.{among}
@@ -11,7 +11,7 @@ use Rattle.lk_model.specs.Formulas.Literal.{variable, literal_of}
 use Rattle.lk_model.specs.Formulas.Assignment.{Assignment, assignment_of, extended_value}
 use Rattle.lk_model.specs.Formulas.Autarky.{Within}
 use Rattle.lk_model.specs.Formulas.Crossed.{no_variable, protected_by}
-use Rattle.lk_model.specs.Formulas.Formula.{Cnf, clauses_at, positions_of, variables_to}
+use Rattle.lk_model.specs.Formulas.Formula.{Cnf, clauses_at, variables_to}
 use Rattle.lk_model.specs.Formulas.Lean.{Kernel}
 use Rattle.lk_model.specs.Reduction.{IsReduction, ReducesBy, WritesReduction, protect_line_of}
 use Rattle.lk_model.specs.Texts.Dimacs.{Spells}
@@ -35,7 +35,6 @@ use Rattle.lk_outside.specs.Causes.{Rose}
 use Rattle.kernel_laws.proofs.Existence.ExistenceLaws.{existence_law}
 use Rattle.kernel_laws.proofs.Passed.{none_fails, has_passed, same_numbers}
 use Rattle.kernel_laws.proofs.Protected.EmptyLaws.{empty_law}
-use Rattle.kernel_laws.specs.General.RefutationLaw.{IsRefutation}
 use Rattle.kernel_laws.proofs.SameKept.{same_kept_law}
 use Rattle.text_laws.proofs.SpelledFormulas.{spelled_form}
 use Rattle.text_laws.proofs.Spelling.{spells_law}
@@ -44,9 +43,8 @@ use Rattle.lean_checker.specs.declared.verdict.Verdict.{Verdict}
 use Rattle.lean_checker.specs.declared.verdict.Verdict.TheVariants as verdict
 use Rattle.cert_text.proofs.PrintedTexts.{text_in_row}
 use Rattle.cert_text.proofs.ReadLaws.{of_one_document, stops_nowhere}
-use Rattle.answer_check.specs.Answers.{is_answer, answer_text, IsAnswerText}
+use Rattle.answer_check.specs.Answers.{is_answer}
 use Rattle.answer_check.specs.AnswerChecks.{first_failure_of_answer}
-use Rattle.answer_check.specs.AnswerLaw.{ShowsCore}
 use Rattle.answer_check.specs.declared.answer.Answer.{Answer}
 use Rattle.answer_check.specs.declared.answer.Answer.TheVariants.{Model, Refuted, Core}
 use Rattle.answer_check.proofs.AnswerLaws.{answer_law}
@@ -60,15 +58,15 @@ use Rattle.command_words.specs.Shapes.{words_of, number_of, inputs_of, keys_of}
 use Rattle.command_words.specs.declared.command.Command.{Command}
 use Rattle.command_words.specs.declared.command.Command.TheVariants.{ReducePure, ReduceMatching, ReduceLinear, ReduceGeneral, Check, Extend, Report, Demo, Solve, Verify, Deficiency, Edits, Mus}
 use Rattle.command_words.specs.declared.shape.Grammar.{Grammar}
-use Rattle.command_words.specs.declared.shape.Grammar.TheVariants.{Formula, Document}
-use Rattle.command_inputs.specs.Inputs.{Told, Known, nothing_known, ValueOf, Values, IsTextOf, known_behind, AreRead, AreTold, IsFirstBad}
+use Rattle.command_words.specs.declared.shape.Grammar.TheVariants.{Document}
+use Rattle.command_inputs.specs.Inputs.{Told, Known, nothing_known, Values, IsTextOf, known_behind, AreRead, AreTold, IsFirstBad}
 use Rattle.command_inputs.specs.declared.stop.Stop.{Stop}
 use Rattle.command_inputs.proofs.InputLaws.{nothing_small, none_stops}
 use Rattle.command_endings.specs.Commands as commands
 use Rattle.command_endings.specs.Commands.Checking as check
 use Rattle.command_endings.specs.Commands.Editing.{WritesKernels}
 use Rattle.command_endings.specs.Commands.Extending as extend
-use Rattle.command_endings.specs.Commands.Extending.{Outcome, Open, Fails, Extends, extension, outcome_of, outcome_by, outcome_status, written_of, model_line}
+use Rattle.command_endings.specs.Commands.Extending.{extension, outcome_of, outcome_by, outcome_status, written_of}
 use Rattle.command_endings.specs.Commands.GeneralReducing as general
 use Rattle.command_endings.specs.Commands.Extracting as mus
 use Rattle.command_endings.specs.Commands.Measuring.{WritesDeficiency}
@@ -79,14 +77,13 @@ use Rattle.command_endings.specs.Commands.Verifying as verify
 use Rattle.command_endings.proofs.SolveEndings.{not_enough}
 use Rattle.command_endings.proofs.VerifiedAnswers.{minimal_core}
 use Rattle.status_lines.specs.Statuses.{code, is_result}
-use Rattle.status_lines.specs.Verdicts.{verdict_status}
 use Rattle.status_lines.specs.declared.status.Status.{Status}
 use Rattle.status_lines.specs.declared.status.Status.TheVariants.{Done, Words, Input as Refusal, ReadFault, WriteFault, Budget, TooWide, TooLarge, Refused as Failing, Memory, Satisfiable, Unsatisfiable}
 use Rattle.workbench.specs.Endings.{Ends, Allows, HasResult, IsResult, HasReadFault, DeservesStop, IsDecided, IsUnlessFailed}
-use Rattle.workbench.specs.Headline.{Input, names_of, AreShown, Ran, RanWell, Gives, BeginsWith, IsReduced, AreModel, IsExtended, AreInKernel, IsRefutedBy, IsCoreOf, IsTrueOf, Answers, accepted, RunsWell, AreTexts, AreLawful, Decides, Headline}
+use Rattle.workbench.specs.Headline.{Input, names_of, AreShown, Ran, RanWell, Gives, BeginsWith, IsReduced, IsExtended, AreInKernel, IsTrueOf, Answers, accepted, RunsWell, AreTexts, AreLawful, Decides, Headline}
 use Rattle.workbench.specs.Outcomes.{AskFor}
 use Rattle.workbench.specs.WrittenAnswers.{IsVerifiedFor, AsksVerify}
-use Rattle.workbench.specs.WrittenChecks.{reducing, AsksCheck}
+use Rattle.workbench.specs.WrittenChecks.{AsksCheck}
 use Rattle.workbench.proofs.Agreement.{written_accepted}
 use Rattle.workbench.proofs.Outcomes.{numbered, one_status, result_in, result_at, accepted_by}
 use Rattle.workbench.proofs.VerifyOutcomes.{passes_by}
