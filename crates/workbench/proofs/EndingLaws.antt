@@ -9,6 +9,7 @@ use Rattle.cert_text.specs.ReadTexts.{IsOfOneDocument, StopsNowhere}
 use Rattle.command_words.specs.Shapes.{inputs_of}
 use Rattle.command_endings.specs.Commands.{Answers}
 use Rattle.workbench.specs.Endings.{Shelved, Sunk, Takes, TakesBoth, IsCutIn, Ends, IsCutOff, EndsQuietly, IsResult, DeservesStop, HasReadFault, Allows, HasValues, IsDecidedFor, IsDecided, IsUnlessFailed, StopsAsRead, StopsAt, ReadsNothing, IsWell}
+use Rattle.workbench.specs.Headline.{IsRun}
 use Rattle.command_inputs.specs.Inputs.{nothing_known, Told, Values, IsFirstBad, IsFailure}
 use Rattle.command_words.specs.Lawful.{Request, request_of}
 use Rattle.status_lines.specs.Statuses.{code, is_result}
@@ -201,7 +202,7 @@ told_well s o ailing (Ok e) is h = subst (λ (t : Status). IsWell t o ailing) (s
 told_well s o ailing (Err e) is h = tt
 
 -- want of memory for that line is allowed too
-pub memory_ends : (words : List Word) (shelf : Shelved) (out say : Sunk) (answer : ℕ) → answer ≡ code status.Memory → TakesBoth out say [] (line_of stop.Memory) → Ends words shelf out say answer
+memory_ends : (words : List Word) (shelf : Shelved) (out say : Sunk) (answer : ℕ) → answer ≡ code status.Memory → TakesBoth out say [] (line_of stop.Memory) → Ends words shelf out say answer
 memory_ends words shelf out say answer is taken = record { status = status.Memory; written = []; said = line_of stop.Memory; allowed = (refl, refl); well = tt; answer_is = is; taken = taken }
 
 pub memory_cut : {OutIsSame SayIsSame : Type 0} → (words : List Word) (shelf : Shelved) (out say : Sunk) → IsCutIn out say [] (line_of stop.Memory) SayIsSame → OutIsSame → IsCutOff words shelf out say OutIsSame SayIsSame
@@ -219,7 +220,7 @@ rose_in out say written said (inl first) = inl first.0.rose
 rose_in out say written said (inr second) = inr second.1.rose
 
 -- an ending that has the decided status keeps it as it is written, unless a sink fails
-pub written_decided : {ShelfFailed SayIsSame : Type 0} → (out say : Sunk) (written said : List ℕ) (s decided : Status) (answer : ℕ) → (answer ≢ 4 → (answer ≡ code s) × TakesBoth out say written said)
+written_decided : {ShelfFailed SayIsSame : Type 0} → (out say : Sunk) (written said : List ℕ) (s decided : Status) (answer : ℕ) → (answer ≢ 4 → (answer ≡ code s) × TakesBoth out say written said)
     → (answer ≡ 4 → IsCutIn out say written said SayIsSame) → IsUnlessFailed (code s) decided ShelfFailed ⊥
     → IsUnlessFailed answer decided ShelfFailed (Rose out.faults_before out.faults_after ⊎ Rose say.faults_before say.faults_after)
 written_decided {ShelfFailed} out say written said s decided answer ended cut d = elim (cases_eq answer 4) [
@@ -233,19 +234,41 @@ written_decided {ShelfFailed} out say written said s decided answer ended cut d 
     by is (inr (inr (inl e))) = absurd e.1
     by is (inr (inr (inr e))) = inr (inr (inr (is ∙ e)))
 
--- an ending whose texts, as they were written, leave their sinks as they were where they are empty
+-- an allowed ending, as its texts were written
+written_ends : (words : List Word) (shelf : Shelved) (out say : Sunk) (s : Status) (written said one other : List ℕ) (answer : ℕ) → Allows words shelf s written said → IsWell s (request_of words) shelf.ailing
+    → one ≡ written → other ≡ said → (answer ≡ code s) × TakesBoth out say one other → Ends words shelf out say answer
+written_ends words shelf out say s written said one other answer allowed well p q e = record {
+  status = s;
+  written = written;
+  said = said;
+  allowed = allowed;
+  well = well;
+  answer_is = e.0;
+  taken = (subst (λ (t : List ℕ). Takes out t) p e.1.0, subst (λ (t : List ℕ). Takes say t) q e.1.1);
+}
+
+-- such an ending makes a run
+pub written_runs : {SayIsSame : Type 0} → (words : List Word) (shelf : Shelved) (out say : Sunk) (s : Status) (written said one other : List ℕ) (answer : ℕ) → Allows words shelf s written said → IsWell s (request_of words) shelf.ailing
+    → one ≡ written → other ≡ said → (answer ≢ 4 → (answer ≡ code s) × TakesBoth out say one other) → (answer ≡ 4 → IsCutIn out say one other SayIsSame)
+    → ((decided : Status) → IsDecided (request_of words) shelf.told decided → IsUnlessFailed (code s) decided (Rose shelf.before shelf.after) ⊥) → IsRun words shelf out say answer
+written_runs words shelf out say s written said one other answer allowed well p q ended cut h = record {
+  ended = λ four. written_ends words shelf out say s written said one other answer allowed well p q (ended four);
+  cut = λ four. rose_in out say one other (cut four);
+  complete = λ decided is. written_decided out say one other s decided answer ended cut (h decided is);
+}
+
+-- so does want of memory
+pub memory_runs : {SayIsSame : Type 0} → (words : List Word) (shelf : Shelved) (out say : Sunk) (answer : ℕ) → (answer ≢ 4 → (answer ≡ code status.Memory) × TakesBoth out say [] (line_of stop.Memory))
+    → (answer ≡ 4 → IsCutIn out say [] (line_of stop.Memory) SayIsSame) → IsRun words shelf out say answer
+memory_runs words shelf out say answer ended cut =
+    written_runs words shelf out say status.Memory [] (line_of stop.Memory) [] (line_of stop.Memory) answer (refl, refl) tt refl refl ended cut (λ decided is. inr (inr (inr refl)))
+
+-- where its texts are empty, they leave their sinks as they were
 pub ends_quietly : {OutIsSame SayIsSame : Type 0} → (words : List Word) (shelf : Shelved) (out say : Sunk) (s : Status) (written said one other : List ℕ) (answer : ℕ) → Allows words shelf s written said → IsWell s (request_of words) shelf.ailing
     → one ≡ written → other ≡ said → (answer ≡ code s) × TakesBoth out say one other → (one ≡ [] → OutIsSame) → (other ≡ [] → SayIsSame) → EndsQuietly words shelf out say answer OutIsSame SayIsSame
+unfolding written_ends
 ends_quietly words shelf out say s written said one other answer allowed well p q e out_unused say_unused = record {
-  ending = record {
-    status = s;
-    written = written;
-    said = said;
-    allowed = allowed;
-    well = well;
-    answer_is = e.0;
-    taken = (subst (λ (t : List ℕ). Takes out t) p e.1.0, subst (λ (t : List ℕ). Takes say t) q e.1.1);
-  };
+  ending = written_ends words shelf out say s written said one other answer allowed well p q e;
   out_unused = λ none. out_unused (p ∙ none);
   say_unused = λ none. say_unused (q ∙ none);
 }

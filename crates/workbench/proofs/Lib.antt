@@ -20,3 +20,4 @@ pub mod WrittenCores
 pub mod Names
 pub mod Writes
 pub mod Performing
+pub mod Headline

@@ -68,28 +68,31 @@ number_of Unsatisfiable = refl
 pub one_status : (s : Status) (n : ℕ) → n ≡ code s → s ≡ numbered n
 one_status s n e = sym (number_of s) ∙ ap numbered (sym e)
 
--- the result of an ending with the status of one
+-- an ending with the status of a result has one
+allowed_result : (words : List Word) (shelf : Shelved) (s : Status) (written said : List ℕ) → IsTrue (is_result s) → Allows words shelf s written said → IsResult (request_of words) shelf.told s written said
+allowed_result words shelf Done written said is h = h
+allowed_result words shelf Budget written said is h = h
+allowed_result words shelf TooWide written said is h = h
+allowed_result words shelf TooLarge written said is h = h
+allowed_result words shelf Refused written said is h = h
+allowed_result words shelf Satisfiable written said is h = h
+allowed_result words shelf Unsatisfiable written said is h = h
+allowed_result words shelf Words written said is h = absurd (let f : ⊥ = cc is in f)
+allowed_result words shelf Input written said is h = absurd (let f : ⊥ = cc is in f)
+allowed_result words shelf ReadFault written said is h = absurd (let f : ⊥ = cc is in f)
+allowed_result words shelf WriteFault written said is h = absurd (let f : ⊥ = cc is in f)
+allowed_result words shelf Memory written said is h = absurd (let f : ⊥ = cc is in f)
+
 pub result_at : (words : List Word) (shelf : Shelved) (r : Request) (s : Status) (written said : List ℕ) → request_of words ≡ Some r → IsTrue (is_result s) → Allows words shelf s written said → HasResult r shelf.told s written said
-result_at words shelf r s written said asked is h = subst (λ (o : Option Request). IsResult o shelf.told s written said) asked (by s is h)
-  where
-    by : (s : Status) → IsTrue (is_result s) → Allows words shelf s written said → IsResult (request_of words) shelf.told s written said
-    by Done is h = h
-    by Budget is h = h
-    by TooWide is h = h
-    by TooLarge is h = h
-    by Refused is h = h
-    by Satisfiable is h = h
-    by Unsatisfiable is h = h
-    by Words is h = absurd (let f : ⊥ = cc is in f)
-    by Input is h = absurd (let f : ⊥ = cc is in f)
-    by ReadFault is h = absurd (let f : ⊥ = cc is in f)
-    by WriteFault is h = absurd (let f : ⊥ = cc is in f)
-    by Memory is h = absurd (let f : ⊥ = cc is in f)
+result_at words shelf r s written said asked is h = subst (λ (o : Option Request). IsResult o shelf.told s written said) asked (allowed_result words shelf s written said is h)
 
 -- of an ending with this number, where it is that of a result
+pub result_in : (words : List Word) (shelf : Shelved) (out say : Sunk) (n : ℕ) (e : Ends words shelf out say n) → IsTrue (is_result (numbered n)) → IsResult (request_of words) shelf.told (numbered n) e.written e.said
+result_in words shelf out say n e is =
+    allowed_result words shelf (numbered n) e.written e.said is (subst (λ (s : Status). Allows words shelf s e.written e.said) (one_status e.status n e.answer_is) e.allowed)
+
 pub result_of : (words : List Word) (shelf : Shelved) (out say : Sunk) (r : Request) (n : ℕ) (e : Ends words shelf out say n) → request_of words ≡ Some r → IsTrue (is_result (numbered n)) → HasResult r shelf.told (numbered n) e.written e.said
-result_of words shelf out say r n e asked is =
-    result_at words shelf r (numbered n) e.written e.said asked is (subst (λ (s : Status). Allows words shelf s e.written e.said) (one_status e.status n e.answer_is) e.allowed)
+result_of words shelf out say r n e asked is = subst (λ (o : Option Request). IsResult o shelf.told (numbered n) e.written e.said) asked (result_in words shelf out say n e is)
 
 -- of an ending with 2, which input is the first outside its grammar
 pub input_of : (words : List Word) (shelf : Shelved) (out say : Sunk) (r : Request) (e : Ends words shelf out say 2) → request_of words ≡ Some r → (s : Stop) × IsFirstBad shelf.told nothing_known (inputs_of r.command) r.names s
@@ -176,7 +179,7 @@ matching_outcomes words shelf out say name options = reduce_means _ Matching wor
 -- CHECK
 
 -- the verdict that a status tells
-accepted_by : (v : Verdict) → Done ≡ verdict_status v → v ≡ verdict.Accepted
+pub accepted_by : (v : Verdict) → Done ≡ verdict_status v → v ≡ verdict.Accepted
 accepted_by verdict.Accepted e = refl
 accepted_by (verdict.Unfinished learned) e = absurd (let f : ⊥ = cc e in f)
 accepted_by (verdict.No why) e = absurd (let f : ⊥ = cc e in f)

@@ -26,7 +26,7 @@ use Rattle.workbench.proofs.Outcomes.{result_of, only, not_spelled}
 
 -- WHAT A STATUS TELLS
 
-passes_by : (o : Option Why) → Done ≡ verdict_status (verdict_by o) → o ≡ None
+pub passes_by : (o : Option Why) → Done ≡ verdict_status (verdict_by o) → o ≡ None
 passes_by None e = refl
 passes_by (Some why) e = absurd (let f : ⊥ = cc e in f)
 

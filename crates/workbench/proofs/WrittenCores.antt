@@ -27,7 +27,7 @@ use Rattle.workbench.proofs.WrittenChecks.{whole, checks_as}
 -- OF THE TEXTS
 
 -- the clauses of a core are the formula's at its positions, and the text spells them
-core_spells : (text written : List ℕ) → (e : IsExtracted text written) → length written ≤ max_bytes → Spells written (clauses_at e.formula e.writes.core.core)
+pub core_spells : (text written : List ℕ) → (e : IsExtracted text written) → length written ≤ max_bytes → Spells written (clauses_at e.formula e.writes.core.core)
 core_spells text written e short =
     let w = e.writes.writes in
     let core = e.writes.core in

@@ -16,3 +16,4 @@ pub mod WrittenAnswers
 pub mod WrittenCores
 pub mod QuietEndings
 pub mod Performing
+pub mod Headline

@@ -6,6 +6,7 @@ ghost use Rattle.workbench.specs.DeficiencyOutcomes.{DeficiencyOutcomes};
 ghost use Rattle.workbench.specs.DemoOutcomes.{DemoOutcomes};
 ghost use Rattle.workbench.specs.EditsOutcomes.{EditsOutcomes};
 ghost use Rattle.workbench.specs.GeneralOutcomes.{GeneralOutcomes};
+ghost use Rattle.workbench.specs.Headline.{Headline};
 ghost use Rattle.workbench.specs.KeptClauses.{KeptLaw};
 ghost use Rattle.workbench.specs.LinearOutcomes.{LinearOutcomes};
 ghost use Rattle.workbench.specs.MusOutcomes.{MusOutcomes};
@@ -19,6 +20,12 @@ ghost use Rattle.workbench.specs.WrittenAnswers.{UnsolvedChecksAsUnfinished};
 ghost use Rattle.workbench.specs.WrittenChecks.{WrittenChecksAsAccepted, StoppedChecksAsUnfinished};
 ghost use Rattle.workbench.specs.WrittenCores.{ExtractedIsVerified, ExtractedVerifiesAsAccepted};
 ghost use Rattle.workbench.specs.WrittenCores.{UnextractedChecksAsUnfinished};
+
+/// The claim of leank in one record: what a run with a result has written, that `check` and `verify` accept it, and which
+/// status comes. It speaks of the runs of which `run` ensures `runs`, where the inputs are told and `out` is empty at first.
+pub fn headline_law()
+    ensures { Headline }
+{}
 
 /// Of `reduce`: with status 0 the document of a reduction for the class stands on `out`. For pure and matching
 /// each text without a fault is reduced; for linear exactly by the size of its rows and the end of its run, and

@@ -7,8 +7,9 @@ ghost use Rattle.lk_outside.specs.Causes.{HasCause, Rose};
 ghost use Rattle.command_words.specs.Lawful.{request_of};
 ghost use Rattle.status_lines.specs.Statuses.{code};
 ghost use Rattle.status_lines.specs.declared.status.Status.{Status as AnyStatus};
-ghost use Rattle.workbench.specs.Endings.{shelved, sunk, Allows, IsResult, Ends, IsCutOff, IsDecided, IsUnlessFailed};
+ghost use Rattle.workbench.specs.Endings.{shelved, sunk, Allows, IsResult, IsCutOff, IsDecided, IsUnlessFailed};
 ghost use Rattle.workbench.specs.Endings.{StopsAt, IsWell, ReadsNothing, TakesBoth, IsCutIn, EndsQuietly};
+ghost use Rattle.workbench.specs.Headline.{IsRun};
 ghost use Rattle.command_inputs.specs.Inputs.{IsFailure};
 
 use crate::command;
@@ -22,42 +23,19 @@ use status_lines::{Ending, Status, code_of_failure, ending_of};
 use std::alloc::Global;
 use std::thread::Threads;
 
-/// Does what the command line asks for, and answers the status with which the program ends. Where the bytes of an
-/// input are visible to contracts (`told`), they are those that this speaks of; else what is said of 0, 5, 6, 7, 8, 10
-/// and 20 holds of some formula, document, model, answer or edits, and of 2 nothing is said.
+/// Does what the command line asks for, and answers the status with which the program ends. What that means is in
+/// `specs/Headline.antt`, where the shelf tells its inputs and `out` is empty at first: `headline_law` proves it of every
+/// run that is as `runs` says. Where the bytes of an input are not told, what is said of 0, 5, 6, 7, 8, 10 and 20 holds of
+/// some formula, document, model, answer or edits, and of 2 nothing is said. The laws beside that one say the rest.
 ///
-/// - 0: the result stands on `out`, and `say` has nothing. Of `reduce`, the text that was read spells a formula F,
-/// and `out` has a document with kept clauses K and an assignment φ. K is the largest subset of F that is lean for the
-/// class under the protected variables; φ is an autarky of the class on F, sets none of them and touches exactly the
-/// clauses of F outside K; a model of K, overridden by φ, is one of F; the checks accept the document. Of `check` the
-/// document is accepted, and so all this holds of it, whoever made it. Of `extend` it is the line of a model of the
-/// formula; of `report` nine numbers of the formula; of `demo` six lines on the formula of a number. Of `verify` the
-/// answer is accepted: its literals satisfy the formula, or this has no model, and a core is minimally unsatisfiable.
-/// Of `deficiency` it is the greatest number of clauses less occurring variables, with what shows it. Of `edits` these
-/// are the matching kernels of the formula and of what is live behind each edit. Of `mus` it is a minimally
-/// unsatisfiable core of the formula that was read, within the general kernel, with what shows it.
-/// - 1: the command line is not valid. `say` has the number of the refused word.
-/// - 2: an input is outside its grammar, and those before it are within theirs. `say` has the line of its first
-///   fault, and of a formula and of edits the kind.
-/// - 3: a call on the shelf failed: its count of faults rose, and it is ailing on an input.
-/// - 4: a call on `out` or `say` failed: its count of faults rose, and it took a proper prefix of its text. If it was
-///   `out`, `say` is as it was.
-/// - 5: the document that was read is unfinished: of `check` no check of it fails, and `out` has how many clauses it
-///   learned; of `extend` `say` has this. Or `reduce general`, `solve`, `demo` or `mus` used up its budget: `out` has a
-///   sound unfinished document of as many learned clauses as were allowed, of `mus` for some of the clauses, and `say`
-///   their number. Or `reduce linear` needs more pivots than it may make, and `say` has how many it may make.
-/// - 6: a number of the linear run is too wide. `say` has its operands, and the number of pivots before.
-/// - 7: the rows of the linear run are too large. `say` has the numbers of variables and clauses.
-/// - 8: a check fails. `out` has the kind and the place of the first one, and of `extend` `say`.
-/// - 9: out of memory. `say` has this, and `out` nothing.
-/// - 10: of `solve` and `mus`: `out` has a model of the formula that was read, a literal on each variable. `say` has
-///   nothing.
-/// - 20: of `solve`: the formula that was read has no model, and `out` has a refutation of it. The clauses that this uses
-///   are in the general kernel. `say` has nothing.
-///
-/// If the command line and the inputs decide a status, it is that one, or 3 or 4 where a count of faults rose, or 9.
-/// If the command line is not valid, or names no input, the shelf is as it was. A sink whose text is empty is as it
-/// was. With any status but 4 both sinks took their whole texts.
+/// - 0: the result stands on `out`; of `check` and `verify`, what was read is accepted. `say` has nothing.
+/// - 1: the command line is not valid, and 2: an input is outside its grammar. `say` has the first fault.
+/// - 3: a call on the shelf failed, and 4: a call on `out` or `say`. Its count of faults rose.
+/// - 5: a budget was used up, and an unfinished document may stand on `out`; or the document that was read is unfinished.
+/// - 6, 7: a number of the linear run is too wide, or its rows are too large.
+/// - 8: a check fails. `out` has the first one, and of `extend` `say`.
+/// - 9: out of memory.
+/// - 10, 20: `out` has a model of the formula that was read, or a refutation of it. `say` has nothing.
 pub fn run<R: Threads + Sync, H: Shelf, O: Sink, E: Sink, G: Gate>(
     rt: &R,
     alloc: Global,
@@ -67,8 +45,10 @@ pub fn run<R: Threads + Sync, H: Shelf, O: Sink, E: Sink, G: Gate>(
     say: &mut E,
     gate: &G,
 ) -> u8
-    // With each status but 4 the sinks took the texts of an ending that the words and the inputs allow.
-    ensures ended { result ≢ 4 → Ends (map (λ w. w.now) words.now)
+    // The run is one of which `headline_law` speaks: with each status but 4 the sinks took the texts of an ending that
+    // the words and the inputs allow; where words and told inputs decide the status, it is that one; or 3, and the
+    // shelf's count of faults rose; or 4, and a sink's did; or 9.
+    ensures runs { IsRun (map (λ w. w.now) words.now)
         (shelved (H.told shelf.old) (H.faults shelf.old) (H.faults shelf.new) (H.ailing shelf.new)
         (H.current shelf.new))
         (sunk (O.written out.old) (O.written out.new) (O.faults out.old) (O.faults out.new))
@@ -82,13 +62,6 @@ pub fn run<R: Threads + Sync, H: Shelf, O: Sink, E: Sink, G: Gate>(
         (sunk (O.written out.old) (O.written out.new) (O.faults out.old) (O.faults out.new))
         (sunk (E.written say.old) (E.written say.new) (E.faults say.old) (E.faults say.new))
         (out.new ≡ out.old) (say.new ≡ say.old) }
-
-    // Where words and told inputs decide the status, it is that one; or 3, and the shelf's count of faults rose; or 4,
-    // and a sink's did; or 9.
-    ensures complete { (status : AnyStatus) →
-        IsDecided (request_of (map (λ w. w.now) words.now)) (H.told shelf.old) status →
-        IsUnlessFailed result status (Rose (H.faults shelf.old) (H.faults shelf.new))
-        (Rose (O.faults out.old) (O.faults out.new) ⊎ Rose (E.faults say.old) (E.faults say.new)) }
 
     // Where no input is read, the whole shelf is as it was: of unlawful words, and of a command without inputs.
     ensures untouched { ReadsNothing (request_of (map (λ w. w.now) words.now)) → shelf.new ≡ shelf.old }

@@ -1,0 +1,256 @@
+#!/usr/bin/env python3
+"""How much of the specifications must be read to know what `Headline` says.
+
+    bench/route.py              the number of lines for each question
+    bench/route.py QUESTION     the files to read for one of them, in their order, with the lines in each
+
+`Headline` (crates/workbench/specs/Headline.antt) is the claim of leank in one record. Each question needs some of its fields,
+and the definitions that these cite, down to the kit's. A definition counts with its comment; `use` lines and blank lines
+do not. The definitions in SHUT need not be opened: they stand in the claim and in the clauses of `run` alike. A type of the
+sources counts as it is declared there, without derives. Definitions of the kit (std) do not count.
+"""
+import os
+import re
+import sys
+
+TOP = os.path.dirname(os.path.dirname(os.path.abspath(__file__)))
+CLAIM = ("workbench", ("Headline",))
+SHUT = {"Ends", "IsDecided", "IsUnlessFailed", "request_of"}
+# What an input may be is told by these, each of which another question opens: for `statuses` they stay shut.
+GRAMMARS = {"Document", "is_in_form", "text_of", "model_of", "Answer", "IsAnswerText", "Edit", "IsEdits"}
+QUESTIONS = {
+    "reduce": ["reduce"],
+    "check": ["check"],
+    "extend": ["extend"],
+    "report": ["report"],
+    "solve": ["solve_10", "solve_20"],
+    "verify": ["verify"],
+    "mus": ["mus_0", "mus_10"],
+    "deficiency": ["deficiency"],
+    "edits": ["edits"],
+    "agreement": ["accepts", "verifies"],
+    "statuses": ["obeys", "refuses", "answers", "keeps", "solves", "extracts"],
+}
+NAME = r"[A-Za-z_α-ωΑ-Ω][A-Za-z0-9_α-ωΑ-Ω]*"
+HEAD = re.compile(rf"(?:(?:pattern|unfoldable|abbrev|pub) )*(?:(?:record|data) )?({NAME})\b")
+
+
+class Block:
+    """A definition: where it stands, and its lines with the comment above it."""
+
+    def __init__(self, where, file, at, lines):
+        self.where, self.file, self.at, self.lines = where, file, at, lines
+
+    def words(self, lines=None):
+        text = "\n".join(line.split("-- ")[0] for line in lines or self.lines)
+        text = re.sub(r'"[^"]*"', "", text)
+        return re.findall(rf"{NAME}(?:\.{NAME})?", text)
+
+
+def crates():
+    with open(f"{TOP}/crates.txt", encoding="utf-8") as file:
+        return [line.split(":")[0].split()[0] for line in file if ":" in line and not line.startswith("#")]
+
+
+class Module:
+    """A file of definitions, with what its `use` lines bring in."""
+
+    def __init__(self, crate, path, file):
+        self.crate, self.path, self.file = crate, path, file
+        self.blocks, self.names, self.aliases = {}, {}, {}
+        with open(file, encoding="utf-8") as it:
+            self.read(it.read().split("\n"))
+
+    def bring(self, line):
+        found = re.match(r"(?:pub )?use Rattle\.(\w+)\.specs\.([\w.]+?)(?:\.\{(.*)\}| as (\w+))?$", line)
+        if not found or found.group(1) in ("std", "core"):
+            return
+        crate, path = found.group(1), tuple(found.group(2).split("."))
+        if found.group(3) is None:
+            self.aliases[found.group(4) or path[-1]] = (crate, path)
+        else:
+            for name in found.group(3).split(","):
+                real, _, own = name.strip().partition(" as ")
+                self.names[own or real] = (crate, path, real)
+
+    def read(self, lines):
+        at, comment = 0, []
+        while at < len(lines):
+            line = lines[at]
+            if re.match(r"(pub )?use ", line):
+                self.bring(line)
+                comment = []
+            elif line.startswith("--"):
+                comment.append(line)
+            elif not line or line.startswith("pub mod "):
+                comment = []
+            else:
+                at = self.define(lines, at, comment)
+                comment = []
+                continue
+            at += 1
+
+    def define(self, lines, at, comment):
+        """A definition goes on to the next line that is empty, unless an indented one stands behind it."""
+        name, start, body = HEAD.match(lines[at]).group(1), at + 1, list(comment)
+        while at < len(lines):
+            behind = next((line for line in lines[at:] if line), "")
+            if not lines[at] and not behind.startswith("  "):
+                break
+            if lines[at]:
+                body.append(lines[at])
+            at += 1
+        self.blocks[name] = Block((self.crate, self.path, name), self.file, start, body)
+        return at
+
+
+class Sources:
+    """The types that the sources of a crate declare."""
+
+    def __init__(self, crate):
+        self.blocks, self.imports = {}, {}
+        top = f"{TOP}/crates/{crate}/src"
+        for folder, _, files in os.walk(top):
+            for file in sorted(files):
+                self.read(crate, f"{folder}/{file}")
+
+    def read(self, crate, file):
+        with open(file, encoding="utf-8") as it:
+            lines = it.read().split("\n")
+        imports = {}
+        for found in re.finditer(r"^use (\w+)::([^;]*);", "\n".join(lines), re.M):
+            for name in re.findall(r"\b[A-Z]\w*", found.group(2)):
+                imports[name] = found.group(1)
+        comment = []
+        for at, line in enumerate(lines):
+            found = re.match(r"pub(?:\([a-z]+\))? (?:struct|enum) (\w+)", line)
+            if found:
+                end = at if line.endswith((";", "}")) else next(k for k in range(at, len(lines)) if lines[k] == "}")
+                body = comment + [own for own in lines[at : end + 1] if own]
+                self.blocks[found.group(1)] = Block((crate, ("declared",), found.group(1)), file, at + 1, body)
+                self.imports[found.group(1)] = imports
+            comment = comment + [line] if line.startswith("///") else comment if line.startswith("#[") else []
+
+
+class House:
+    def __init__(self):
+        self.order, self.modules, self.sources = crates(), {}, {}
+        for crate in self.order:
+            top = f"{TOP}/crates/{crate}/specs"
+            for folder, _, files in os.walk(top):
+                for file in files:
+                    path = tuple(os.path.relpath(f"{folder}/{file}", top)[: -len(".antt")].split("/"))
+                    self.modules[crate, path] = Module(crate, path, f"{folder}/{file}")
+
+    def declared(self, crate, name):
+        if crate not in self.sources:
+            self.sources[crate] = Sources(crate)
+        return self.sources[crate].blocks.get(name)
+
+    def named(self, crate, path, name):
+        """The definition of a name of a module, or the type of the sources that has it."""
+        if path[0] == "declared":
+            kind = path[2] if len(path) > 2 else name
+            return self.declared(crate, kind)
+        module = self.modules.get((crate, path))
+        return module and module.blocks.get(name)
+
+    def cited(self, block, lines=None):
+        """The definitions that a definition cites, in the order of their names there."""
+        crate, path, _ = block.where
+        if path == ("declared",):
+            imports = self.sources[crate].imports[block.where[2]]
+            code = [line for line in block.lines if not line.strip().startswith("///")]
+            is_enum = any(" enum " in line for line in code)
+            # the first word of a line in an enum is the variant's
+            text = " ".join(re.sub(r"^    [A-Z]\w*", "", line) if is_enum else line for line in code)
+            for name in re.findall(r"\b[A-Z]\w*", text):
+                other = imports.get(name, "crate")
+                if other in ("crate", *self.order):
+                    yield self.declared(crate if other == "crate" else other, name)
+            return
+        module = self.modules[crate, path]
+        for word in block.words(lines):
+            first, _, second = word.partition(".")
+            if second and first in module.aliases:
+                yield self.named(*module.aliases[first], second)
+            elif first in module.blocks:
+                yield module.blocks[first]
+            elif first in module.names:
+                yield self.named(*module.names[first])
+
+    def closure(self, fields, shut):
+        """All definitions that these fields need, each behind those that it cites, and the lines of the fields."""
+        claim = self.modules[CLAIM].blocks["Headline"]
+        shown = fields_of(claim.lines, fields)
+        order, seen = [], set()
+
+        def walk(block):
+            if block is None or block.where in seen or block.where[2] in shut or block is claim:
+                return
+            seen.add(block.where)
+            for other in self.cited(block):
+                walk(other)
+            order.append(block)
+
+        for other in self.cited(claim, shown):
+            walk(other)
+        return order, Block(claim.where, claim.file, claim.at, shown)
+
+
+def fields_of(lines, fields):
+    """The head of the record, and of its fields the wanted ones with the comments above them."""
+    shown, comment, wanted = [lines[0]], [], False
+    for line in lines[1:]:
+        if line.startswith("  --"):
+            comment.append(line)
+            continue
+        found = re.match(rf"  pub ({NAME}) :", line)
+        if found:
+            wanted = found.group(1) in fields
+        if wanted:
+            shown += comment + [line]
+            comment = []
+    return shown
+
+
+def head_of(file):
+    with open(file, encoding="utf-8") as it:
+        return next(at for at, line in enumerate(it) if not line.startswith("--"))
+
+
+def files_of(house, question):
+    every = [name for names in QUESTIONS.values() for name in names]
+    shut = SHUT | GRAMMARS if question == "statuses" else SHUT
+    order, claim = house.closure(QUESTIONS.get(question, every), shut)
+    lines, blocks = {}, {}
+    for block in [*order, claim]:
+        lines[block.file] = lines.get(block.file, 0) + len(block.lines)
+        blocks.setdefault(block.file, []).append(block.where[2])
+    lines[claim.file] += head_of(claim.file)
+    place = {crate: at for at, crate in enumerate(house.order)}
+    at = {file: k for k, file in enumerate(lines)}
+    crate_of = lambda file: os.path.relpath(file, f"{TOP}/crates").split("/")[0]
+    files = sorted(lines, key=lambda file: (place[crate_of(file)], at[file]))
+    return [(file, lines[file], blocks[file]) for file in files]
+
+
+def main(question=None):
+    house, questions = House(), [*QUESTIONS, "all"]
+    if question is None:
+        for name in questions:
+            files = files_of(house, name)
+            print(f"{sum(count for _, count, _ in files):5} lines in {len(files):2} files  {name}")
+        return 0
+    if question not in questions:
+        print(f"route.py: one of {', '.join(questions)}", file=sys.stderr)
+        return 2
+    files = files_of(house, question)
+    for file, count, names in files:
+        print(f"{count:5}  {os.path.relpath(file, TOP)}: {', '.join(names)}")
+    print(f"{sum(count for _, count, _ in files):5}  all")
+    return 0
+
+
+if __name__ == "__main__":
+    sys.exit(main(*sys.argv[1:2]))

@@ -1,0 +1,274 @@
+-- The claim of leank: what a run that ends with a result has written, and with which status a run ends.
+--
+-- `run` (src/program.rt) ensures `IsRun` of its words, its shelf, its two sinks and its status. If the
+-- shelf shows the inputs and `out` is empty at first, that run is as `Ran` says; if nothing fails, it is as
+-- `RanWell` says. `headline_law` (src/laws.rt) proves `Headline` of all such runs. To read it, `Ends`,
+-- `IsDecided`, `IsUnlessFailed` and `request_of` may stay shut.
+--
+-- What it does not say. A program that always ends with 9, out of memory, meets all of it: no contract
+-- tells when memory runs out. Tests show that 9 does not come. With a smaller budget than `solves`,
+-- `extracts` and `keeps` ask for, these commands may end with 5, and `reduce linear` may end with 5, 6 or
+-- 7. What stands on `out` then, what `demo` writes, what `say` has, and the verdicts of `check` and
+-- `verify` with 5 and 8 are in the other laws. Nothing is said of bytes that no contract shows, such as
+-- those of files (docs/CLAIM.md).
+use Rattle.std.specs.Prelude.{◌≡◌, ◌≢◌, ◌⊎◌, ◌↔◌, ⊤, ℕ, ℤ, ◌≤◌, List, [], ◌∷◌, ◌++◌, length, map, codes}
+use Rattle.std.specs.Prelude.{Option, Some, None, Ok, IsTrue, false, unwrap_or}
+use Rattle.std.specs.List.{flat_map}
+use Rattle.lk_model.specs.Lists.{among}
+use Rattle.lk_model.specs.Limits.{max_bytes}
+use Rattle.lk_model.specs.Formulas.Literal.{variable}
+use Rattle.lk_model.specs.Formulas.Formula.{Cnf, clauses_at, positions_of, variables_to}
+use Rattle.lk_model.specs.Formulas.Assignment.{assignment_of, extended, extended_value}
+use Rattle.lk_model.specs.Formulas.Autarky.{Within}
+use Rattle.lk_model.specs.Formulas.Crossed.{protected_by}
+use Rattle.lk_model.specs.Formulas.Lean.{all_of, are_positions, Kernel}
+use Rattle.lk_model.specs.Formulas.Minimal.{IsUnsatisfiable, IsMinimallyUnsatisfiable}
+use Rattle.lk_model.specs.Reduction.{IsModel, ReducesBy, protect_line_of}
+use Rattle.lk_model.specs.Texts.Dimacs.{Spells}
+use Rattle.lk_model.specs.Texts.Lines.{Word}
+use Rattle.lk_model.specs.Texts.ModelText.{model_of}
+use Rattle.lk_model.specs.Texts.PlainText.{line, ended, number_words, literal_words}
+use Rattle.lk_model.specs.Chains.Rounds.{used_positions}
+use Rattle.lk_model.specs.Documents.Text.{class_word, comment, first_lines}
+use Rattle.lk_model.specs.declared.class.Class.{Class}
+use Rattle.lk_model.specs.declared.class.Class.TheVariants.{General}
+use Rattle.lk_model.specs.declared.document.MusAnswer.{MusAnswer}
+use Rattle.lk_model.specs.declared.document.Round.{Round}
+use Rattle.lk_outside.specs.Causes.{Rose}
+use Rattle.kernel_laws.specs.General.RefutationLaw.{IsRefutation}
+use Rattle.answer_check.specs.Answers.{IsAnswerText}
+use Rattle.answer_check.specs.AnswerLaw.{ShowsCore}
+use Rattle.answer_check.specs.declared.answer.Answer.{Answer}
+use Rattle.answer_check.specs.declared.answer.Answer.TheVariants.{Model, Refuted, Core}
+use Rattle.edit_text.specs.Edits.{states}
+use Rattle.edit_text.specs.EditText.{IsEdits}
+use Rattle.edit_text.specs.LiveClauses.{live_of}
+use Rattle.edit_text.specs.declared.edit.Edit.{Edit}
+use Rattle.command_words.specs.Lawful.{request_of}
+use Rattle.command_words.specs.Settings.{options_by, are_options}
+use Rattle.command_words.specs.Shapes.{words_of, number_of, inputs_of, keys_of}
+use Rattle.command_words.specs.declared.command.Command.{Command}
+use Rattle.command_words.specs.declared.command.Command.TheVariants as command
+use Rattle.command_words.specs.declared.shape.Grammar.{Grammar}
+use Rattle.command_inputs.specs.Inputs.{Told, Known, nothing_known, ValueOf, IsTextOf, known_behind}
+use Rattle.command_endings.specs.Commands.Editing.{WritesKernels}
+use Rattle.command_endings.specs.Commands.Extending.{model_line}
+use Rattle.command_endings.specs.Commands.GeneralReducing.{IsEnough}
+use Rattle.command_endings.specs.Commands.Measuring.{WritesDeficiency}
+use Rattle.command_endings.specs.Commands.Reporting.{WritesReport}
+use Rattle.command_endings.specs.Commands.Solving.{IsEnoughToRefute}
+use Rattle.status_lines.specs.declared.status.Status.{Status}
+use Rattle.workbench.specs.Endings.{Shelved, Sunk, Ends, IsDecided, IsUnlessFailed}
+
+-- RUNS
+
+-- With each status but 4 the sinks took the texts of an ending that the words and the inputs allow; with 4
+-- a call on a sink failed. If words and inputs decide a status, it is that one; or 3, and a call on the
+-- shelf failed; or 4; or 9.
+pub record IsRun (words : List Word) (shelf : Shelved) (out say : Sunk) (status : ℕ) : Type 0 where
+  pub ended : status ≢ 4 → Ends words shelf out say status
+  pub cut : status ≡ 4 → Rose out.faults_before out.faults_after ⊎ Rose say.faults_before say.faults_after
+  pub complete : (decided : Status) → IsDecided (request_of words) shelf.told decided
+      → IsUnlessFailed status decided (Rose shelf.before shelf.after)
+      (Rose out.faults_before out.faults_after ⊎ Rose say.faults_before say.faults_after)
+
+-- a name on the command line, and the bytes under it
+pub record Input : Type 0 where
+  pub name : Word
+  pub text : List ℕ
+
+abbrev pub names_of : List Input → List Word
+names_of inputs = map (λ (i : Input). i.name) inputs
+
+abbrev pub AreShown : Told → List Input → Type 0
+AreShown told [] = ⊤
+AreShown told (input ∷ inputs) = (told input.name ≡ Some input.text) × AreShown told inputs
+
+-- A run with these words over these inputs ended with the status; `out` was empty, and has what was
+-- written.
+pub record Ran (words : List Word) (inputs : List Input) (status : ℕ) (written : List ℕ) : Type 0 where
+  pub shelf : Shelved
+  pub out : Sunk
+  pub say : Sunk
+  pub is_run : IsRun words shelf out say status
+  pub shown : AreShown shelf.told inputs
+  pub empty : out.before ≡ Some []
+  pub written_is : out.after ≡ Some written
+
+-- So it did, no call on the shelf or a sink failed, and there was memory.
+pub record RanWell (words : List Word) (inputs : List Input) (status : ℕ) (written : List ℕ) : Type 0 where
+  pub ran : Ran words inputs status written
+  pub could_read : Rose ran.shelf.before ran.shelf.after → ⊥
+  pub could_write : Rose ran.out.faults_before ran.out.faults_after → ⊥
+  pub could_say : Rose ran.say.faults_before ran.say.faults_after → ⊥
+  pub had_memory : status ≢ 9
+
+-- The command is run over a formula, with more inputs and options behind its name. In each such run that
+-- ends with the status, the text of the formula spells some F, and this holds of F and of what was written.
+abbrev pub Gives : List Word → List Input → List Word → ℕ → (Cnf → List ℕ → Type 0) → Type 0
+Gives command more options status Holds = (formula : Input) (written : List ℕ)
+    → Ran (command ++ formula.name ∷ names_of more ++ options) (formula ∷ more) status written
+    → (F : Cnf) × Spells formula.text F × Holds F written
+
+-- WHAT HOLDS OF A FORMULA
+
+-- the first lines of a document for F: its class, protected variables, the positions that it keeps,
+-- literals
+abbrev pub BeginsWith : Cnf → Class → Option (List ℕ) → List ℕ → List ℤ → List ℕ → Type 0
+BeginsWith F class protect kept set text = (others : List (List Word)) × (text ≡ flat_map line
+    (first_lines (class_word class) F.vars (length F.clauses) protect
+    ++ comment (codes "keep") (ended (number_words kept))
+    ∷ comment (codes "set") (literal_words set) ∷ others))
+
+-- It is a document of the class, with protected variables P, kept positions K, and literals that φ makes
+-- true. K is the largest lean set of F under P. φ is an autarky of the class on F, sets no variable of P
+-- and touches exactly the clauses outside K. Each model of K, overridden by φ, is one of F. Up to 2^30
+-- bytes the text is DIMACS of the clauses at K.
+pub record IsReduced (protect : Option (List ℕ)) (class : Class) (F : Cnf) (text : List ℕ) : Type 0 where
+  pub kept : List ℕ
+  pub set : List ℤ
+  pub begins : BeginsWith F class protect kept set text
+  pub reduces : ReducesBy (protected_by protect) class F kept (assignment_of set)
+  pub spells : length text ≤ max_bytes → Spells text (clauses_at F kept)
+
+-- a literal for each variable, and together they satisfy each clause
+pub record AreModel (F : Cnf) (literals : List ℤ) : Type 0 where
+  pub total : map variable literals ≡ variables_to F.vars
+  pub model : IsModel F (all_of F) (assignment_of literals)
+
+-- What is written is the line of a model of F. It has the values of φ, whose literals the document has, and
+-- else those of ψ, which the text of the model gives, and else false; for a protected variable those of ψ,
+-- or false.
+pub record IsExtended (F : Cnf) (document model written : List ℕ) : Type 0 where
+  pub class : Class
+  pub protect : Option (List ℕ)
+  pub kept : List ℕ
+  pub set : List ℤ
+  pub begins : BeginsWith F class protect kept set document
+  pub given : List ℤ
+  pub gives : model_of model F.vars ≡ Ok given
+  pub literals : List ℤ
+  pub are_model : AreModel F literals
+  pub values : assignment_of literals ≡ extended (assignment_of set) (assignment_of given) F.vars
+  pub protected : (v : ℕ) → IsTrue (protected_by protect v)
+      → extended_value (assignment_of set) (assignment_of given) v ≡ unwrap_or (assignment_of given v) false
+  pub written_is : written ≡ model_line literals
+
+-- The positions are in the general kernel of F, which has one.
+pub record AreInKernel (F : Cnf) (positions : List ℕ) : Type 0 where
+  pub kept : List ℕ
+  pub kernel : Kernel General F kept
+  pub within : Within (among positions) (among kept)
+
+-- Each step states the clause of its chain over the clauses of F, and the last one is empty. F has no
+-- model.
+pub record IsRefutedBy (F : Cnf) (round : Round) : Type 0 where
+  pub steps : IsRefutation F (positions_of F) round
+  pub no_model : IsUnsatisfiable F (all_of F)
+  pub used : AreInKernel F (used_positions F round)
+
+-- Positions of F whose clauses have no model, while each proper subset of them has one. What is written
+-- beside them shows it: the clauses, a refutation of these, and for each of them literals that satisfy the
+-- others.
+pub record IsCoreOf (F : Cnf) (core : MusAnswer) : Type 0 where
+  pub positions : IsTrue (are_positions F core.core)
+  pub minimal : IsMinimallyUnsatisfiable F (among core.core)
+  pub shown : ShowsCore F core
+  pub used : AreInKernel F core.core
+
+-- what an answer says: these literals are a model, or this refutes F, or this is a core
+abbrev pub IsTrueOf : Cnf → Answer → Type 0
+IsTrueOf F (Model literals) = AreModel F literals
+IsTrueOf F (Refuted round) = IsRefutedBy F round
+IsTrueOf F (Core core) = IsCoreOf F core
+
+-- the text is that of the answer, which is true
+pub record Answers (F : Cnf) (answer : Answer) (text : List ℕ) : Type 0 where
+  pub text_is : IsAnswerText F.vars (length F.clauses) text answer
+  pub is_true : IsTrueOf F answer
+
+abbrev pub accepted : List ℕ
+accepted = line (codes "accepted" ∷ [])
+
+-- WHICH STATUS COMES
+
+-- The command is run over as many inputs as it has, and nothing fails. (`demo` takes a number: it is left
+-- out.)
+pub record RunsWell (c : Command) (inputs : List Input) (options : List Word) (status : ℕ) : Type 0 where
+  pub written : List ℕ
+  pub well : RanWell (words_of c ++ names_of inputs ++ options) inputs status written
+  pub no_number : number_of c ≡ None
+  pub count : length inputs ≡ length (inputs_of c)
+
+-- each input is a text of its grammar; that of a model, an answer or edits is one for the formula before it
+abbrev pub AreTexts : Known → List Grammar → List Input → Type 0
+AreTexts known (grammar ∷ grammars) (input ∷ inputs) = (value : ValueOf grammar)
+    × IsTextOf grammar known value input.text × AreTexts (known_behind grammar known value) grammars inputs
+AreTexts known _ _ = ⊤
+
+abbrev pub AreLawful : Command → List Input → Type 0
+AreLawful command inputs = AreTexts nothing_known (inputs_of command) inputs
+
+-- Over a formula for which the budget is enough, the command ends with one of these.
+abbrev pub Decides : Command → (ℕ → Cnf → Type 0) → List ℕ → Type 0
+Decides command IsEnough results = (formula : Input) (options : List Word) (status : ℕ) (F : Cnf)
+    → RunsWell command (formula ∷ []) options status → status ≢ 1
+    → Spells formula.text F → IsEnough (options_by options).conflicts F → IsTrue (among results status)
+
+-- THE CLAIM
+
+pub record Headline : Type 0 where
+  -- RESULTS; of `check` and `verify` they hold whoever made the document and the answer
+  pub reduce : (class : Class) (options : List Word)
+      → Gives (codes "reduce" ∷ class_word class ∷ []) [] options 0
+      (λ F written. IsReduced (protect_line_of F (options_by options).protect) class F written)
+  pub check : (document : Input) (options : List Word) → Gives (codes "check" ∷ []) (document ∷ []) options 0
+      (λ F written. (protect : Option (List ℕ)) × (class : Class) × IsReduced protect class F document.text
+      × (written ≡ accepted))
+  pub extend : (document model : Input) → Gives (codes "extend" ∷ []) (document ∷ model ∷ []) [] 0
+      (λ F written. IsExtended F document.text model.text written)
+  pub report : Gives (codes "report" ∷ []) [] [] 0 WritesReport
+  pub solve_10 : (options : List Word) → Gives (codes "solve" ∷ []) [] options 10
+      (λ F written. (literals : List ℤ) × Answers F (Model literals) written)
+  pub solve_20 : (options : List Word) → Gives (codes "solve" ∷ []) [] options 20
+      (λ F written. (round : Round) × Answers F (Refuted round) written)
+  pub mus_0 : (options : List Word) → Gives (codes "mus" ∷ []) [] options 0
+      (λ F written. (core : MusAnswer) × Answers F (Core core) written
+      × (length written ≤ max_bytes → Spells written (clauses_at F core.core)))
+  pub mus_10 : (options : List Word) → Gives (codes "mus" ∷ []) [] options 10
+      (λ F written. (literals : List ℤ) × Answers F (Model literals) written)
+  pub verify : (answer : Input) → Gives (codes "verify" ∷ []) (answer ∷ []) [] 0
+      (λ F written. (a : Answer) × Answers F a answer.text × (written ≡ accepted))
+  pub deficiency : Gives (codes "deficiency" ∷ []) [] [] 0 WritesDeficiency
+  pub edits : (changes : Input) → Gives (codes "edits" ∷ []) (changes ∷ []) [] 0
+      (λ F written. (made : List Edit) × IsEdits F made changes.text
+      × WritesKernels (states (live_of F) made) written)
+  -- AGREEMENT, where nothing fails: `check` accepts what `reduce` writes, `verify` what `solve` and `mus`
+  -- write
+  pub accepts : (class : Class) (formula document : Input) (options : List Word) (status : ℕ) (said : List ℕ)
+      → Ran (codes "reduce" ∷ class_word class ∷ formula.name ∷ options) (formula ∷ []) 0 document.text
+      → RanWell (codes "check" ∷ formula.name ∷ document.name ∷ []) (formula ∷ document ∷ []) status said
+      → status ≡ 0
+  pub verifies : (solver : Word) (formula answer : Input) (options : List Word) (found status : ℕ)
+      (said : List ℕ) → (solver ≡ codes "solve") ⊎ (solver ≡ codes "mus")
+      → (found ≡ 0) ⊎ (found ≡ 10) ⊎ (found ≡ 20)
+      → Ran (solver ∷ formula.name ∷ options) (formula ∷ []) found answer.text
+      → RanWell (codes "verify" ∷ formula.name ∷ answer.name ∷ []) (formula ∷ answer ∷ []) status said
+      → status ≡ 0
+  -- STATUSES, where nothing fails: 1 comes exactly if the options are not valid for the command, and else 2
+  -- exactly if an input is outside its grammar. Of lawful inputs five commands end with 0, and three
+  -- commands with a result, if the budget is enough; for `solve` and `mus` it is, too, if a clause is
+  -- empty.
+  pub obeys : (command : Command) (inputs : List Input) (options : List Word) (status : ℕ)
+      → RunsWell command inputs options status
+      → (status ≡ 1) ↔ (are_options (keys_of command) options ≡ false)
+  pub refuses : (command : Command) (inputs : List Input) (options : List Word) (status : ℕ)
+      → RunsWell command inputs options status → status ≢ 1
+      → (status ≡ 2) ↔ (AreLawful command inputs → ⊥)
+  pub answers : (c : Command) (inputs : List Input) (options : List Word) (status : ℕ)
+      → (c ≡ command.ReducePure) ⊎ (c ≡ command.ReduceMatching) ⊎ (c ≡ command.Report)
+      ⊎ (c ≡ command.Deficiency) ⊎ (c ≡ command.Edits)
+      → RunsWell c inputs options status → status ≢ 1 → AreLawful c inputs → status ≡ 0
+  pub keeps : Decides command.ReduceGeneral IsEnough (0 ∷ [])
+  pub solves : Decides command.Solve IsEnoughToRefute (10 ∷ 20 ∷ [])
+  pub extracts : Decides command.Mus IsEnoughToRefute (0 ∷ 10 ∷ [])
