@@ -42,7 +42,7 @@ writes_core F r core written form limits h empty told text =
     record {
       core = made;
       writes = record { form = w.0; checks = (answer_law.shows F (Core made) w.0).1 w.1; written_is = text ∙ ap (λ (a : MusAnswer). answer_text (Core a)) told };
-      minimal = minimal_core F made w.0 w.1;
+      minimal = minimal_core F made form w.0 w.1;
       empty = empty;
     }
 

@@ -1,8 +1,9 @@
 -- How what is found of a formula is answered.
 use Rattle.std.proofs.Common.{◌≡◌, ◌∙◌, ℕ, ◌^◌, ◌<◌, true, false, List, [], ◌∷◌, Option, None, length, ℤ, refl, sym, ap, subst, arith, inl, inr}
 use Rattle.std.specs.Prelude.{is_some}
-use Rattle.lk_model.specs.Formulas.Formula.{Cnf}
+use Rattle.lk_model.specs.Formulas.Formula.{Cnf, is_formula}
 use Rattle.lk_model.specs.Formulas.Assignment.{assignment_of}
+use Rattle.lk_model.specs.Chains.Rounds.{used_positions}
 use Rattle.lk_model.specs.Checks.Checks.{IsSound, HasProgress}
 use Rattle.lk_model.specs.Documents.Text.{text_of}
 use Rattle.lk_model.specs.declared.document.Document.TheVariants.{Unfinished}
@@ -20,6 +21,7 @@ use Rattle.status_lines.specs.RunLines.{conflicts_line}
 use Rattle.command_endings.specs.Commands.Solving.{IsEnoughToRefute, WritesModel, WritesRefutation, WritesUnfinished, Answers, Decides}
 use Rattle.status_lines.specs.declared.status.Status.{Status}
 use Rattle.status_lines.specs.declared.status.Status.TheVariants.{Done, Words, Input, ReadFault, WriteFault, Budget, TooWide, TooLarge, Refused, Memory, Satisfiable, Unsatisfiable}
+use Rattle.command_endings.proofs.VerifiedAnswers.{in_kernel}
 
 -- WHAT IS WRITTEN
 
@@ -34,14 +36,14 @@ writes_model F literals written h text =
     }
 
 -- the text of a refutation
-pub writes_refutation : (options : Options) (F : Cnf) (round : Round) (written : List ℕ) → IsRefuted F options.conflicts round → written ≡ answer_text (Refuted round) → WritesRefutation options F written
-writes_refutation options F round written h text =
+pub writes_refutation : (options : Options) (F : Cnf) (round : Round) (written : List ℕ) → is_formula F ≡ true → IsRefuted F options.conflicts round → written ≡ answer_text (Refuted round) → WritesRefutation options F written
+writes_refutation options F round written formed h text =
     let form = answer_law.refutes F _ round h.refutation in
     record {
       round = round;
       writes = record { form = form; checks = (answer_law.shows F (Refuted round) form).1 h.refutation; written_is = text };
       no_model = answer_law.no_model F round h.refutation;
-      used = λ kept kernel. answer_law.used F kept round h.refutation kernel;
+      used = in_kernel F (used_positions F round) formed (λ kept kernel. answer_law.used F kept round h.refutation kernel);
       needed = h.needed;
       most = h.most;
       empty = h.empty;
@@ -79,10 +81,10 @@ pub model_answers : (options : Options) (F : Cnf) (literals : List ℤ) (status 
 model_answers options F literals status written said h is text silent =
     subst (λ (s : Status). Answers options F s written said) (sym is) (writes_model F literals written h text, silent)
 
-pub refuted_answers : (options : Options) (F : Cnf) (round : Round) (status : Status) (written said : List ℕ) → IsRefuted F options.conflicts round → status ≡ Unsatisfiable → written ≡ answer_text (Refuted round) → said ≡ []
+pub refuted_answers : (options : Options) (F : Cnf) (round : Round) (status : Status) (written said : List ℕ) → is_formula F ≡ true → IsRefuted F options.conflicts round → status ≡ Unsatisfiable → written ≡ answer_text (Refuted round) → said ≡ []
     → Answers options F status written said
-refuted_answers options F round status written said h is text silent =
-    subst (λ (s : Status). Answers options F s written said) (sym is) (writes_refutation options F round written h text, silent)
+refuted_answers options F round status written said formed h is text silent =
+    subst (λ (s : Status). Answers options F s written said) (sym is) (writes_refutation options F round written formed h text, silent)
 
 pub open_answers : (options : Options) (F : Cnf) (round : Round) (rounds : List Round) (d : OpenDocument) (status : Status) (written said : List ℕ) → IsUnfinished F options.conflicts round → rounds ≡ round ∷ []
     → d ≡ open_document_of F None options.conflicts rounds → status ≡ Budget → written ≡ text_of (Unfinished d) → said ≡ conflicts_line d.learned → Answers options F status written said

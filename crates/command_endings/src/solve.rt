@@ -32,6 +32,8 @@ pub fn answer<R: Threads + Sync, G: Gate>(
 {
     let conflicts = options.conflicts;
     let workers = options.workers.get();
+    // (by it contracts see that the formula is one)
+    let _vars = formula.vars();
     let solved = solve(rt, alloc, gate, &formula, conflicts, workers)?;
     match solved {
         Solved::Model(literals) => answered(alloc, Status::Satisfiable, Answer::Model(literals)),

@@ -18,6 +18,8 @@ pub fn answer(alloc: Global, read: &Answered, options: &Options<'_>) -> Result<E
     requires form { IsTrue (is_answer read.now.formula.vars (length read.now.formula.clauses) read.now.answer) }
     ensures { IfOk result (IsAnswer Command.Verify (values_of options.now) (read.now.formula, (read.now.answer, tt))) }
 {
+    // (by it contracts see that the formula is one)
+    let _vars = read.formula.vars();
     let why = check_answer(alloc, &read.formula, &read.answer)?;
     ending_of_verdict(alloc, verdict_by(why))
 }

@@ -75,12 +75,12 @@ use Rattle.command_endings.specs.Commands.Solving as solve
 use Rattle.command_endings.specs.Commands.Solving.{IsEnoughToRefute, WritesAnswer}
 use Rattle.command_endings.specs.Commands.Verifying as verify
 use Rattle.command_endings.proofs.SolveEndings.{not_enough}
-use Rattle.command_endings.proofs.VerifiedAnswers.{minimal_core}
+use Rattle.command_endings.proofs.VerifiedAnswers.{in_kernel, minimal_core}
 use Rattle.status_lines.specs.Statuses.{code, is_result}
 use Rattle.status_lines.specs.declared.status.Status.{Status}
 use Rattle.status_lines.specs.declared.status.Status.TheVariants.{Done, Words, Input as Refusal, ReadFault, WriteFault, Budget, TooWide, TooLarge, Refused as Failing, Memory, Satisfiable, Unsatisfiable}
 use Rattle.workbench.specs.Endings.{Ends, Allows, HasResult, IsResult, HasReadFault, DeservesStop, IsDecided, IsUnlessFailed}
-use Rattle.workbench.specs.Headline.{Input, names_of, AreShown, Ran, RanWell, Gives, BeginsWith, IsReduced, IsExtended, AreInKernel, IsTrueOf, Answers, accepted, RunsWell, AreTexts, AreLawful, Decides, Headline}
+use Rattle.workbench.specs.Headline.{Input, names_of, AreShown, Ran, RanWell, Gives, BeginsWith, IsReduced, IsExtended, IsTrueOf, Answers, accepted, RunsWell, AreTexts, AreLawful, Decides, Headline}
 use Rattle.workbench.specs.Outcomes.{AskFor}
 use Rattle.workbench.specs.WrittenAnswers.{IsVerifiedFor, AsksVerify}
 use Rattle.workbench.specs.WrittenChecks.{AsksCheck}
@@ -285,6 +285,9 @@ reduced F class d text of_class accepts reduction is = record {
   begins = begins_with F class d text of_class (has_passed (protected_by d.protect) F d accepts.checks).formula is;
   reduces = subst (λ (c : Class). ReducesBy (protected_by d.protect) c F d.kept (assignment_of d.set)) of_class reduction;
   spells = kept_spells F d text accepts is;
+  document = d;
+  text_is = is;
+  accepts = accepts;
 }
 
 writes_reduced : (F : Cnf) (class : Class) (listed : Option (List ℕ)) (pivots : ℕ) (written : List ℕ) → WritesReduction F class listed pivots written → IsReduced (protect_line_of F listed) class F written
@@ -369,22 +372,16 @@ extend_0 document model formula written run =
 
 -- ANSWERS
 
-in_kernel : (text : List ℕ) (F : Cnf) (positions : List ℕ) → Spells text F → ((kept : List ℕ) → Kernel General F kept → Within (among positions) (among kept)) → AreInKernel F positions
-in_kernel text F positions spells h =
-    let k = existence_law.general no_variable F (spelled_form text F spells) in
-    let kernel = (empty_law.kernel General F k.0).0 k.1 in
-    record { kept = k.0; kernel = kernel; within = h k.0 kernel }
-
 -- what an answer says where no check fails
 is_true_of : (text : List ℕ) (F : Cnf) (a : Answer) → Spells text F → IsTrue (is_answer F.vars (length F.clauses) a) → first_failure_of_answer F a ≡ None → IsTrueOf F a
 is_true_of text F (Model literals) spells form none = record { total = (answer_law.total F.vars (length F.clauses) literals).0 form; model = (answer_law.shows F (Model literals) form).0 none }
 is_true_of text F (Refuted round) spells form none =
     let shown = (answer_law.shows F (Refuted round) form).0 none in
-    record { steps = shown; no_model = answer_law.no_model F round shown; used = in_kernel text F (used_positions F round) spells (λ kept kernel. answer_law.used F kept round shown kernel) }
+    record { steps = shown; no_model = answer_law.no_model F round shown; used = in_kernel F (used_positions F round) (spelled_form text F spells) (λ kept kernel. answer_law.used F kept round shown kernel) }
 is_true_of text F (Core core) spells form none =
     let shown = (answer_law.shows F (Core core) form).0 none in
-    let m = minimal_core F core form shown in
-    record { positions = m.positions; minimal = m.minimal; shown = shown; used = in_kernel text F core.core spells m.kernel }
+    let m = minimal_core F core (spelled_form text F spells) form shown in
+    record { positions = m.positions; minimal = m.minimal; shown = shown; used = m.kernel }
 
 is_answered : (text : List ℕ) (F : Cnf) (a : Answer) (written : List ℕ) → Spells text F → WritesAnswer F a written → Answers F a written
 is_answered text F a written spells w = record { text_is = record { form = w.form; text = w.written_is }; is_true = is_true_of text F a spells w.form w.checks }

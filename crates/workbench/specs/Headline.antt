@@ -29,9 +29,12 @@ use Rattle.lk_model.specs.Texts.Lines.{Word}
 use Rattle.lk_model.specs.Texts.ModelText.{model_of}
 use Rattle.lk_model.specs.Texts.PlainText.{line, ended, number_words, literal_words}
 use Rattle.lk_model.specs.Chains.Rounds.{used_positions}
-use Rattle.lk_model.specs.Documents.Text.{class_word, comment, first_lines}
+use Rattle.lk_model.specs.Documents.Text.{class_word, comment, first_lines, text_of}
+use Rattle.lk_model.specs.Checks.Checks.{Accepts}
 use Rattle.lk_model.specs.declared.class.Class.{Class}
 use Rattle.lk_model.specs.declared.class.Class.TheVariants.{General}
+use Rattle.lk_model.specs.declared.document.DoneDocument.{DoneDocument}
+use Rattle.lk_model.specs.declared.document.Document.TheVariants.{Done as Finished}
 use Rattle.lk_model.specs.declared.document.MusAnswer.{MusAnswer}
 use Rattle.lk_model.specs.declared.document.Round.{Round}
 use Rattle.lk_outside.specs.Causes.{Rose}
@@ -57,6 +60,7 @@ use Rattle.command_endings.specs.Commands.GeneralReducing.{IsEnough}
 use Rattle.command_endings.specs.Commands.Measuring.{WritesDeficiency}
 use Rattle.command_endings.specs.Commands.Reporting.{WritesReport}
 use Rattle.command_endings.specs.Commands.Solving.{IsEnoughToRefute}
+use Rattle.command_endings.specs.Commands.Verifying.{AreInKernel}
 use Rattle.status_lines.specs.declared.status.Status.{Status}
 use Rattle.workbench.specs.Endings.{Shelved, Sunk, Ends, IsDecided, IsUnlessFailed}
 
@@ -120,16 +124,20 @@ BeginsWith F class protect kept set text = (others : List (List Word)) × (text 
     ++ comment (codes "keep") (ended (number_words kept))
     ∷ comment (codes "set") (literal_words set) ∷ others))
 
--- It is a document of the class, with protected variables P, kept positions K, and literals that φ makes
--- true. K is the largest lean set of F under P. φ is an autarky of the class on F, sets no variable of P
--- and touches exactly the clauses outside K. Each model of K, overridden by φ, is one of F. Up to 2^30
--- bytes the text is DIMACS of the clauses at K.
+-- It begins as a document of the class does, with protected variables P, kept positions K, and literals that
+-- φ makes true. K is the largest lean set of F under P. φ is an autarky of the class on F, sets no variable
+-- of P and touches exactly the clauses outside K. Each model of K, overridden by φ, is one of F. Up to 2^30
+-- bytes the text is DIMACS of the clauses at K. It is the text of a document that no check of F refuses
+-- (`text_of` and `Accepts` may stay shut: they are about the certificate).
 pub record IsReduced (protect : Option (List ℕ)) (class : Class) (F : Cnf) (text : List ℕ) : Type 0 where
   pub kept : List ℕ
   pub set : List ℤ
   pub begins : BeginsWith F class protect kept set text
   pub reduces : ReducesBy (protected_by protect) class F kept (assignment_of set)
   pub spells : length text ≤ max_bytes → Spells text (clauses_at F kept)
+  pub document : DoneDocument
+  pub text_is : text ≡ text_of (Finished document)
+  pub accepts : Accepts F document
 
 -- a literal for each variable, and together they satisfy each clause
 pub record AreModel (F : Cnf) (literals : List ℤ) : Type 0 where
@@ -153,12 +161,6 @@ pub record IsExtended (F : Cnf) (document model written : List ℕ) : Type 0 whe
   pub protected : (v : ℕ) → IsTrue (protected_by protect v)
       → extended_value (assignment_of set) (assignment_of given) v ≡ unwrap_or (assignment_of given v) false
   pub written_is : written ≡ model_line literals
-
--- The positions are in the general kernel of F, which has one.
-pub record AreInKernel (F : Cnf) (positions : List ℕ) : Type 0 where
-  pub kept : List ℕ
-  pub kernel : Kernel General F kept
-  pub within : Within (among positions) (among kept)
 
 -- Each step states the clause of its chain over the clauses of F, and the last one is empty. F has no
 -- model.

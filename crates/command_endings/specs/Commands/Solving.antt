@@ -1,15 +1,12 @@
 -- The command `solve`.
 use Rattle.std.specs.Prelude.{◌≡◌, ◌⊎◌, ℕ, ◌^◌, ◌≤◌, ◌<◌, List, [], ◌∷◌, length, ℤ, None, is_some, IfSome, IsTrue}
-use Rattle.lk_model.specs.Lists.{among}
 use Rattle.lk_model.specs.Formulas.Formula.{Cnf}
 use Rattle.lk_model.specs.Formulas.Assignment.{assignment_of}
-use Rattle.lk_model.specs.Formulas.Autarky.{Within}
-use Rattle.lk_model.specs.Formulas.Lean.{Kernel, all_of}
+use Rattle.lk_model.specs.Formulas.Lean.{all_of}
 use Rattle.lk_model.specs.Formulas.Minimal.{IsSatisfiable, IsUnsatisfiable}
 use Rattle.lk_model.specs.Chains.Rounds.{used_positions, is_trimmed}
 use Rattle.lk_model.specs.Checks.RoundChecks.{learned_steps}
 use Rattle.lk_model.specs.Reduction.{IsModel, IsUnfinishedText}
-use Rattle.lk_model.specs.declared.class.Class.TheVariants.{General}
 use Rattle.lk_model.specs.declared.document.Round.{Round}
 use Rattle.kernel_solve.specs.EmptyClause.{first_empty, empty_round}
 use Rattle.kernel_solve.specs.Solutions.{RefutesIn, StopsIn}
@@ -19,6 +16,7 @@ use Rattle.answer_check.specs.declared.answer.Answer.{Answer}
 use Rattle.answer_check.specs.declared.answer.Answer.TheVariants.{Model, Refuted}
 use Rattle.command_words.specs.Settings.{Options}
 use Rattle.status_lines.specs.RunLines.{conflicts_line}
+use Rattle.command_endings.specs.Commands.Verifying.{AreInKernel}
 use Rattle.status_lines.specs.declared.status.Status.{Status}
 use Rattle.status_lines.specs.declared.status.Status.TheVariants.{Budget, Satisfiable, Unsatisfiable}
 
@@ -58,7 +56,7 @@ pub record WritesRefutation (options : Options) (F : Cnf) (written : List ℕ) :
   pub round : Round
   pub writes : WritesAnswer F (Refuted round) written
   pub no_model : HasNoModel F
-  pub used : (kept : List ℕ) → Kernel General F kept → Within (among (used_positions F round)) (among kept)
+  pub used : AreInKernel F (used_positions F round)
   pub needed : IsTrue (is_trimmed round)
   pub most : length (learned_steps (round ∷ [])) ≤ options.conflicts
   pub empty : IfSome (first_empty F) (λ p. round ≡ empty_round F p)

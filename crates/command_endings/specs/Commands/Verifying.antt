@@ -29,10 +29,16 @@ verdict_by (Some why) = verdict.No why
 abbrev pub verdict_of : Cnf → AnyAnswer → Verdict
 verdict_of F a = verdict_by (first_failure_of_answer F a)
 
+-- the positions are in the general kernel of the formula, which has one
+pub record AreInKernel (F : Cnf) (positions : List ℕ) : Type 0 where
+  pub kept : List ℕ
+  pub kernel : Kernel General F kept
+  pub within : Within (among positions) (among kept)
+
 -- a refutation shows that the formula has no model, and the positions that it uses are in the general kernel
 pub record IsRefuted (F : Cnf) (round : Round) : Type 0 where
   pub no_model : IsUnsatisfiable F (all_of F)
-  pub used : (kept : List ℕ) → Kernel General F kept → Within (among (used_positions F round)) (among kept)
+  pub used : AreInKernel F (used_positions F round)
 
 -- A core is positions, ascending. It shows that the formula has no model: its clauses have none, each smaller set of them has
 -- one, and they are in the general kernel.
@@ -40,7 +46,7 @@ pub record IsMinimalCore (F : Cnf) (core : List ℕ) : Type 0 where
   pub positions : IsTrue (are_positions F core)
   pub no_model : IsUnsatisfiable F (all_of F)
   pub minimal : IsMinimallyUnsatisfiable F (among core)
-  pub kernel : (kept : List ℕ) → Kernel General F kept → Within (among core) (among kept)
+  pub kernel : AreInKernel F core
 
 -- What an accepted answer shows, whoever made it: its literals satisfy each clause, or the formula has no model, or besides the
 -- core is minimally unsatisfiable.

@@ -39,7 +39,7 @@ returns-in-Refuted g c =
     by_three (λ e. e.status ≡ Unsatisfiable) (λ e. e.written.items ≡ answer_text (Refuted round)) (λ e. e.said.items ≡ []) (IsAnswer Solve options (F, tt)) c.answered-in-Refuted.result c.answered-in-Refuted.ensures.status c.answered-in-Refuted.ensures.written c.answered-in-Refuted.ensures.said
     (λ e status written said. record {
       result = subst (λ (s : Status). IsTrue (is_result s)) (sym status) refl;
-      answers = refuted_answers options F round e.status e.written.items e.said.items h status written said;
+      answers = refuted_answers options F round e.status e.written.items e.said.items c.vars-vars.ensures.formula h status written said;
     })
 
 pub returns-in-Unfinished : goal.returns-in-Unfinished

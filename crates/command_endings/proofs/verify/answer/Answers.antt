@@ -18,5 +18,5 @@ returns c =
     by_three (λ e. e.status ≡ verdict_status v) (λ e. e.written.items ≡ line (verdict_words v)) (λ e. e.said.items ≡ []) (IsAnswer Verify (values_of c.args.options.now) (F, (a, tt))) c.ending_of_verdict.result c.ending_of_verdict.ensures.status c.ending_of_verdict.ensures.written c.ending_of_verdict.ensures.said
     (λ e status written said. record {
       result = verdict_result v e.status status;
-      answers = verified_answers F a c.in_ok-why.why v e.status e.written.items e.said.items c.requires.form c.in_ok-why.ensures c.verdict_by.ensures status written said;
+      answers = verified_answers F a c.in_ok-why.why v e.status e.written.items e.said.items c.vars-vars.ensures.formula c.requires.form c.in_ok-why.ensures c.verdict_by.ensures status written said;
     })
