@@ -3,11 +3,13 @@
 
     bench/route.py              the number of lines for each question
     bench/route.py QUESTION     the files to read for one of them, in their order, with the lines in each
+    bench/route.py QUESTION --text      the definitions themselves, in that order
 
 `Headline` (crates/workbench/specs/Headline.antt) is the claim of leank in one record. Each question needs some of its fields,
 and the definitions that these cite, down to the kit's. A definition counts with its comment; `use` lines and blank lines
-do not. The definitions in SHUT need not be opened: they stand in the claim and in the clauses of `run` alike. A type of the
-sources counts as it is declared there, without derives. Definitions of the kit (std) do not count.
+do not. The definitions in SHUT need not be opened: they stand in the claim and in the clauses of `run` alike. Those in
+CERTIFICATE say what a certificate is, which the question `certificates` opens. A type of the sources counts as it is
+declared there, without derives. Definitions of the kit (std) do not count.
 """
 import os
 import re
@@ -16,11 +18,13 @@ import sys
 TOP = os.path.dirname(os.path.dirname(os.path.abspath(__file__)))
 CLAIM = ("workbench", ("Headline",))
 SHUT = {"Ends", "IsDecided", "IsUnlessFailed", "request_of"}
+CERTIFICATE = {"Accepts", "text_of", "DoneDocument", "Document"}
 # What an input may be is told by these, each of which another question opens: for `statuses` they stay shut.
 GRAMMARS = {"Document", "is_in_form", "text_of", "model_of", "Answer", "IsAnswerText", "Edit", "IsEdits"}
 QUESTIONS = {
     "reduce": ["reduce"],
     "check": ["check"],
+    "certificates": ["check"],
     "extend": ["extend"],
     "report": ["report"],
     "solve": ["solve_10", "solve_20"],
@@ -219,23 +223,53 @@ def head_of(file):
         return next(at for at, line in enumerate(it) if not line.startswith("--"))
 
 
-def files_of(house, question):
+def needed(house, question):
+    """The definitions of a question, and its fields of the claim."""
     every = [name for names in QUESTIONS.values() for name in names]
-    shut = SHUT | GRAMMARS if question == "statuses" else SHUT
-    order, claim = house.closure(QUESTIONS.get(question, every), shut)
+    shut = SHUT if question in ("certificates", "all") else SHUT | CERTIFICATE
+    shut = shut | GRAMMARS if question == "statuses" else shut
+    return house.closure(QUESTIONS.get(question, every), shut)
+
+
+def files_of(house, question):
+    order, claim = needed(house, question)
     lines, blocks = {}, {}
     for block in [*order, claim]:
         lines[block.file] = lines.get(block.file, 0) + len(block.lines)
         blocks.setdefault(block.file, []).append(block.where[2])
     lines[claim.file] += head_of(claim.file)
-    place = {crate: at for at, crate in enumerate(house.order)}
-    at = {file: k for k, file in enumerate(lines)}
-    crate_of = lambda file: os.path.relpath(file, f"{TOP}/crates").split("/")[0]
-    files = sorted(lines, key=lambda file: (place[crate_of(file)], at[file]))
+    files = in_order(house, [*order, claim], lines)
     return [(file, lines[file], blocks[file]) for file in files]
 
 
-def main(question=None):
+def in_order(house, blocks, files):
+    """The files, each behind those that it cites; of several that may come next, the one of the lowest crate."""
+    place = {crate: at for at, crate in enumerate(house.order)}
+    crate_of = lambda file: os.path.relpath(file, f"{TOP}/crates").split("/")[0]
+    below = {file: set() for file in files}
+    for block in blocks:
+        others = house.cited(block, block.lines if block.where[2] == "Headline" else None)
+        below[block.file] |= {other.file for other in others if other and other.file in below and other.file != block.file}
+    left, ordered = list(files), []
+    while left:
+        ready = [file for file in left if below[file] <= set(ordered)] or left
+        ordered.append(min(ready, key=lambda file: (place[crate_of(file)], left.index(file))))
+        left.remove(ordered[-1])
+    return ordered
+
+
+def show(house, question):
+    """Prints the definitions of a question, file by file."""
+    files = files_of(house, question)
+    order, claim = needed(house, question)
+    for file, _, _ in files:
+        print(f"\n==== {os.path.relpath(file, TOP)}")
+        for block in [*order, claim]:
+            if block.file == file:
+                print("\n" + "\n".join(block.lines))
+
+
+def main(question=None, how=None):
     house, questions = House(), [*QUESTIONS, "all"]
     if question is None:
         for name in questions:
@@ -245,6 +279,9 @@ def main(question=None):
     if question not in questions:
         print(f"route.py: one of {', '.join(questions)}", file=sys.stderr)
         return 2
+    if how == "--text":
+        show(house, question)
+        return 0
     files = files_of(house, question)
     for file, count, names in files:
         print(f"{count:5}  {os.path.relpath(file, TOP)}: {', '.join(names)}")
@@ -253,4 +290,4 @@ def main(question=None):
 
 
 if __name__ == "__main__":
-    sys.exit(main(*sys.argv[1:2]))
+    sys.exit(main(*sys.argv[1:3]))
