@@ -1,5 +1,5 @@
 #!/usr/bin/env python3
-"""Compares `solve` and `verify` with SAT solvers and with a judge of answers.
+"""Compares `solve` and `verify` with SAT solvers and with judge.py.
 
     bench/comparing.py LEANK [COUNT]
     bench/comparing.py LEANK tools [KIND ...]
@@ -9,8 +9,8 @@ minisat, cadical and picosat; `tools` needs yosys and berkeley-abc too. The firs
 the second those of tool_formulas.py. Of each formula:
 
 - the status is that of the solvers, with one worker and with two, and with a small budget if that is enough;
-- the judge accepts the answer, each step of a refutation is needed, and no more clauses are learned than were allowed;
-- `verify` says of the answer, and of forged ones, what the judge says;
+- judge.py accepts the answer, each step of a refutation is needed, and no more clauses are learned than were allowed;
+- `verify` says of the answer, and of forged ones, what judge.py says;
 - a refutation uses clauses of the general kernel alone;
 - `check` says of an unfinished document that it is unfinished, with the budget as its number.
 
@@ -23,10 +23,11 @@ import sys
 import tempfile
 from collections import Counter, namedtuple
 
+import judge
 import tool_formulas
-from answers import bytes_of, drawn_change, drawn_forgery, judge, judged, read_formula, shown, used_numbers, verify_prints
-from formulas import (adders, counter, drawn_clause, machine, parity, pebbles, pigeons, random_three, shuffled,
-                      side_by_side, write)
+from forging import drawn_change, drawn_forgery
+from formulas import (adders, counter, drawn_clause, formula_text, machine, parity, pebbles, pigeons, random_three, shuffled,
+                      side_by_side)
 
 SEED = 1
 BUDGET = 100000
@@ -147,6 +148,11 @@ def odd_text(draw, variables, clauses):
     return "\n".join(lines + draw.choice(([], ["%"], ["%", "0"], ["c end"]))) + draw.choice(("", "\n"))
 
 
+def bytes_of(name):
+    with open(name, "rb") as file:
+        return file.read()
+
+
 def ended(words):
     """How a command ends, and what it prints."""
     done = subprocess.run(words, capture_output=True, timeout=SECONDS)
@@ -189,7 +195,7 @@ class Comparison:
 
     def formula(self, kind, draw, file, plain):
         """Compares what is answered to the formula of a file, which stands in a plain file too."""
-        formula, status = read_formula(bytes_of(file)), self.solvers(kind, plain)
+        formula, status = judge.read_formula(bytes_of(file)), self.solvers(kind, plain)
         self.counts[f"solvers {status}"] += 1
         small = draw.choice((1, 2, 3, 5, 10, 30, 100))
         for options in ({}, {"--workers": 2}, {"--conflicts": small}, {"--conflicts": small, "--workers": 3}):
@@ -204,31 +210,30 @@ class Comparison:
         text = self.put("answer", found.out)
         self.expect(found.status == expected, f"{kind}: status {found.status}, not {expected}", file)
         self.expect(found.say == b"", f"{kind}: says {found.say}", file)
-        verdict, reading = judged(formula, found.out)
-        self.expect(verdict.status == 0, f"{kind}: the answer is {shown(verdict)}", file, text)
-        if verdict.status != 0:
+        said = judge.verify(formula, found.out)
+        self.expect(said[2] == 0, f"{kind}: the judge says {said}", file, text)
+        if said[2] != 0:
             return
-        self.expect((reading.model is None) == (expected == 20), f"{kind}: another answer than the status", file, text)
-        self.verified(kind, file, found.out, verdict)
-        if reading.model is None:
-            self.refutation(kind, file, formula, reading, budget)
+        reading = judge.read_answer(found.out, formula.n, formula.m)
+        self.expect((reading.kind == "refutation") == (expected == 20), f"{kind}: another answer than the status", file, text)
+        self.verified(kind, file, formula, found.out)
+        if reading.kind == "refutation":
+            self.refutation(kind, file, formula, reading.rounds[0], budget)
         for forged in (drawn_forgery, drawn_change) * FORGED:
-            other = forged(draw, found.out)
-            self.verified(kind + " forged", file, other, judge(formula, other))
+            self.verified(kind + " forged", file, formula, forged(draw, found.out))
 
-    def verified(self, kind, file, text, verdict):
-        """Compares what `verify` says of a text with the verdict."""
+    def verified(self, kind, file, formula, text):
+        """Compares what `verify` says of a text with what judge.py says."""
         name = self.put("verified", text)
         found = self.run("verify", file, name)
-        written, said = verify_prints(verdict)
+        line, fault, status = judge.verify(formula, text)
+        written, said = (f"{told}\n".encode() if told else b"" for told in (line, fault))
         self.counts[f"verify {found.status}"] += 1
-        same = found == Ended(verdict.status, written.encode(), said.encode())
-        self.expect(same, f"{kind}: verify {found}, not {shown(verdict)}", file, name)
+        self.expect(found == Ended(status, written, said), f"{kind}: verify {found}, the judge {line or fault}", file, name)
 
-    def refutation(self, kind, file, formula, reading, budget):
-        used, last = used_numbers(reading.steps), reading.steps[-1].number
-        given = len(formula[1])
-        self.expect(all(step.number in used for step in reading.steps), f"{kind}: a step is not needed", file)
+    def refutation(self, kind, file, formula, steps, budget):
+        used, last, given = judge.reached(steps), steps[-1].number, formula.m
+        self.expect(all(step.number in used for step in steps), f"{kind}: a step is not needed", file)
         self.expect(last - given - 1 <= budget, f"{kind}: {last - given - 1} clauses learned", file)
         found = self.run("reduce", "general", file, "--conflicts", str(BUDGET))
         if found.status == 0:
@@ -241,7 +246,7 @@ class Comparison:
         """Compares an unfinished document: its number, its one round, and what `check` says of it."""
         name = self.put("document", found.out)
         self.expect(found.say == b"leank: budget of %d conflicts used\n" % budget, f"{kind}: says {found.say}", file)
-        self.expect(budget < 3 ** formula[0], f"{kind}: unfinished within 3^n", file)
+        self.expect(budget < 3 ** formula.n, f"{kind}: unfinished within 3^n", file)
         lines = found.out.split(b"\n")
         right = lines[0] == b"c leank 1 unfinished" and b"c learned %d" % budget in lines and lines.count(b"c round") == 1
         self.expect(right, f"{kind}: another document", file, name)
@@ -256,12 +261,10 @@ class Comparison:
             kind = list(DRAWN)[number % len(DRAWN)]
             draw = random.Random(f"{SEED} {number}")
             variables, clauses = DRAWN[kind](draw)
-            plain = os.path.join(self.folder, "plain")
-            with open(plain, "w") as out:
-                write(out, variables, clauses)
+            plain = self.put("plain", formula_text(variables, clauses))
             odd = self.put("formula", odd_text(draw, variables, clauses).encode())
-            read = read_formula(bytes_of(odd))
-            if read != (variables, [tuple(clause) for clause in clauses]):
+            read = judge.read_formula(bytes_of(odd))
+            if (read.n, list(read.clause.values())) != (variables, clauses):
                 sys.exit(f"{kind}: the text is of another formula")
             self.formula(f"{number} {kind}", draw, odd, plain)
 

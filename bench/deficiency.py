@@ -20,8 +20,8 @@ import subprocess
 import sys
 import tempfile
 
-from answers import read_formula
 from formulas import drawn_clause, write
+from judge import read_formula
 
 SEED = 1
 VARIABLES = 7
@@ -124,13 +124,19 @@ def drawn(draw):
     return variables, clauses
 
 
+def judge_of(formula_text, text):
+    """The same for the text of a formula."""
+    formula = read_formula(formula_text)
+    return judge(formula.n, list(formula.clause.values()), text)
+
+
 def differs(leank, path):
     """What is wrong with what leank says of the formula in a file, or nothing."""
     ended = subprocess.run([leank, "deficiency", path], stdout=subprocess.PIPE, stderr=subprocess.PIPE)
     if ended.returncode or ended.stderr:
         return f"status {ended.returncode}, {ended.stderr.decode()!r}"
     with open(path, "rb") as formula:
-        return judge(*read_formula(formula.read()), ended.stdout)
+        return judge_of(formula.read(), ended.stdout)
 
 
 def compare(leank, count):
@@ -154,7 +160,7 @@ def compare(leank, count):
 def main(words):
     if words[:1] == ["judge"] and len(words) == 3:
         with open(words[1], "rb") as formula, open(words[2], "rb") as text:
-            print(judge(*read_formula(formula.read()), text.read()) or "accepted")
+            print(judge_of(formula.read(), text.read()) or "accepted")
         return 0
     if words and words[0] != "judge" and len(words) <= 2:
         return compare(words[0], int(words[1]) if len(words) == 2 else 2000)

@@ -27,9 +27,9 @@ import sys
 import tempfile
 from collections import namedtuple
 
-from answers import read_formula
 from deficiency import matching_kernel
 from formulas import drawn_clause, write
+from judge import read_formula
 
 SEED = 1
 EDITS = 50
@@ -373,8 +373,9 @@ def main(words):
     if len(words) == 2 and words[0] in kinds:
         return kinds[words[0]](words[1])
     if len(words) == 3 and words[0] == "answer":
-        with open(words[1], "rb") as formula, open(words[2], "rb") as text:
-            found = answer(*read_formula(formula.read()), text.read())
+        with open(words[1], "rb") as file, open(words[2], "rb") as text:
+            formula = read_formula(file.read())
+            found = answer(formula.n, list(formula.clause.values()), text.read())
         sys.stdout.buffer.write(found.written)
         sys.stderr.buffer.write(found.said)
         return found.status

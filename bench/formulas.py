@@ -9,6 +9,11 @@ def write(out, variables, clauses):
         out.write(" ".join(map(str, [*clause, 0])) + "\n")
 
 
+def formula_text(variables, clauses):
+    """The same as bytes."""
+    return "".join([f"p cnf {variables} {len(clauses)}\n", *(" ".join(map(str, [*clause, 0])) + "\n" for clause in clauses)]).encode()
+
+
 def drawn_clause(draw, variables, width):
     """A clause on so many variables out of these, of which each sign is drawn."""
     return [v if draw.random() < 0.5 else -v for v in draw.sample(variables, width)]

@@ -7,7 +7,7 @@
 LEANK is the built program (`dist/leank`). GROUP is `yosys`, `abc`, `z3`, `drawn` or
 `built`; without it all are counted. Needs python3 and Debian's packages minisat and cadical; for the groups of tools yosys,
 berkeley-abc and z3 too. The first prints a row of tab-separated words for each formula, as in bench/figures/gains.tsv; `table`
-prints such a file as the tables of docs/GAINS.md.
+prints such a file as tables, from which docs/GAINS.md has some rows.
 
 A row has the formula's occurring variables and clauses, and for each class how many of both are removed; or why there is no
 document: `time` where a run took more than N seconds (by default 10), and else the status. The same follows of what minisat
@@ -283,14 +283,11 @@ def count(leank, words):
 
 
 def share(removed, whole):
-    """A share of a whole in percent, where there is one."""
+    """A share of a whole in percent, or why there is none."""
     if not removed.isdigit():
-        return {"time": "no answer in time", "status 5": "budget used up", "status 6": "numbers too wide",
-                "status 7": "rows too large", "decided": "decided"}.get(removed, removed)
-    if removed == "0":
-        return "0"
+        return {"status 5": "budget", "status 6": "wide", "status 7": "large"}.get(removed, removed)
     percent = 100 * int(removed) / int(whole)
-    return "all" if percent == 100 else f"{percent:.1f} %" if percent >= 0.1 else "under 0.1 %"
+    return "all" if percent == 100 else f"{percent:.1f}" if percent >= 0.1 else "<0.1" if percent else "0"
 
 
 def grouped(number):
@@ -303,15 +300,16 @@ def table(file):
     rows = [dict(zip(rows[0], row)) for row in rows[1:]]
     for group in Counter(row["group"] for row in rows):
         print(f"\n{group}\n")
-        print("| formula | variables, clauses | pure | matching | linear | general | simplified | minisat | cadical |")
+        print("| formula | clauses | pure | matching | linear | general | simplified | minisat | cadical |")
         print("|---|---|---|---|---|---|---|---|---|")
         for row in (row for row in rows if row["group"] == group):
-            words = [row["formula"], f"{grouped(row['variables'])}, {grouped(row['clauses'])}"]
+            words = [row["formula"], grouped(row["clauses"])]
             for name in [*CLASSES, "simplified"]:
-                clauses, variables = share(row[f"{name} clauses"], row["clauses"]), share(row[f"{name} variables"], row["variables"])
-                words.append(clauses if clauses == variables else f"{clauses}; {variables}" if clauses != "-" else variables)
+                removed = row[f"{name} clauses"]
+                words.append(share(row[f"{name} variables"] if removed == "-" else removed, row["clauses"]))
             for solver in ("minisat", "cadical"):
-                words.append(f"{grouped(row[solver + ' formula'])} to {grouped(row[solver + ' kernel'])}")
+                before, after = grouped(row[f"{solver} formula"]), grouped(row[f"{solver} kernel"])
+                words.append(before if before == after else f"{before}→{after}")
             print("| " + " | ".join(words) + " |")
 
 

@@ -7,9 +7,12 @@
 The first prints what is wrong, and its status is 1 then:
 
 - in crates.txt a crate stands before one that it stands on, or a crate has no folder or a folder no crate;
-- the checks, behind the wall, stand on more than the ground, the texts and themselves, or a floor below the roof stands on them;
+- a check, behind the wall, uses a reducer, a reader, a printer, a log or a search, itself or through others: it may use other checks,
+  laws, and what SHARED and EXCEPT name, and an exception that nothing needs is wrong too;
+- a floor below the roof stands on a check;
+- one of the floors APART, with a reducer or the search, uses another of them;
 - a crate that is no test stands on one that is;
-- the tables of docs/ARCHITECTURE.md have other crates or another order, or the README has other floors;
+- the tables of docs/ARCHITECTURE.md have other crates or another order, or not two columns, or its heads are other floors;
 - docs/house.svg is not the picture of crates.txt.
 
 `draw` draws that picture: the crates as the floors of a house (SVG), from the lowest floor up, and the tests below the ground.
@@ -23,6 +26,22 @@ from house_picture import picture
 
 TOP = os.path.dirname(os.path.dirname(os.path.abspath(__file__)))
 PICTURE = "docs/house.svg"
+WALL = "the wall"
+# Floors that do not know each other.
+APART = ("pure", "matching", "linear", "search")
+# What the checks use that other crates use too, beside laws: a fault in one of these may stand on both sides of the wall.
+SHARED = {
+    "lk_model": "the types and the definitions",
+    "lk_outside": "the gate that halves of work enter",
+    "par_halves": "work on a list in halves on threads",
+    "partial_assign": "whether literals satisfy a clause",
+}
+# What one check alone may use beside these, with all that it stands on.
+EXCEPT = {
+    ("check_linear", "exact_rows"): "sums of exact numbers; what they are is proved of them, and the run of the reducer is not there",
+    ("lean_checker", "itoa"): "the digits of a number in the line of a verdict",
+    ("answer_check", "answer_text"): "no check of its own: it hands out the texts of answers beside their checks",
+}
 
 
 def read(name):
@@ -52,16 +71,32 @@ def wrong_order(floors):
             seen.add(crate)
 
 
-def wrong_walls(floors):
+def reached(every, name):
+    """A crate and all that it stands on, those of the kit too."""
+    return {name}.union(*(reached(every, below) for below in every.get(name, ())))
+
+
+def wrong_wall(floors):
+    every = {crate: uses for crates in floors.values() for crate, uses in crates.items()}
+    used = {(crate, below) for crate, uses in floors[WALL].items() for below in uses if below not in floors[WALL]}
+    yield from (f"bench/house.py: {crate} does not use {below}, so this is no exception" for crate, below in sorted(EXCEPT.keys() - used))
+    for crate, below in sorted(used - EXCEPT.keys()):
+        for name in sorted(reached(every, below)):
+            if name not in SHARED and not (name in every and name.endswith("_laws")):
+                through = "" if name == below else f" through {below}"
+                yield f"crates.txt: {crate} is behind the wall, and uses {name}{through}"
+
+
+def wrong_floors(floors):
     floor_of = {crate: floor for floor, crates in floors.items() for crate in crates}
     for floor, crates in floors.items():
         for crate, uses in crates.items():
-            for below in (floor_of[name] for name in uses if name in floor_of):
-                if floor == "the wall" and below not in ("ground", "texts", "the wall"):
-                    yield f"crates.txt: {crate} is behind the wall, and stands on the floor {below}"
-                if below == "the wall" and floor not in ("the wall", "roof", "tests"):
-                    yield f"crates.txt: {crate} stands on a check"
-                if below == "tests" and floor != "tests":
+            for below in uses:
+                if floor_of.get(below) == WALL and floor not in (WALL, "roof", "tests"):
+                    yield f"crates.txt: {crate} uses {below}, which is behind the wall"
+                if floor in APART and floor_of.get(below) in APART and floor_of[below] != floor:
+                    yield f"crates.txt: {crate} uses {below}, which is on the floor {floor_of[below]}"
+                if floor_of.get(below) == "tests" and floor != "tests":
                     yield f"crates.txt: {crate} stands on a test"
 
 
@@ -74,7 +109,9 @@ def wrong_folders(floors):
 
 def wrong_pages(floors):
     listed = [crate for crates in floors.values() for crate in crates]
-    told = re.findall(r"^\| \[(\w+)\]\(\.\./crates/\1/README\.md\) \|", read("docs/ARCHITECTURE.md"), re.M)
+    rows = re.findall(r"^\| \[(\w+)\]\(\.\./crates/\1/README\.md\) \|(.*)\|$", read("docs/ARCHITECTURE.md"), re.M)
+    yield from (f"docs/ARCHITECTURE.md: the row of {crate} has not two columns" for crate, does in rows if not does.strip() or "|" in does)
+    told = [crate for crate, _ in rows]
     if told != listed:
         at = next((i for i, (a, b) in enumerate(zip(told, listed)) if a != b), min(len(told), len(listed)))
         yield f"docs/ARCHITECTURE.md: row {at + 1} of the map is {told[at:at + 1]}, and not {listed[at:at + 1]}"
@@ -83,9 +120,6 @@ def wrong_pages(floors):
     named = [line[2:] for line in read("crates.txt").splitlines() if line.startswith("# ")]
     if heads != named:
         yield f"docs/ARCHITECTURE.md: the heads of the floors are not those of crates.txt: {sorted(set(heads) ^ set(named))}"
-    rows = re.findall(r"^\| \*\*([\w ]+)\*\* \|", read("README.md"), re.M)
-    if rows != list(floors):
-        yield f"README.md: the rows of the floors are {rows}, and not {list(floors)}"
 
 
 def wrong_picture():
@@ -104,7 +138,7 @@ def main():
     if sys.argv[1:]:
         sys.exit(__doc__)
     floors = floors_of(read("crates.txt"))
-    wrong = [*wrong_order(floors), *wrong_walls(floors), *wrong_folders(floors), *wrong_pages(floors), *wrong_picture()]
+    wrong = [*wrong_order(floors), *wrong_wall(floors), *wrong_floors(floors), *wrong_folders(floors), *wrong_pages(floors), *wrong_picture()]
     print("\n".join(wrong) or f"{len(floors)} floors, {sum(map(len, floors.values()))} crates: all is told as it is")
     return 1 if wrong else 0
 

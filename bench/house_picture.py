@@ -10,7 +10,7 @@ LEFT, WHOLE, BEFORE, BEHIND_LEFT, BEHIND = 20, 960, 628, 672, 308
 # Between two floors; how high the way of the data is, and the gable.
 GAP, STRIP, GABLE = 8, 118, 64
 
-REDUCERS = ("pure", "matching", "linear", "general", "joining")
+REDUCERS = ("pure", "matching", "linear", "search", "general", "parts", "questions", "documents")
 
 # The colours of floors: the band, and the edges of its rooms.
 COLOURS = {
@@ -19,6 +19,7 @@ COLOURS = {
     "pure": ("#d9e9f5", "#7ba6c6"),
     "matching": ("#d6ecec", "#6fa9a8"),
     "linear": ("#dcebdc", "#7eaa80"),
+    "search": ("#e2e0f4", "#8f8ac4"),
     "general": ("#dde3f4", "#8593c4"),
     "the wall": ("#f1e3dc", "#b98a74"),
     "roof": ("#e6dcea", "#9a7fa6"),

@@ -570,19 +570,24 @@ def crossed(clause, blocked):
     return {l for l in clause if abs(l) not in blocked}
 
 
+def reached(steps):
+    """The numbers of positions and steps that are reached from the last step of a round."""
+    numbers = {steps[-1].number}
+    # A chain names smaller numbers only, so a step that is reached is known to be when it comes here.
+    for step in reversed(steps):
+        if step.number in numbers:
+            numbers.update([step.first, *(number for _, number in step.turns)])
+    return numbers
+
+
 def rounds_and_blocked(formula, found):
     """Each round, with the variables that were blocked before it; and at last no steps, with all that are blocked."""
     blocked = set(found.protected)
     for steps in found.rounds:
         yield steps, blocked
         if steps and not steps[-1].clause:
-            reached = {steps[-1].number}
-            # A chain names smaller numbers only, so a step that is reached is known to be when it comes here.
-            for step in reversed(steps):
-                if step.number in reached:
-                    reached.update([step.first, *(number for _, number in step.turns)])
             # (all variables of a used clause are blocked then: those that are crossed out of it were so before)
-            blocked.update(abs(l) for p in reached if p <= formula.m for l in formula.clause[p])
+            blocked.update(abs(l) for p in reached(steps) if p <= formula.m for l in formula.clause[p])
     yield [], blocked
 
 
@@ -680,19 +685,20 @@ def verdict(formula, found):
     return (f"unfinished {found.learned}", 5) if found.kind == "unfinished" else ("accepted", 0)
 
 
-def check(formula_text, text):
-    """What `leank check` says of a document: a line on standard output or None, one on standard error or None, the status."""
-    return judged(formula_text, lambda formula: read_document(text))
+def check(formula, text):
+    """What `leank check` says of a document: a line on standard output or None, one on standard error or None, the status.
+    The formula is a text, or what was read of one."""
+    return judged(formula, lambda formula: read_document(text))
 
 
-def verify(formula_text, text):
+def verify(formula, text):
     """What `leank verify` says of an answer, in the same way."""
-    return judged(formula_text, lambda formula: read_answer(text, formula.n, formula.m))
+    return judged(formula, lambda formula: read_answer(text, formula.n, formula.m))
 
 
-def judged(formula_text, read):
+def judged(formula, read):
     try:
-        formula = read_formula(formula_text)
+        formula = formula if isinstance(formula, Formula) else read_formula(formula)
         line, status = verdict(formula, read(formula))
         return line, None, status
     except Fault as fault:

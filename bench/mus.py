@@ -5,11 +5,11 @@
     bench/mus.py tools LEANK [KIND ...]
     bench/mus.py families LEANK [KIND ...]
 
-LEANK is the built program (`dist/leank`). `drawn` goes through so many drawn formulas,
-by default 200, and `tools` through those of tool_formulas.py, by default the small ones: the judge of cores.py accepts each core, `verify` does, minisat,
-picosat and cadical find no model of the text as it stands, and one of it without any single clause; where leank finds a model,
-so do they. Where a budget is used up, the judge accepts the document and `check` does, with itself as the formula. A core of
-more than 400 clauses is tried without 60 drawn ones. `families` measures beside picomus: the seconds of the processor to the
+LEANK is the built program (`dist/leank`). `drawn` goes through so many drawn formulas, by default 200, and `tools` through
+those of tool_formulas.py, by default the small ones: judge.py accepts each core, `verify` does, minisat, picosat and cadical
+find no model of the text as it stands, and one of it without any single clause; where leank finds a model, so do they. Where
+a budget is used up, judge.py and `check` find the document unfinished, with itself as the formula. A core of more than 400
+clauses is tried without 60 drawn ones. `families` measures beside picomus: the seconds of the processor to the
 core, the least of three runs by turns, or of one run that takes over 5 seconds, and the sizes of the cores. A run ends after
 60 seconds there. Needs python3 and Debian's packages minisat, picosat and cadical; `tools` needs yosys and berkeley-abc too.
 Nothing fails by time.
@@ -23,11 +23,10 @@ import sys
 import tempfile
 from collections import namedtuple
 
-import cores
+import judge
 import tool_formulas
-from answers import bytes_of, judge, read_formula
-from formulas import (adders, colouring, counter, drawn_clause, parity, pebbles, pigeons, random_three, shuffled,
-                      side_by_side)
+from formulas import (adders, colouring, counter, drawn_clause, formula_text, parity, pebbles, pigeons, random_three,
+                      shuffled, side_by_side)
 
 SEED = 1
 RUNS = 3
@@ -121,9 +120,9 @@ def written(folder, name, text):
     return file
 
 
-def cnf(variables, clauses):
-    lines = [f"p cnf {variables} {len(clauses)}", *(" ".join(map(str, [*clause, 0])) for clause in clauses)]
-    return "".join(line + "\n" for line in lines).encode()
+def formula_of(file):
+    with open(file, "rb") as text:
+        return judge.read_formula(text.read())
 
 
 def statuses(file):
@@ -147,34 +146,43 @@ def try_without_each(draw, name, folder, variables, clauses):
     """Without any one of them the clauses have a model."""
     places = range(len(clauses))
     for k in places if len(clauses) <= MOST_WHOLE else draw.sample(places, SOME):
-        file = written(folder, "less.cnf", cnf(variables, clauses[:k] + clauses[k + 1 :]))
+        file = written(folder, "less.cnf", formula_text(variables, clauses[:k] + clauses[k + 1 :]))
         all_say(f"{name}, without clause {k + 1} of the core", file, 10)
 
 
 def test_core(draw, leank, name, folder, file, text):
-    formula = read_formula(bytes_of(file))
-    verdict, reading = cores.judged(formula, text)
-    if verdict.status != 0:
-        sys.exit(f"{name}: the core is judged {verdict}")
+    formula = formula_of(file)
+    accepted(name, formula, text)
     core = written(folder, "core.cnf", text)
     tell_verdict(leank, name, ["verify", file, core], b"accepted\n")
     all_say(name, core, 20)
-    try_without_each(draw, name, folder, formula[0], reading.texts)
-    return len(reading.core)
+    found = judge.read_answer(text, formula.n, formula.m)
+    try_without_each(draw, name, folder, formula.n, [found.clause[p] for p in found.keep])
+    return len(found.keep)
+
+
+def accepted(name, formula, text):
+    said = judge.verify(formula, text)
+    if said != ("accepted", None, 0):
+        sys.exit(f"{name}: the judge says {said}")
 
 
 def test_model(leank, name, folder, file, text):
-    verdict = judge(read_formula(bytes_of(file)), text)
-    if verdict.status != 0:
-        sys.exit(f"{name}: the model is judged {verdict}")
+    accepted(name, formula_of(file), text)
     tell_verdict(leank, name, ["verify", file, written(folder, "model.txt", text)], b"accepted\n")
     all_say(name, file, 10)
 
 
+def is_within(some, formula):
+    """The clauses of the first formula are those of the other one, some of them left out."""
+    rest = iter(formula.clause.values())
+    return some.n == formula.n and all(any(one == other for other in rest) for one in some.clause.values())
+
+
 def test_unfinished(leank, name, folder, file, text, budget):
-    why = cores.judged_open(read_formula(bytes_of(file)), text)
-    if why:
-        sys.exit(f"{name}: the document is judged: {why}")
+    said = judge.check(text, text)
+    if said != (f"unfinished {budget}", None, 5) or not is_within(judge.read_formula(text), formula_of(file)):
+        sys.exit(f"{name}: the judge says {said}")
     document = written(folder, "open.cnf", text)
     tell_verdict(leank, name, ["check", document, document], b"unfinished %d\n" % budget)
 
@@ -205,7 +213,7 @@ def test_drawn(leank, number):
     draw, told, stopped = random.Random(SEED), {}, 0
     with tempfile.TemporaryDirectory() as folder:
         for k in range(number):
-            file = written(folder, "f.cnf", cnf(*small(draw)))
+            file = written(folder, "f.cnf", formula_text(*small(draw)))
             word = test_formula(draw, leank, f"drawn formula {k}", folder, file)
             kind = re.sub("a core.*", "a core", word)
             told[kind] = told.get(kind, 0) + 1
@@ -219,8 +227,8 @@ def test_tools(leank, kinds):
         for kind in kinds or tool_formulas.SMALL_KINDS:
             file = os.path.join(folder, "f.cnf")
             if tool_formulas.written_by(kind, file):
-                variables, clauses = read_formula(bytes_of(file))
-                print(f"{kind}: {variables} variables, {len(clauses)} clauses: "
+                formula = formula_of(file)
+                print(f"{kind}: {formula.n} variables, {formula.m} clauses: "
                       f"{test_formula(draw, leank, kind, folder, file, TOOL_SECONDS)}", flush=True)
                 os.unlink(file)
 
@@ -255,7 +263,7 @@ def measure(leank, kinds):
     with tempfile.TemporaryDirectory() as folder:
         for kind in kinds or FAMILIES:
             variables, clauses = FAMILIES[kind](random.Random(SEED))
-            file = written(folder, "f.cnf", cnf(variables, clauses))
+            file = written(folder, "f.cnf", formula_text(variables, clauses))
             found = by_turns({"leank": [leank, "mus", file, "--conflicts", BUDGET], "picomus": ["picomus", file]})
             print(f"| {kind} | {len(clauses)} | {told_run(found['leank'], 0)} | {told_run(found['picomus'], 20)} |", flush=True)
 

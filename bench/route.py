@@ -157,6 +157,10 @@ class House:
             kind = path[2] if len(path) > 2 else name
             return self.declared(crate, kind)
         module = self.modules.get((crate, path))
+        if module is None and (crate, ("Lib",)) in self.modules:
+            # a file of a lower crate that this one hands out
+            handed = self.modules[crate, ("Lib",)].aliases.get(path[0])
+            return handed and self.named(*handed, name)
         return module and module.blocks.get(name)
 
     def cited(self, block, lines=None):

@@ -10,7 +10,7 @@ run ends after 30 seconds of the processor, and `solve` may learn as many clause
 processor; in `parts`, where two workers are at work, those of the clock.
 
 `reading` is `verify` of the same answer without its last byte: it reads the formula and the whole answer, and refuses the
-last line. The judge of answers.py goes through each answer of at most 4 MB. Nothing fails by time.
+last line. judge.py judges each answer of at most 4 MB. Nothing fails by time.
 """
 import multiprocessing
 import os
@@ -22,7 +22,7 @@ import tempfile
 import time
 from collections import namedtuple
 
-import answers
+import judge
 import tool_formulas
 from formulas import (adders, counter, machine, parity, pebbles, pigeons, planted_three, random_three, shuffled,
                       side_by_side, write)
@@ -154,14 +154,13 @@ def solver_words(leank, formula, answer, *options):
     }
 
 
-def judge(kind, formula, answer):
+def judged(kind, formula, answer):
     """Ends the program where the judge, a process of its own, does not accept the answer."""
     if os.path.getsize(answer) > JUDGED_BYTES:
         return "not judged"
-    words = [sys.executable, answers.__file__, "judge", formula, answer]
-    verdict = subprocess.run(words, stdout=subprocess.PIPE, text=True, check=True).stdout
-    if verdict != "0\n":
-        sys.exit(f"{kind}: the answer is judged {verdict}")
+    said = subprocess.run([sys.executable, judge.__file__, formula, answer], stdout=subprocess.PIPE, stderr=subprocess.STDOUT, text=True)
+    if said.stdout != "accepted\n":
+        sys.exit(f"{kind}: the judge says {said.stdout}")
     return "judged"
 
 
@@ -201,7 +200,7 @@ def answer_row(leank, kind, formula, answer):
     columns = [kind, f"{variables:,} and {clauses:,}", told, shown(solve.processor, solve.status)]
     columns += [shown(runs[other].processor, runs[other].status) + ratio(solve, runs[other]) for other in ("minisat", "cadical")]
     if solve.status in name:
-        columns += [verify_row(leank, formula, answer), judge(kind, formula, answer)]
+        columns += [verify_row(leank, formula, answer), judged(kind, formula, answer)]
     else:
         columns += ["- | - | -", "-"]
     print("| " + " | ".join(columns) + " |", flush=True)
@@ -249,7 +248,7 @@ def parts(leank, folder, kinds):
         columns = [kind, f"{variables:,} and {clauses:,}", told, shown(one.clock, one.status)]
         columns.append(f"{shown(two.clock, two.status)} ({two.clock / one.clock:.2f})")
         columns += [shown(runs[other].clock, runs[other].status) for other in ("minisat", "cadical")]
-        both = [judge(kind, formula, name) for name, run in ((answer, one), (answer + "2", two)) if run.status in (10, 20)]
+        both = [judged(kind, formula, name) for name, run in ((answer, one), (answer + "2", two)) if run.status in (10, 20)]
         print("| " + " | ".join([*columns, both[0] if both else "-"]) + " |", flush=True)
 
 

@@ -21,7 +21,7 @@ from collections import Counter
 
 import corners
 import judge
-from formulas import drawn_clause, pigeons
+from formulas import drawn_clause, formula_text, pigeons
 
 PAGE = os.path.join(os.path.dirname(os.path.abspath(__file__)), "..", "docs", "FORMAT.md")
 FORGED_EACH = 8
@@ -89,10 +89,6 @@ def kind_of(said):
 
 # ---------------------------------------------------------------------------------------------------------------------
 # The page
-
-def formula_text(n, clauses):
-    return "".join([f"p cnf {n} {len(clauses)}\n", *(" ".join(map(str, [*c, 0])) + "\n" for c in clauses)]).encode()
-
 
 def worked():
     """The worked documents and answers of the page: name, number of variables, clauses, lines."""

@@ -15,8 +15,8 @@ import subprocess
 import tempfile
 import unittest
 
-from answers import Verdict, judge
-from formulas import drawn_clause, parity, pigeons, shuffled, side_by_side
+import judge
+from formulas import drawn_clause, formula_text, parity, pigeons, shuffled, side_by_side
 from lrat import fault, read_formula
 
 TOP = os.path.dirname(os.path.dirname(os.path.abspath(__file__)))
@@ -110,10 +110,6 @@ class Room:
         self.put(self.formula, text)
         self.put(self.answer, answer)
         return self.run(SCRIPT, self.formula, self.answer)
-
-
-def formula_text(variables, clauses):
-    return "".join([f"p cnf {variables} {len(clauses)}\n", *(" ".join(map(str, [*clause, 0])) + "\n" for clause in clauses)]).encode()
 
 
 def drawn_text(draw, variables, clauses):
@@ -314,7 +310,7 @@ class Rewriting(unittest.TestCase):
         for (variables, clauses), steps, proof in ODD:
             answer = b"s UNSATISFIABLE\nc round\n" + b"".join(b"c step %b\n" % step for step in steps.split(b";"))
             text = formula_text(variables, clauses)
-            self.assertEqual(judge((variables, [tuple(dict.fromkeys(clause)) for clause in clauses]), answer), Verdict(0), answer)
+            self.assertEqual(judge.verify(text, answer), ("accepted", None, 0), answer)
             self.assertEqual(self.proof_of(text, answer), proof)
             self.assertEqual(self.room.run(LEANK, "verify", self.room.formula, self.room.answer), (0, b"accepted\n"))
 
@@ -355,8 +351,9 @@ class Rewriting(unittest.TestCase):
             variables, clauses = spoiled(draw, variables, drawn)
             if not has_model(variables, clauses):
                 answer = drawn_refutation(draw, variables, clauses)
-                self.assertEqual(judge((variables, [tuple(dict.fromkeys(clause)) for clause in clauses]), answer), Verdict(0), answer)
-                self.proof_of(formula_text(variables, clauses), answer)
+                text = formula_text(variables, clauses)
+                self.assertEqual(judge.verify(text, answer), ("accepted", None, 0), answer)
+                self.proof_of(text, answer)
                 done += 1
 
 

@@ -1,10 +1,2 @@
-pub mod TotalLists
-pub mod CheckedAnswers
-pub mod CoreAnswers
-pub mod AnswerLaws
-pub mod PrintedAnswers
-pub mod DraftSteps
-pub mod DraftEnds
-pub mod ReadWords
-pub mod AnswerRuns
-pub mod AnswerReads
+pub use Rattle.answer_text.proofs.AnswerReads
+pub use Rattle.check_answers.proofs.AnswerLaws

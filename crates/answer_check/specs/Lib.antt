@@ -1,5 +1,6 @@
-pub mod Answers
-pub mod AnswerChecks
-pub mod AnswerLaw
-pub mod AnswerTextLaw
-pub mod Drafts
+-- What the two crates say of answers.
+pub use Rattle.answer_text.specs.ReadAnswers
+pub use Rattle.answer_text.specs.AnswerTextLaw
+pub use Rattle.answer_text.specs.Drafts
+pub use Rattle.check_answers.specs.AnswerChecks
+pub use Rattle.check_answers.specs.AnswerLaw

@@ -1,16 +1,7 @@
-//! Answers to the question whether a formula has a model: their texts, both ways, and their check. It stands on
-//! no reducer and on no solver.
+//! Answers to the question whether a formula has a model: their texts, both ways, and their check, which does not know
+//! how they are read and printed.
 #![tactic(auto)]
 
-mod answer;
-mod checking;
-mod draft;
-mod laws;
-mod printing;
-mod reading;
-
-pub use answer::Answer;
-pub use checking::check_answer;
-pub use laws::{answer_law, text_law};
-pub use printing::print_answer;
-pub use reading::{AnswerReader, answer_reader, read_answer};
+pub use answer_text::{AnswerReader, answer_reader, print_answer, read_answer, text_law};
+pub use check_answers::{answer_law, check_answer};
+pub use lk_model::Answer;

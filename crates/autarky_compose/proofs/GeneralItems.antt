@@ -10,9 +10,9 @@ use Rattle.lk_model.proofs.Counting.{Differ-rises}
 use Rattle.lk_model.proofs.Keys.{first_in, later_in, key_among}
 use Rattle.lk_model.proofs.Literals.{same_int, int_self}
 use Rattle.lk_model.proofs.Rising.{bounded}
-use Rattle.kernel_laws.specs.General.GeneralResults.{IsGeneralResult, AreGeneralResults}
 use Rattle.kernel_laws.proofs.Clauses.{mentions_of}
-use Rattle.kernel_laws.proofs.Linear.LinearLean.{among_in as contains_among}
+use Rattle.kernel_laws.proofs.Lists.{among_in as contains_among}
+use Rattle.general_laws.specs.GeneralResults.{IsGeneralResult, AreGeneralResults}
 use Rattle.autarky_compose.specs.JoinedGeneral.{AreJoinable, all_kept, all_set}
 use Rattle.autarky_compose.specs.Tables.{AreDistinct}
 use Rattle.autarky_compose.proofs.Orders.{same_item}

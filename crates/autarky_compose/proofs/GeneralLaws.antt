@@ -16,9 +16,9 @@ use Rattle.lk_model.proofs.Booleans.{same_tests}
 use Rattle.lk_model.proofs.Keys.{key_found}
 use Rattle.lk_model.proofs.Lists.{among_here, among_later}
 use Rattle.lk_model.proofs.Rising.{rises}
-use Rattle.kernel_laws.specs.General.GeneralResults.{AreGeneralResults, AreJoined as AreJoinedIn}
-use Rattle.kernel_laws.proofs.General.GeneralResults.{general_result_law}
-use Rattle.kernel_laws.proofs.Linear.LinearLean.{among_in as contains_among}
+use Rattle.kernel_laws.proofs.Lists.{among_in as contains_among}
+use Rattle.general_laws.specs.GeneralResults.{AreGeneralResults, AreJoined as AreJoinedIn}
+use Rattle.general_laws.proofs.GeneralResults.{general_result_law}
 use Rattle.autarky_compose.specs.JoinedGeneral.{AreJoined, JoinedGeneralLaw, all_kept, all_set}
 use Rattle.autarky_compose.proofs.Orders.{among_contains}
 use Rattle.autarky_compose.proofs.GeneralItems.{contains_literal, literal_contains, set_bounds, joinable}

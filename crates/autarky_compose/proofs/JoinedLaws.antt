@@ -13,9 +13,9 @@ use Rattle.lk_model.proofs.Founds.{is_position}
 use Rattle.lk_model.proofs.Keys.{key_found, key_among}
 use Rattle.lk_model.proofs.Rising.{bounded, range_rises, filter_rises}
 use Rattle.lk_model.proofs.Variables.{occurs, position_with}
-use Rattle.kernel_laws.specs.Matching.MatchingResults.{IsMatchingResult, IsRow, removed_of}
 use Rattle.kernel_laws.proofs.Occurrences.{occurs_more}
-use Rattle.kernel_laws.proofs.Linear.LinearLean.{among_in as contains_among}
+use Rattle.kernel_laws.proofs.Lists.{among_in as contains_among}
+use Rattle.matching_laws.specs.MatchingResults.{IsMatchingResult, IsRow, removed_of}
 use Rattle.par_parts.specs.Groups.{IsDisjointCover}
 use Rattle.autarky_compose.specs.JoinedMatching.{AreMatchingResults, AreJoined, JoinedMatchingLaw}
 use Rattle.autarky_compose.proofs.Orders.{same_rising, among_contains}

@@ -8,9 +8,9 @@ use Rattle.lk_model.specs.Documents.Documents.{steps_of}
 use Rattle.lk_model.specs.declared.document.Step.{Step}
 use Rattle.lk_model.specs.declared.document.Round.{Round}
 use Rattle.lk_model.specs.declared.result.GeneralResult.{GeneralResult}
-use Rattle.kernel_laws.specs.General.JoinLaw.{joined, moved, renumbered, renumbered_round}
-use Rattle.kernel_laws.specs.General.GeneralResults.{all_joined}
-use Rattle.kernel_laws.proofs.General.JoinLaws.{steps_joined}
+use Rattle.general_laws.specs.JoinLaw.{joined, moved, renumbered, renumbered_round}
+use Rattle.general_laws.specs.GeneralResults.{all_joined}
+use Rattle.general_laws.proofs.JoinLaws.{steps_joined}
 use Rattle.autarky_compose.specs.JoinedGeneral.{rounds_behind}
 
 -- one result more

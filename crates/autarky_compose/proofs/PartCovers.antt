@@ -9,7 +9,7 @@ use Rattle.lk_model.specs.Formulas.Lean.{are_positions}
 use Rattle.lk_model.specs.Formulas.Parts.{IsPart, AreParts, least_of}
 use Rattle.lk_model.proofs.Counting.{Differ-rises, same_place}
 use Rattle.lk_model.proofs.Rising.{part_rises as rising}
-use Rattle.kernel_laws.proofs.General.PartLaws.{differ}
+use Rattle.general_laws.proofs.PartLaws.{differ}
 use Rattle.par_parts.specs.Groups.{IsDisjointCover}
 
 -- where a variable occurs there is a part

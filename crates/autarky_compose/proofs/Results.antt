@@ -2,7 +2,7 @@
 use Rattle.std.proofs.Common.{◌≡◌, ℕ, zero, suc, ◌<◌, List, [], ◌∷◌, ◌++◌, length, get_or, arith}
 use Rattle.lk_model.specs.Formulas.Formula.{Cnf}
 use Rattle.lk_model.specs.declared.result.MatchingResult.{MatchingResult}
-use Rattle.kernel_laws.specs.Matching.MatchingResults.{IsMatchingResult}
+use Rattle.matching_laws.specs.MatchingResults.{IsMatchingResult}
 use Rattle.autarky_compose.specs.JoinedMatching.{AreMatchingResults}
 use Rattle.autarky_compose.proofs.Sources.{nothing}
 

@@ -12,9 +12,9 @@ use Rattle.lk_model.proofs.Booleans.{and_true, or_true}
 use Rattle.lk_model.proofs.Counting.{from_filter}
 use Rattle.lk_model.proofs.Keys.{key_among}
 use Rattle.lk_model.proofs.Variables.{occurs}
-use Rattle.kernel_laws.specs.Matching.MatchingResults.{IsMatchingResult}
+use Rattle.matching_laws.specs.MatchingResults.{IsMatchingResult}
 use Rattle.autarky_compose.specs.JoinedMatching.{AreMatchingResults, all_kept, all_own, all_rows}
-use Rattle.kernel_laws.proofs.Linear.LinearLean.{among_in as contains_among}
+use Rattle.kernel_laws.proofs.Lists.{among_in as contains_among}
 
 -- a result with nothing in it
 abbrev pub nothing : MatchingResult

@@ -7,8 +7,8 @@ use Rattle.lk_model.specs.Formulas.Parts.{AreParts}
 use Rattle.lk_model.specs.Documents.Documents.{steps_of}
 use Rattle.lk_model.specs.declared.document.Round.{Round}
 use Rattle.lk_model.specs.declared.result.GeneralResult.{GeneralResult}
-use Rattle.kernel_laws.specs.General.JoinLaw.{moved, renumbered_round}
-use Rattle.kernel_laws.specs.General.GeneralResults.{IsGeneralResult, AreGeneralResults}
+use Rattle.general_laws.specs.JoinLaw.{moved, renumbered_round}
+use Rattle.general_laws.specs.GeneralResults.{IsGeneralResult, AreGeneralResults}
 use Rattle.autarky_compose.specs.Ordered.{AreInOrder}
 use Rattle.autarky_compose.specs.Tables.{AreDistinct}
 
@@ -25,7 +25,7 @@ pub record AreJoinable (m : ℕ) (found : List GeneralResult) : Type 0 where
   pub set : All (λ (l : ℤ). 0 < variable l) (all_set found)
   pub apart : AreDistinct variable (all_set found)
 
--- Rounds over m clauses, and those of the results behind them. Each result's steps are moved behind all earlier ones.
+-- Rounds over m clauses, and those of the results after them. Each result's steps are moved after all earlier ones.
 abbrev pub rounds_behind : ℕ → List Round → List GeneralResult → List Round
 rounds_behind m rounds [] = rounds
 rounds_behind m rounds (r ∷ found) = rounds_behind m (rounds ++ map (renumbered_round (moved m (length (steps_of rounds)))) r.rounds) found

@@ -6,7 +6,7 @@ use Rattle.lk_model.specs.Formulas.Parts.{AreParts}
 use Rattle.lk_model.specs.declared.document.Own.{Own}
 use Rattle.lk_model.specs.declared.document.MatchRow.{MatchRow}
 use Rattle.lk_model.specs.declared.result.MatchingResult.{MatchingResult}
-use Rattle.kernel_laws.specs.Matching.MatchingResults.{IsMatchingResult}
+use Rattle.matching_laws.specs.MatchingResults.{IsMatchingResult}
 use Rattle.par_parts.specs.Groups.{IsDisjointCover}
 use Rattle.autarky_compose.specs.Ordered.{AreInOrder}
 

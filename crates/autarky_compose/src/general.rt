@@ -9,8 +9,8 @@ use std::alloc::Global;
 
 /// The results for the parts of a formula of m clauses, in their order, joined: the positions that they
 /// keep, ascending, their literals, ascending by variable, and their rounds, one after another. The steps
-/// are numbered from m + 1 through all rounds; more of them than have numbers of 64 bits count as want of
-/// memory.
+/// are numbered from m + 1 through all rounds; more of them than have numbers of 64 bits count as memory
+/// that ran out.
 pub fn join_general(
     alloc: Global,
     m: u32,

@@ -1,7 +1,7 @@
 //! Rounds of several results, one after another, with the numbers of their steps.
 ghost use Rattle.std.specs.Prelude.{◌≡◌, ◌+◌, ◌<◌, ◌^◌, ◌++◌, [], length, map, IfOk};
 ghost use Rattle.lk_model.specs.Documents.Documents.{steps_of};
-ghost use Rattle.kernel_laws.specs.General.JoinLaw.{moved, renumbered, renumbered_turn, renumbered_round};
+ghost use Rattle.general_laws.specs.JoinLaw.{moved, renumbered, renumbered_turn, renumbered_round};
 ghost use Rattle.autarky_compose.specs.JoinedGeneral.{rounds_behind};
 
 use lk_model::{GeneralResult, List, OutOfMemory, Round, Step, Turn};

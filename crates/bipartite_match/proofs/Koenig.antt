@@ -11,9 +11,9 @@ use Rattle.bipartite_match.specs.declared.augmenting.Start.TheVariants.{Clause}
 use Rattle.bipartite_match.specs.declared.matching.Matching.{Matching}
 use Rattle.bipartite_match.specs.declared.visits.Visit.{Visit}
 use Rattle.bipartite_match.specs.Matchings.{IsMaximum, IsUnmatched}
-use Rattle.bipartite_match.specs.Covers.{HasCover, IsTurned}
+use Rattle.bipartite_match.specs.Covers.{HasCover, IsAugmented}
 use Rattle.bipartite_match.specs.Visiting.{visit_at, Seen, goal_of, root_visit, met, AreVisits, EndsIn, HasNoEnd, CanSearch, with_own}
-use Rattle.bipartite_match.proofs.PathTurns.{TurnState, turn_goes, turn_falls, turn_starts, steps_left}
+use Rattle.bipartite_match.proofs.AugmentedPaths.{AugmentState, augment_goes, augment_falls, augment_starts, steps_left}
 use Rattle.bipartite_match.proofs.Restoring.{positions_visited, visited_among, among_visited, visited_within}
 use Rattle.bipartite_match.proofs.Roots.{AreRoots, one_root, begins}
 use Rattle.bipartite_match.proofs.Seeking.{IsSeeking, visits_fit}
@@ -76,19 +76,19 @@ sought F part m from q c r form =
     seek F part m from (record { queue = q; seen = replicate F.vars false; end = 0 }) 0 (length part + 1) c form
     (begins F part m from (record { queue = q; seen = replicate F.vars false; end = 0 }) r refl refl) (omega arith)
 
--- THE TURNING WITHOUT CODE
+-- THE EXCHANGE WITHOUT CODE
 
-turn_all : (F : Cnf) (part : List ℕ) (m : Matching) (from : Start) (q : List Visit) (now : Matching) (v place root fuel : ℕ) → IsTrue (is_formula F) → CanSearch F part m from
-    → AreVisits F part m from q → TurnState F part m from q now v place root → steps_left v place < fuel → (after : Matching) × (first : ℕ) × IsTurned F part from m after first
-turn_all F part m from q now v place root zero form c a s f = absurd (omega (arith, f))
-turn_all F part m from q now v place root (suc fuel) form c a s f = elim (cases_eq v 0) [
+augment_all : (F : Cnf) (part : List ℕ) (m : Matching) (from : Start) (q : List Visit) (now : Matching) (v place root fuel : ℕ) → IsTrue (is_formula F) → CanSearch F part m from
+    → AreVisits F part m from q → AugmentState F part m from q now v place root → steps_left v place < fuel → (after : Matching) × (first : ℕ) × IsAugmented F part from m after first
+augment_all F part m from q now v place root zero form c a s f = absurd (omega (arith, f))
+augment_all F part m from q now v place root (suc fuel) form c a s f = elim (cases_eq v 0) [
   | inl z ↦ (now, root, s.done z)
   | inr n ↦
       (let g = s.going n in
       let w = a.some place g.inside in
-      let less = turn_falls F part m from q v place a n g.inside in
-      turn_all F part m from q (with_own now w.0 (visit_at q place).pos v) (visit_at q place).by (visit_at q place).from (visit_at q place).pos fuel form c a
-      (turn_goes F part m from q now (with_own now w.0 (visit_at q place).pos v) v place w.0 form c a g w.1 w.2 refl)
+      let less = augment_falls F part m from q v place a n g.inside in
+      augment_all F part m from q (with_own now w.0 (visit_at q place).pos v) (visit_at q place).by (visit_at q place).from (visit_at q place).pos fuel form c a
+      (augment_goes F part m from q now (with_own now w.0 (visit_at q place).pos v) v place w.0 form c a g w.1 w.2 refl)
       (omega (arith, less, f)))
 ]
 
@@ -103,7 +103,7 @@ reached_set : (F : Cnf) (part : List ℕ) (m : Matching) (p : ℕ) → IsTrue (i
     → (R : List ℕ) × IsClosedSet F part m R × IsTrue (among R p)
 reached_set F part m p form r h u = elim (sought F part m (Clause p) (root_visit p ∷ []) can (one_root part m p u) form) [
   | inl w ↦
-      (let t = turn_all F part m (Clause p) w.0 m w.2 w.1 0 (suc (steps_left w.2 w.1)) form can w.3.visits (turn_starts F part m (Clause p) w.0 w.2 w.1 0 can w.3) (omega arith) in
+      (let t = augment_all F part m (Clause p) w.0 m w.2 w.1 0 (suc (steps_left w.2 w.1)) form can w.3.visits (augment_starts F part m (Clause p) w.0 w.2 w.1 0 can w.3) (omega arith) in
       let less = h.most t.0 t.2.longer.matching in let more = t.2.longer.more in
       absurd (omega (arith, less, more)))
   | inr w ↦ (positions_visited w.0, record { within = visited_within F part m (Clause p) w.0 w.1.visits; closed = closed w.0 w.1 }, at w.0 w.1)

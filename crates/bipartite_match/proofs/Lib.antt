@@ -1,5 +1,5 @@
 pub mod Numbers
-pub mod Turns
+pub mod AugmentedWalks
 pub mod Backs
 pub mod Literals
 pub mod Leads
@@ -11,7 +11,7 @@ pub mod Reaching
 pub mod Unmatched
 pub mod Owning
 pub mod Restoring
-pub mod PathTurns
+pub mod AugmentedPaths
 pub mod Seeking
 pub mod Marks
 pub mod Rooted

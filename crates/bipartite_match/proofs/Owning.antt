@@ -12,7 +12,7 @@ use Rattle.bipartite_match.specs.Matchings.{joins, IsMatching, pair_count}
 use Rattle.bipartite_match.specs.Visiting.{with_own}
 use Rattle.bipartite_match.proofs.Numbers.{within, rising_once}
 use Rattle.bipartite_match.proofs.Literals.{position_in}
-use Rattle.bipartite_match.proofs.Turns.{weight, weight_none, weight_some}
+use Rattle.bipartite_match.proofs.AugmentedWalks.{weight, weight_none, weight_some}
 
 -- the clause at an index may take a free variable of it
 pub record CanOwn (F : Cnf) (part : List ℕ) (m : Matching) (i v : ℕ) : Type 0 where

@@ -40,7 +40,7 @@ visits_inside F part m u R q (suc fuel) k s a c f l = elim (cases_eq (visit_at q
       ])
 ]
 
--- While a path is turned, each variable of the set is matched in it, but for the one that is free now where the path began
+-- While a path is augmented, each variable of the set is matched in it, but for the one that is free now where the path began
 -- at a variable.
 abbrev pub IsFreedNow : Start → ℕ → ℕ → Type 0
 IsFreedNow (Clause p) v w = ⊥

@@ -1,4 +1,4 @@
--- What is left when the root of a turned path is taken from the unmatched clauses.
+-- What is left when the root of an augmented path is taken from the unmatched clauses.
 use Rattle.std.proofs.Common.{◌≡◌, ℕ, ◌<◌, true, List, length, get_or, sym, ◌∙◌, subst}
 use Rattle.std.specs.List.{remove}
 use Rattle.lk_model.specs.Lists.{among}
@@ -8,7 +8,7 @@ use Rattle.bipartite_match.specs.declared.augmenting.Start.{Start}
 use Rattle.bipartite_match.specs.declared.matching.Matching.{Matching}
 use Rattle.bipartite_match.specs.Matchings.{IsMatching, IsUnmatched, IsReady}
 use Rattle.bipartite_match.specs.Ways.{IsLonger}
-use Rattle.bipartite_match.specs.Covers.{HasCover, HasCoverBut, IsTurned}
+use Rattle.bipartite_match.specs.Covers.{HasCover, HasCoverBut, IsAugmented}
 use Rattle.bipartite_match.proofs.Unmatched.{rises_remove, among_rest, from_rest}
 
 -- What is said of the pairs alone stays.
@@ -25,7 +25,7 @@ same_bare part us m p u = record { index = u.index; inside = u.inside; is = u.is
 was_bare : (part us : List ℕ) (m : Matching) (p : ℕ) → IsUnmatched part (with_unmatched m us) p → IsUnmatched part m p
 was_bare part us m p u = record { index = u.index; inside = u.inside; is = u.is; none = u.none }
 
-pub rooted_longer : (F : Cnf) (part us : List ℕ) (from : Start) (m after : Matching) (root : ℕ) → IsTurned F part from m after root → IsLonger F part m (record after { unmatched = us })
+pub rooted_longer : (F : Cnf) (part us : List ℕ) (from : Start) (m after : Matching) (root : ℕ) → IsAugmented F part from m after root → IsLonger F part m (record after { unmatched = us })
 rooted_longer F part us from m after root t = record {
   matching = same_matching F part us after t.longer.matching;
   more = t.longer.more;
@@ -33,12 +33,12 @@ rooted_longer F part us from m after root t = record {
   vars = t.longer.vars;
 }
 
-pub rooted_cover : (F : Cnf) (part us : List ℕ) (from : Start) (m after : Matching) (root : ℕ) → IsTurned F part from m after root → HasCoverBut F part m from
+pub rooted_cover : (F : Cnf) (part us : List ℕ) (from : Start) (m after : Matching) (root : ℕ) → IsAugmented F part from m after root → HasCoverBut F part m from
     → HasCover F part (record after { unmatched = us })
 rooted_cover F part us from m after root t c =
     let s = t.covered c.0 c.1 in (c.0, record { within = s.within; unmatched = λ p u. s.unmatched p (was_bare part us after p u); closed = s.closed })
 
-pub rooted_ready : (F : Cnf) (part us : List ℕ) (from : Start) (m after : Matching) (root place : ℕ) → IsReady F part m → IsTurned F part from m after root → after.seen ≡ m.seen
+pub rooted_ready : (F : Cnf) (part us : List ℕ) (from : Start) (m after : Matching) (root place : ℕ) → IsReady F part m → IsAugmented F part from m after root → after.seen ≡ m.seen
     → place < length m.unmatched → get_or m.unmatched place 0 ≡ root → us ≡ remove m.unmatched place → IsReady F part (record after { unmatched = us })
 rooted_ready F part us from m after root place h t seen inside at is = record {
   matching = same_matching F part us after t.longer.matching;

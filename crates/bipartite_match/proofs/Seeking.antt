@@ -20,7 +20,7 @@ use Rattle.bipartite_match.specs.declared.visits.Visit.{Visit}
 use Rattle.bipartite_match.specs.Visiting.{no_visit, visit_at, Seen, IsRoot, goal_of, met, AreMarks, AreVisits, EndsIn, CanSearch}
 use Rattle.bipartite_match.proofs.Numbers.{rising_once}
 use Rattle.bipartite_match.proofs.Owning.{index_within}
-use Rattle.bipartite_match.proofs.PathTurns.{root_unmatched}
+use Rattle.bipartite_match.proofs.AugmentedPaths.{root_unmatched}
 use Rattle.bipartite_match.proofs.Marks.{is_some}
 
 -- THE VARIABLES THAT WERE SEEN

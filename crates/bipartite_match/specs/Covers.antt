@@ -42,8 +42,8 @@ pub record IsCoverBut (F : Cnf) (part : List ℕ) (m : Matching) (from : Start) 
 abbrev pub HasCoverBut : Cnf → List ℕ → Matching → Start → Type 0
 HasCoverBut F part m from = (R : List ℕ) × IsCoverBut F part m from R
 
--- what is left when the pairs of a path from the start are turned, whose clause without a variable is at the root
-pub record IsTurned (F : Cnf) (part : List ℕ) (from : Start) (m after : Matching) (root : ℕ) : Type 0 where
+-- what is left when the pairs of a path from the start are exchanged, whose clause without a variable is at the root
+pub record IsAugmented (F : Cnf) (part : List ℕ) (from : Start) (m after : Matching) (root : ℕ) : Type 0 where
   pub longer : IsLonger F part m after
   pub covered : (R : List ℕ) → IsCoverBut F part m from R → IsCover F part after R
   pub began : IsUnmatched part m root

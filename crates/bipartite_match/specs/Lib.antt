@@ -5,9 +5,9 @@ pub mod Walks
 pub mod Ways
 pub mod Covers
 pub mod Counts
--- How the searches hold a matching, what a search finds, and the walks whose pairs are turned.
+-- How the searches hold a matching, what a search finds, and the walks whose pairs are exchanged.
 pub mod Pairing
 pub mod Found
-pub mod Turned
+pub mod Augmented
 -- How the search for one path visits clauses.
 pub mod Visiting

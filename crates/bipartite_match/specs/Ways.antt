@@ -1,4 +1,4 @@
--- Alternating paths between an unmatched clause and a free variable, and what is left when the pairs of one are turned.
+-- Alternating paths between an unmatched clause and a free variable, and what is left when the pairs of one are exchanged.
 use Rattle.std.specs.Prelude.{◌≡◌, ◌≢◌, ℕ, ◌+◌, ◌-◌, ◌<◌, ◌≤◌, List, slice_index, IsTrue}
 use Rattle.lk_model.specs.Formulas.Literal.{mentions}
 use Rattle.lk_model.specs.Formulas.Formula.{Cnf, clause_at}
@@ -19,7 +19,7 @@ pub record IsFree (F : Cnf) (m : Matching) (v : ℕ) : Type 0 where
   pub most : v ≤ F.vars
   pub free : slice_index m.of_var (v - 1) ≡ 0
 
--- an alternating path leads from the unmatched clause at p to a clause that holds the free variable
+-- an alternating path leads from the unmatched clause at p to a clause that contains the free variable
 pub record IsWay (F : Cnf) (part : List ℕ) (m : Matching) (p v : ℕ) : Type 0 where
   pub unmatched : IsUnmatched part m p
   pub free : IsFree F m v

@@ -1,16 +1,16 @@
 //! One more pair, from a given start.
 //!
 //! A search in breadth from one unmatched clause, or, where the start is a free variable, from all unmatched clauses at
-//! once, for an alternating path (Berge, "Two Theorems in Graph Theory", 1957), whose pairs are turned then.
+//! once, for an alternating path (Berge, "Two Theorems in Graph Theory", 1957), whose pairs are exchanged then.
 ghost use Rattle.std.specs.Prelude.{◌≡◌, ◌+◌, ◌↔◌, OnErr, IfOk, IsTrue, false};
 ghost use Rattle.lk_model.specs.Formulas.Lean.{are_positions};
 ghost use Rattle.bipartite_match.specs.Matchings.{IsReady};
 ghost use Rattle.bipartite_match.specs.Ways.{IsStart, HasWay, IsLonger};
 ghost use Rattle.bipartite_match.specs.Covers.{HasCover, HasCoverBut};
 
+use crate::exchange::{augment_found, index_of};
 use crate::matching::Matching;
 use crate::steps::Steps;
-use crate::turning::{index_of, turn};
 use crate::visits::Visits;
 use lk_model::{Formula, OutOfMemory};
 use std::alloc::Global;
@@ -49,7 +49,7 @@ pub fn augment<L>(
     if visits.end == 0 {
         return Ok(false);
     }
-    let root = turn(&visits, part, m);
+    let root = augment_found(&visits, part, m);
     let place = index_of(m.unmatched.as_slice(), root);
     m.unmatched.remove(place);
     Ok(true)

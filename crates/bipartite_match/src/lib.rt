@@ -3,6 +3,7 @@
 #![tactic(auto)]
 
 mod augmenting;
+mod exchange;
 mod laws;
 mod matching;
 mod mates;
@@ -10,7 +11,6 @@ mod paths;
 mod rarest;
 mod search;
 mod steps;
-mod turning;
 mod visits;
 mod walk;
 

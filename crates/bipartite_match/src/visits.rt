@@ -15,7 +15,7 @@ use lk_model::{Formula, OutOfMemory, VarSet};
 use std::alloc::Global;
 
 /// A clause that a search has reached: its position, the variable by which, and the place in the queue of the clause
-/// that holds this variable. The variable is 0 where the search began.
+/// that contains this variable. The variable is 0 where the search began.
 #[derive(Clone, Copy)]
 pub struct Visit {
     pub pos: u32,
@@ -40,7 +40,7 @@ impl Visit {
 #[derive(Drop)]
 pub struct Visits {
     pub queue: Vec<Visit>,
-    /// The place of the clause that holds the end.
+    /// The place of the clause that contains the end.
     pub place: usize,
     /// The free variable at which the search ended, or 0.
     pub end: u32,

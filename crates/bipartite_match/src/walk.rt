@@ -1,8 +1,8 @@
 //! What alternating walks reach.
 //!
 //! From the clauses that a maximum matching leaves without a variable, a walk goes to any variable of a clause, and
-//! from there to the clause that has this variable. What such walks reach is one of the parts into which maximum
-//! matchings divide a bipartite graph (Dulmage and Mendelsohn, "Coverings of Bipartite Graphs", 1958): the part with
+//! from there to the clause that has this variable. What such walks reach is one of the sets into which maximum
+//! matchings divide a bipartite graph (Dulmage and Mendelsohn, "Coverings of Bipartite Graphs", 1958): the set with
 //! more clauses than variables.
 //!
 //! Here each variable that is reached is given an escape and a rank besides, so that who reads the result can see

@@ -15,7 +15,7 @@ use Rattle.lk_model.proofs.Counting.{in_filter, from_filter, among-range}
 use Rattle.lk_model.proofs.Crossings.{contains_crossed}
 use Rattle.lk_model.proofs.Variables.{literal_passing, variable_bound}
 use Rattle.kernel_laws.proofs.Clauses.{mentions_of}
-use Rattle.kernel_laws.proofs.General.Numbering.{found_before}
+use Rattle.general_laws.proofs.Numbering.{found_before}
 use Rattle.watch_prop.specs.declared.entry.Entry.{Entry}
 use Rattle.watch_prop.specs.Trail.{entry_of, present_level, up_to_level, assignment_along}
 use Rattle.watch_prop.specs.Propagation.{Propagation, IsPropagation, GoesOn, with_assigned, back_at}

@@ -28,8 +28,8 @@ pub enum Decided {
 /// Looks for a model of the crossed clauses that are not empty, by learning from conflicts: the least unset variable is
 /// decided, and made true. (No clause says which variable is decided, and with which value; tests do.) The steps of a
 /// log are numbered from `next`, which is above the number of the formula's clauses, and at most `budget` clauses are
-/// learned. Each holds no complementary pair, and contains no crossed clause that is not empty and no earlier learned
-/// one. The error is that there is no memory.
+/// learned. Each contains no complementary pair, no crossed clause that is not empty and no earlier learned one. The
+/// error is that there is no memory.
 pub fn decide(alloc: Global, over: &Crossed, next: u64, budget: u64) -> Result<Decided, OutOfMemory>
     requires crossed { IsCrossed over.now }
     requires some { 0 < budget }

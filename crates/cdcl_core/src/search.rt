@@ -14,7 +14,7 @@ ghost use Rattle.cdcl_core.specs.Orders.{are_set};
 ghost use Rattle.variable_orders.specs.VariableOrders.{IsOrderOver};
 ghost use Rattle.cdcl_core.specs.Searching.{IsSearch};
 
-use crate::analysis::{level_below, turns_back};
+use crate::analysis::{analyze, level_below};
 use crate::marks::Marks;
 use crate::order::Order;
 use crate::signs::Signs;
@@ -101,7 +101,7 @@ impl Search {
         ensures steps { OnOk result (length self.new.log.steps ≡ length self.old.log.steps + 1) }
         ensures vars { OnOk result (self.new.propagator.vars ≡ self.old.propagator.vars) }
     {
-        let turns = turns_back(alloc, &self.propagator, conflict, &mut self.marks)?;
+        let turns = analyze(alloc, &self.propagator, conflict, &mut self.marks)?;
         let number = self.log.push_chain(over, conflict, &turns)?;
         let clause = self.log.last_clause();
         self.marks.remove_all(clause);
@@ -131,7 +131,7 @@ impl Search {
         ensures first { OnOk result (self.new.log.first ≡ self.old.log.first) }
         ensures steps { OnOk result (length self.new.log.steps ≡ length self.old.log.steps + 1) }
     {
-        let turns = turns_back(alloc, &self.propagator, conflict, &mut self.marks)?;
+        let turns = analyze(alloc, &self.propagator, conflict, &mut self.marks)?;
         self.log.push_chain(over, conflict, &turns)?;
         Ok(())
     }

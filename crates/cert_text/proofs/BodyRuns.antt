@@ -10,7 +10,7 @@ use Rattle.lk_model.specs.Formulas.Literal.{is_literal}
 use Rattle.lk_model.specs.Texts.Lines.{Word}
 use Rattle.lk_model.specs.Documents.Documents.{steps_of}
 use Rattle.lk_model.specs.Documents.Text.{round_lines, class_lines}
-use Rattle.lk_model.specs.Documents.Form.{is_pair, is_match_row, is_stage, is_unit, are_steps, is_whole, is_body}
+use Rattle.lk_model.specs.Documents.Form.{is_pair, is_match_row, is_stage, is_linear_unit, are_steps, is_whole, is_body}
 use Rattle.lk_model.specs.declared.document.Pair.{Pair}
 use Rattle.lk_model.specs.declared.document.Own.{Own}
 use Rattle.lk_model.specs.declared.document.MatchRow.{MatchRow}
@@ -53,7 +53,7 @@ next_comment may n m p q words e = by_open p.is_open e
         (codes "step" ∷ two.item, (after_form (codes "c") (codes "step") words two.item two.there).whole)
     by_open false f = by_round (may && is_round words) refl f
 
--- parts that are made of rounds
+-- bodies that are made of rounds
 abbrev pub AreRounds : (RoundsPart → Part) → Bool → ℕ → ℕ → Type 0
 AreRounds put may n m = (p : RoundsPart) (words : List Word) → part_next n m (put p) words ≡ option_map put (rounds_next may n m p words)
 
@@ -108,10 +108,10 @@ body_runs d (body.Matching own rows) rest few small h =
 body_runs d (body.Linear stages dual units) rest few small h =
     let rise = rises_within 0 d.vars (map (λ (u : Unit). u.var) units) in
     let duals = are_listed (λ (y : Dual). y.pos) (λ (y : Dual). is_in_range y.y) 0 d.clauses dual in
-    let outer = and_true ((list_all (is_stage d.vars) stages && duals) && rise) (list_all (is_unit d.clauses) units) h in
+    let outer = and_true ((list_all (is_stage d.vars) stages && duals) && rise) (list_all (is_linear_unit d.clauses) units) h in
     let middle = and_true (list_all (is_stage d.vars) stages && duals) rise outer.0 in
     let inner = and_true (list_all (is_stage d.vars) stages) duals middle.0 in
-    linear_runs d stages dual units rest few small inner.0 inner.1 (and_from rise (list_all (is_unit d.clauses) units) middle.1 outer.1)
+    linear_runs d stages dual units rest few small inner.0 inner.1 (and_from rise (list_all (is_linear_unit d.clauses) units) middle.1 outer.1)
 body_runs d (body.General rounds) rest few small h =
     let both = and_true (are_steps d.vars d.clauses (steps_of rounds)) (list_all is_whole rounds) h in
     general_runs d rounds rest few both.0 both.1

@@ -1,20 +1,17 @@
 -- From each draft in form some document goes on.
-use Rattle.std.proofs.Common.{◌≡◌, ℕ, ◌^◌, ◌-◌, ◌<◌, ◌≤◌, ◌∙◌, Bool, true, false, cond, not, ◌==◌, List, [], ◌∷◌, ◌++◌, map, length, replicate, refl, sym, ap, subst, arith, ℤ, append_assoc, length-append, nat_le, nat_lt}
+use Rattle.std.proofs.Common.{◌≡◌, ℕ, ◌^◌, ◌<◌, ◌≤◌, ◌∙◌, Bool, true, false, cond, not, ◌==◌, List, [], ◌∷◌, ◌++◌, map, length, refl, sym, ap, arith, ℤ, append_assoc, length-append, nat_le, nat_lt}
 use Rattle.std.specs.Prelude.{codes}
 use Rattle.std.specs.List.{list_all, flat_map}
-use Rattle.std.proofs.lemmas.Bool.{and_from, le-leb, lt-ltb, eq-eqb, not-true}
-use Rattle.std.proofs.lemmas.List.{map-append, append-nil, length-replicate, append_cancel_left}
-use Rattle.std.proofs.lemmas.List.Sums.{sum_by-append}
-use Rattle.std.proofs.lemmas.List.Folds.{list_all-append}
+use Rattle.std.proofs.lemmas.Bool.{le-leb, lt-ltb, eq-eqb, not-true}
+use Rattle.std.proofs.lemmas.List.{map-append, append-nil, append_cancel_left}
 use Rattle.lk_model.specs.Lists.{is_between, rises_within}
 use Rattle.lk_model.specs.Limits.{is_in_range, max_literals}
-use Rattle.lk_model.specs.Formulas.Literal.{is_clause}
 use Rattle.lk_model.specs.Formulas.Formula.{literal_count}
 use Rattle.lk_model.specs.Texts.Lines.{Word}
 use Rattle.lk_model.specs.Texts.PlainText.{literal_words, formula_lines}
 use Rattle.lk_model.specs.Documents.Documents.{class_of, steps_of}
 use Rattle.lk_model.specs.Documents.Text.{comment, pair_line, class_word, class_lines, round_lines, first_lines, protect_lines, document_lines}
-use Rattle.lk_model.specs.Documents.Form.{is_pair, is_match_row, is_unit, is_body, are_clause_lines, are_steps, end_open, is_done_in_form, is_open_in_form, is_in_form}
+use Rattle.lk_model.specs.Documents.Form.{is_pair, is_match_row, is_linear_unit, is_body, are_clause_lines, are_steps, end_open, is_done_in_form, is_open_in_form, is_in_form}
 use Rattle.lk_model.specs.declared.document.Pair.{Pair}
 use Rattle.lk_model.specs.declared.document.Own.{Own}
 use Rattle.lk_model.specs.declared.document.MatchRow.{MatchRow}
@@ -23,7 +20,7 @@ use Rattle.lk_model.specs.declared.document.Unit.{Unit}
 use Rattle.lk_model.specs.declared.document.Document.TheVariants as document
 use Rattle.lk_model.specs.declared.document.Document.TheVariants.{Done}
 use Rattle.lk_model.proofs.Booleans.{and_true}
-use Rattle.lk_model.proofs.Clauses.{empty_clauses as all_clauses, no_literals}
+use Rattle.formula_text.proofs.ClauseForms as formula
 use Rattle.cert_text.specs.declared.part.Part.{Part}
 use Rattle.cert_text.specs.declared.part.Part.TheVariants.{Pure, Matching, Linear, General, Unfinished}
 use Rattle.cert_text.specs.declared.draft.Draft.{Draft}
@@ -38,9 +35,9 @@ use Rattle.round_text.specs.RoundLines.{round_of, rounds_lines, put_step}
 use Rattle.round_text.proofs.RoundEnds.{closing, shut_rounds, rounds_shut, opened_rounds, rounds_opened, rounds_whole, rounds_open, all_lines, few_steps}
 use Rattle.cert_text.proofs.DraftSteps.{Facts, IsDraft, IsDraftAt, draft_facts, clauses_limit}
 
--- WHOLE PARTS
+-- WHOLE BODIES
 
--- what a part whose lines may end says of its body
+-- what was read of a body, where its lines may end
 pub record IsEnded (n m : ℕ) (p : Part) : Type 0 where
   pub finished : is_finished p ≡ true
   pub form : is_body n m (body_of p) ≡ true
@@ -63,7 +60,7 @@ ended n m (Matching p) h t f =
     record { finished = refl; form = rw (own.0, own.1, rows.0, rows.1) refl; word = refl; lines = refl }
 ended n m (Linear p) h t f =
     let dual = and_true (rises_within 0 m (map (λ (y : Dual). y.pos) p.dual)) (list_all (λ (y : Dual). is_in_range y.y) p.dual) h.dual in
-    let units = and_true (rises_within 0 n (map (λ (u : Unit). u.var) p.units)) (list_all (is_unit m) p.units) h.units in
+    let units = and_true (rises_within 0 n (map (λ (u : Unit). u.var) p.units)) (list_all (is_linear_unit m) p.units) h.units in
     record { finished = refl; form = rw (h.stages, dual.0, dual.1, units.0, units.1) refl; word = refl; lines = refl }
 ended n m (General p) h t f = record { finished = refl; form = rounds_whole n m p h.rounds (not-true p.is_open t); word = refl; lines = all_lines p }
 ended n m (Unfinished p) h t f = absurd (let g : ⊥ = cc in g)
@@ -152,9 +149,9 @@ whole_form d w = by_kind (is_finished d.part) refl
     by_kind true t = done_form d w t
     by_kind false t = open_form d w t
 
--- COMPLETED PARTS
+-- COMPLETED BODIES
 
--- the part over m clauses with the lines that must still come
+-- what was read over m clauses, with the lines that must still come
 abbrev pub completed : ℕ → Part → Part
 completed m (Pure p) = Pure (record p { ordered = true })
 completed m (Matching p) = Matching p
@@ -232,13 +229,13 @@ is_completed n m (Unfinished p) small h low =
 -- COMPLETED DRAFTS
 
 missing : Draft → List (List ℤ)
-missing d = replicate (clause_count d - length d.texts.clauses) []
+missing d = formula.missing (clause_count d) d.texts.clauses
 
 -- the draft with the lines that must still come, and an empty clause for each clause line that is to come
 filled : Draft → Draft
-filled d = record d { due = Clauses; part = completed d.clauses d.part; texts = record { vars = d.vars; clauses = d.texts.clauses ++ missing d } }
+filled d = record d { due = Clauses; part = completed d.clauses d.part; texts = formula.formula_with d.texts.vars (d.texts.clauses ++ missing d) }
 
--- the lines of the draft's part are so few that a next step has a number
+-- the lines of the draft's body are so few that a next step has a number
 IsShort : Draft → Type 0
 IsShort d = length (part_lines d.part) < 2 ^ 63
 
@@ -251,9 +248,7 @@ unfolding filled missing
 filled_whole d h low =
     let c = filled_part d h low in
     let count : clause_count (filled d) ≡ clause_count d = ap (λ (b : Bool). cond b (length d.kept) d.clauses) c.finished in
-    let none = missing d in
-    let size = length-append d.texts.clauses none in
-    let whole : length (d.texts.clauses ++ none) ≡ clause_count d = omega (arith, size, length-replicate {A = List ℤ} (clause_count d - length d.texts.clauses) [], h.count) in
+    let full = formula.filled (clause_count d) d.texts (record { formula = h.formula; literals = h.literals; few = h.count }) in
     record {
       facts = record {
         size = h.size;
@@ -262,15 +257,13 @@ filled_whole d h low =
         set = h.set;
         learned = h.learned;
         part = c.form;
-        texts_vars = refl;
-        formula = list_all-append (is_clause d.vars) d.texts.clauses none
-            ∙ and_from (list_all (is_clause d.vars) d.texts.clauses) (list_all (is_clause d.vars) none)
-            (subst (λ (n : ℕ). list_all (is_clause n) d.texts.clauses ≡ true) h.texts_vars h.formula) (all_clauses d.vars (clause_count d - length d.texts.clauses));
-        literals = omega (arith, sum_by-append length d.texts.clauses none, no_literals (clause_count d - length d.texts.clauses), h.literals);
-        count = omega (arith, whole, count);
+        texts_vars = h.texts_vars;
+        formula = full.form.formula;
+        literals = full.form.literals;
+        count = omega (arith, full.all, count);
       };
       ends = c.ends;
-      count = whole ∙ sym count;
+      count = full.all ∙ sym count;
     }
 
 -- the lines of the completed draft

@@ -1,22 +1,20 @@
 -- What the next line does to a draft in form.
-use Rattle.std.proofs.Common.{◌≡◌, ℕ, ◌+◌, ◌-◌, ◌^◌, ◌<◌, ◌≤◌, ◌∙◌, Bool, true, false, cond, List, [], ◌∷◌, ◌++◌, map, length, refl, sym, ap, subst, arith, ℤ, Option, Some, None, append_assoc, length-append, nat_le, nat_lt}
+use Rattle.std.proofs.Common.{◌≡◌, ℕ, ◌-◌, ◌^◌, ◌<◌, ◌≤◌, ◌∙◌, Bool, true, false, cond, List, [], ◌∷◌, ◌++◌, map, length, refl, sym, ap, subst, arith, ℤ, Option, Some, None, append_assoc, nat_le}
 use Rattle.std.specs.Prelude.{option_map, option_and_then, codes}
 use Rattle.std.specs.Option.{option_zip}
 use Rattle.std.specs.Str.{bytes_eq}
-use Rattle.std.proofs.lemmas.Bool.{leb-true, ltb-true, le-leb}
+use Rattle.std.proofs.lemmas.Bool.{leb-true, le-leb}
 use Rattle.std.proofs.lemmas.List.{map-append, append-nil}
-use Rattle.std.proofs.lemmas.List.Sums.{sum_by_push}
 use Rattle.std.proofs.lemmas.Slice.Eq.{bytes_eq-Decides}
 use Rattle.lk_model.specs.Lists.{rises_within}
 use Rattle.lk_model.specs.Limits.{max_vars, max_clauses, max_literals}
-use Rattle.lk_model.specs.Formulas.Literal.{variable, is_clause}
-use Rattle.lk_model.specs.Formulas.Formula.{is_formula, literal_count, with_clause}
+use Rattle.lk_model.specs.Formulas.Literal.{variable}
+use Rattle.lk_model.specs.Formulas.Formula.{Cnf, is_formula, literal_count}
 use Rattle.lk_model.specs.Texts.Lines.{Word}
 use Rattle.lk_model.specs.Texts.PlainText.{ended, literal_words, number_words}
 use Rattle.lk_model.specs.Documents.Text.{version, comment, protect_lines, first_lines}
 use Rattle.lk_model.specs.Documents.Form.{is_size, is_protect_line}
 use Rattle.lk_model.proofs.Booleans.{and_true}
-use Rattle.lk_model.proofs.Cuts.{formula_push}
 use Rattle.lk_model.proofs.Rising.{rising_count}
 use Rattle.cert_text.specs.declared.part.Part.{Part}
 use Rattle.cert_text.specs.declared.part.Part.TheVariants.{Pure, Matching, Linear, General, Unfinished}
@@ -24,15 +22,17 @@ use Rattle.cert_text.specs.declared.draft.Draft.{Draft}
 use Rattle.cert_text.specs.declared.draft.LineDue.{LineDue}
 use Rattle.cert_text.specs.declared.draft.LineDue.TheVariants.{Format, Sizes, Protect, Keep, Set, Learned, Body, Clauses}
 use Rattle.line_text.specs.Fields.{after, one_within, two_within}
-use Rattle.line_text.specs.FieldLists.{rising_from, literals_from, clause_from}
+use Rattle.line_text.specs.FieldLists.{rising_from, literals_from}
+use Rattle.formula_text.specs.FormulaLines.{next_clause}
+use Rattle.formula_text.proofs.ClauseForms.{AreClauses, clause_step}
 use Rattle.cert_text.specs.Parts.{part_word, part_of, part_lines, part_next, may_end, is_finished}
 use Rattle.line_text.specs.SizeLines.{problem_line, is_problem}
-use Rattle.cert_text.specs.Drafts.{format_line, size_line, keep_line, set_line, learned_line, head_lines, middle_lines, clause_count, lines_before, lines_read, fresh_draft, protect_of, format_words, due_then, due_first, has_room, put_clause, next_format, next_sizes, next_protect, next_keep, next_set, next_learned, next_body, next_clause, next_at, next_draft}
+use Rattle.cert_text.specs.Drafts.{format_line, size_line, keep_line, set_line, learned_line, head_lines, middle_lines, clause_count, lines_before, lines_read, fresh_draft, protect_of, format_words, due_then, due_first, next_format, next_sizes, next_protect, next_keep, next_set, next_learned, next_body, next_text, next_at, next_draft}
 use Rattle.line_text.proofs.SizeForms.{problem_form}
-use Rattle.line_text.proofs.ListForms.{rising_form, literals_form, rising_literals, clause_form}
+use Rattle.line_text.proofs.ListForms.{rising_form, literals_form, rising_literals}
 use Rattle.line_text.proofs.NumberForms.{number_form, two_form}
 use Rattle.line_text.proofs.Words.{after_form}
-use Rattle.line_text.proofs.Options.{map_some, ThenSome, then_some}
+use Rattle.line_text.proofs.Options.{map_some, then_some}
 use Rattle.round_text.specs.RoundLines.{fresh_rounds}
 use Rattle.round_text.proofs.RoundParts.{IsRounds}
 use Rattle.cert_text.proofs.PartSteps.{IsPart, part_step, same_kind}
@@ -63,7 +63,7 @@ abbrev pub IsBlank : Option (List ℕ) → Type 0
 IsBlank None = Unit {0}
 IsBlank (Some vars) = vars ≡ []
 
--- a part of which no line was read
+-- a body of which no line was read
 pub record IsFreshPart (p : Part) : Type 0 where
   pub lines : part_lines p ≡ []
   pub form : (n m : ℕ) → IsPart n m p
@@ -119,7 +119,7 @@ protect_form word protect e = by_tests (bytes_eq word (codes "1")) (bytes_eq wor
         subst (λ (p : Option (List ℕ)). (word ≡ version p) × IsBlank p) same (word_is word (codes "2") t, refl)
     by_tests false false s t f = absurd (let n : ⊥ = cc in n)
 
--- the part by its word
+-- the body by its word
 pub record PartForm (word : Word) (p : Part) : Type 0 where
   pub word_is : word ≡ part_word p
   pub fresh : IsFreshPart p
@@ -198,7 +198,7 @@ format_step d e words is n =
 
 -- THE SIZES
 
--- where the line behind the protected variables is due
+-- where the line after the protected variables is due
 pub at_then : (e : Draft) → Unread e → e.due ≡ due_then e.part → IsDraft e × (lines_read e ≡ head_lines e)
 at_then e h is = by_kind (is_finished e.part) refl
   where
@@ -394,43 +394,37 @@ body_step d e words due h n = by_problem (is_problem d.vars (clause_count d) wor
     by_problem true t f = ends (may_end d.part) t refl f
     by_problem false t f = goes_on f
 
-clause_step : (d e : Draft) (words : List Word) → d.due ≡ Clauses → IsDraftAt Clauses d → next_clause d words ≡ Some e → IsStep (lines_before Clauses d) e words
-clause_step d e words due h n = by_room (has_room d one.item) refl one.gives
-  where
-    g : Facts d
-    g = h.0
-
-    one : ThenSome (put_clause d) (clause_from d.vars [] words) e
-    one = then_some (put_clause d) (clause_from d.vars [] words) e n
-
-    by_room : (b : Bool) → has_room d one.item ≡ b → cond b (Some (record d { texts = with_clause d.texts one.item })) None ≡ Some e → IsStep (lines_before Clauses d) e words
-    by_room false t f = absurd (let m : ⊥ = cc in m)
-    by_room true t f =
-        let next : Draft = record d { texts = with_clause d.texts one.item } in
-        let same : next ≡ e = cc in
-        let form = clause_form d.vars [] words one.item refl one.there in
-        let room = and_true (nat_lt (length d.texts.clauses) (clause_count d)) (nat_le (literal_count d.texts + length one.item) max_literals) t in
-        let facts : Facts next = record {
-          size = g.size;
-          protect = g.protect;
-          kept = g.kept;
-          set = g.set;
-          learned = g.learned;
-          part = g.part;
-          texts_vars = g.texts_vars;
-          formula = formula_push d.texts one.item g.formula (subst (λ (k : ℕ). is_clause k one.item ≡ true) (sym g.texts_vars) form.1);
-          literals = omega (arith, sum_by_push length d.texts.clauses one.item, leb-true (literal_count d.texts + length one.item) max_literals room.1);
-          count = omega (arith, length-append d.texts.clauses (one.item ∷ []), ltb-true (length d.texts.clauses) (clause_count d) room.0);
-        } in
-        let problem = problem_line d.vars (clause_count d) in
-        let front = (head_lines d ++ middle_lines d) ++ part_lines d.part in
-        subst (λ (x : Draft). IsStep (lines_before Clauses d) x words) same (record {
-          form = subst (λ (s : LineDue). IsDraftAt s next) (sym due) (facts, h.1);
-          lines = ap (λ (s : LineDue). lines_before s next) due
-              ∙ ap (λ (ls : List (List Word)). front ++ problem ∷ ls) (map-append literal_words d.texts.clauses (one.item ∷ []))
-              ∙ sym (append_assoc front (problem ∷ map literal_words d.texts.clauses) (literal_words one.item ∷ []))
-              ∙ ap (λ (l : List Word). (front ++ problem ∷ map literal_words d.texts.clauses) ++ l ∷ []) (sym form.0);
-        })
+text_step : (d e : Draft) (words : List Word) → d.due ≡ Clauses → IsDraftAt Clauses d → next_text d words ≡ Some e → IsStep (lines_before Clauses d) e words
+text_step d e words due h n =
+    let g : Facts d = h.0 in
+    let put : Cnf → Draft = λ F. record d { texts = F } in
+    let one = map_some put (next_clause (clause_count d) d.texts words) e n in
+    let G = one.item in
+    let before : AreClauses (clause_count d) d.texts = record { formula = g.formula; literals = g.literals; few = g.count } in
+    let step = clause_step (clause_count d) d.texts G words before one.there in
+    let next = put G in
+    let facts : Facts next = record {
+      size = g.size;
+      protect = g.protect;
+      kept = g.kept;
+      set = g.set;
+      learned = g.learned;
+      part = g.part;
+      texts_vars = ap (λ (F : Cnf). F.vars) step.is ∙ g.texts_vars;
+      formula = step.form.formula;
+      literals = step.form.literals;
+      count = step.form.few;
+    } in
+    let problem = problem_line d.vars (clause_count d) in
+    let front = (head_lines d ++ middle_lines d) ++ part_lines d.part in
+    subst (λ (x : Draft). IsStep (lines_before Clauses d) x words) (sym one.is) (record {
+      form = subst (λ (s : LineDue). IsDraftAt s next) (sym due) (facts, h.1);
+      lines = ap (λ (s : LineDue). lines_before s next) due
+          ∙ ap (λ (F : Cnf). front ++ problem ∷ map literal_words F.clauses) step.is
+          ∙ ap (λ (ls : List (List Word)). front ++ problem ∷ ls) (map-append literal_words d.texts.clauses (step.clause ∷ []))
+          ∙ sym (append_assoc front (problem ∷ map literal_words d.texts.clauses) (literal_words step.clause ∷ []))
+          ∙ ap (λ (l : List Word). (front ++ problem ∷ map literal_words d.texts.clauses) ++ l ∷ []) (sym step.spelled);
+    })
 
 -- EACH LINE
 
@@ -445,7 +439,7 @@ draft_step d e words h n = by_due d.due refl h n
     by_due Set t g f = set_step d e words g f
     by_due Learned t g f = learned_step d e words g f
     by_due Body t g f = body_step d e words t g f
-    by_due Clauses t g f = clause_step d e words t g f
+    by_due Clauses t g f = text_step d e words t g f
 
 -- the facts hold at each line
 pub draft_facts : (d : Draft) → IsDraft d → Facts d

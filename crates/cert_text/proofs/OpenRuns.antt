@@ -53,7 +53,7 @@ problem_run d p rest ends few small =
 
 -- THE ROUNDS
 
--- whole rounds, and an open one behind them
+-- whole rounds, and an open one after them
 record Split (rounds : List Round) : Type 0 where
   front : List Round
   last : Round

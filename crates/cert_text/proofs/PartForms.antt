@@ -1,4 +1,4 @@
--- Parts in form, and what the next line does to them.
+-- What was read of bodies in form, and what the next line does to it.
 use Rattle.std.proofs.Common.{◌≡◌, ℕ, ◌+◌, ◌-◌, ◌^◌, ◌<◌, ◌≤◌, ◌∙◌, Bool, true, cond, ◌&&◌, List, [], ◌∷◌, ◌++◌, map, refl, sym, ap, arith, ℤ, Option, Some, None}
 use Rattle.std.specs.Prelude.{decimal, nat_lt}
 use Rattle.std.specs.Fmt.{signed_decimal}
@@ -9,7 +9,7 @@ use Rattle.lk_model.specs.Limits.{is_in_range}
 use Rattle.lk_model.specs.Texts.Lines.{Word}
 use Rattle.lk_model.specs.Texts.NumberWords.{plain_number}
 use Rattle.lk_model.specs.Texts.PlainText.{ended, number_words}
-use Rattle.lk_model.specs.Documents.Form.{is_pair, is_match_row, is_unit, is_weight}
+use Rattle.lk_model.specs.Documents.Form.{is_pair, is_match_row, is_linear_unit, is_weight}
 use Rattle.lk_model.specs.declared.document.Pair.{Pair}
 use Rattle.lk_model.specs.declared.document.Own.{Own}
 use Rattle.lk_model.specs.declared.document.MatchRow.{MatchRow}
@@ -33,7 +33,7 @@ use Rattle.lk_text.proofs.Shortest.{fits_wide as in_range}
 
 -- HOW THE ITEMS OF LINES ARE READ AND SPELLED
 
--- items that are read behind a last number, each of a line of its own
+-- items that are read after a last number, each of a line of its own
 pub record AreItems {X : Type 0} (read : ℕ → List Word → Option X) (spell : X → List Word) (key : X → ℕ) (test : X → Bool) (high : ℕ) : Type 0 where
   pub form : (last : ℕ) (words : List Word) (x : X) → read last words ≡ Some x → (words ≡ spell x) × (last < key x) × (key x ≤ high) × (test x ≡ true)
   pub back : (last : ℕ) (x : X) → last < key x → key x ≤ high → test x ≡ true → read last (spell x) ≡ Some x
@@ -197,7 +197,7 @@ unit_parts (Some v) (Some d) (Some ss) u e =
     (ap (λ (q : Unit). Some q.var) same, ap (λ (q : Unit). Some q.d) same, ap (λ (q : Unit). Some q.shares) same)
 
 unit_form : (n m : ℕ) → m ≤ 4000000 → (last : ℕ) (words : List Word) (u : Unit) → unit_within last n m words ≡ Some u
-    → (words ≡ decimal u.var ∷ signed_decimal u.d ∷ ended (flat_map share_words u.shares)) × (last < u.var) × (u.var ≤ n) × (is_unit m u ≡ true)
+    → (words ≡ decimal u.var ∷ signed_decimal u.d ∷ ended (flat_map share_words u.shares)) × (last < u.var) × (u.var ≤ n) × (is_linear_unit m u ≡ true)
 unit_form n m small last [] u e = absurd (let f : ⊥ = cc in f)
 unit_form n m small last (v ∷ []) u e = absurd (let f : ⊥ = cc in f)
 unit_form n m small last (v ∷ d ∷ words) u e =
@@ -211,7 +211,7 @@ unit_form n m small last (v ∷ d ∷ words) u e =
     (cc (x.spelled, spelled_d, spelled_s), omega (arith, x.least), x.most, rw (y.1, shares.0, shares.1) refl)
 
 pub unit_items : (n m : ℕ) → n ≤ 1000000 → m ≤ 4000000
-    → AreItems (λ last ws. unit_within last n m ws) (λ (u : Unit). decimal u.var ∷ signed_decimal u.d ∷ ended (flat_map share_words u.shares)) (λ u. u.var) (is_unit m) n
+    → AreItems (λ last ws. unit_within last n m ws) (λ (u : Unit). decimal u.var ∷ signed_decimal u.d ∷ ended (flat_map share_words u.shares)) (λ u. u.var) (is_linear_unit m) n
 unit_items n m few small = record {
   form = unit_form n m small;
   back = λ last u above within form.

@@ -1,4 +1,4 @@
--- What the next line does to a part in form.
+-- What the next line does to what was read of a body, in form.
 use Rattle.std.proofs.Common.{◌≡◌, ℕ, ◌≤◌, ◌∙◌, Bool, true, false, cond, List, [], ◌∷◌, ◌++◌, map, refl, sym, ap, subst, ℤ, Option, Some, None, append_assoc}
 use Rattle.std.specs.Prelude.{option_map, option_and_then, codes, decimal, nat_lt}
 use Rattle.std.specs.Fmt.{signed_decimal}
@@ -10,7 +10,7 @@ use Rattle.lk_model.specs.Formulas.Literal.{is_literal}
 use Rattle.lk_model.specs.Texts.Lines.{Word}
 use Rattle.lk_model.specs.Texts.PlainText.{ended, number_words, literal_words}
 use Rattle.lk_model.specs.Documents.Text.{comment, pair_line, own_line, row_line, stage_line, dual_line, unit_line}
-use Rattle.lk_model.specs.Documents.Form.{is_pair, is_match_row, is_stage, is_unit}
+use Rattle.lk_model.specs.Documents.Form.{is_pair, is_match_row, is_stage, is_linear_unit}
 use Rattle.lk_model.specs.declared.document.Pair.{Pair}
 use Rattle.lk_model.specs.declared.document.Own.{Own}
 use Rattle.lk_model.specs.declared.document.MatchRow.{MatchRow}
@@ -43,13 +43,13 @@ use Rattle.lk_model.proofs.ListTests.{all_more as tested_more}
 
 -- LINES
 
--- one line more behind some
+-- one line more after some
 pub one_line_more : {X : Type 0} (front : List (List Word)) (spell : X → List Word) (xs : List X) (x : X) (words : List Word) → words ≡ spell x → front ++ map spell (xs ++ x ∷ []) ≡ (front ++ map spell xs) ++ words ∷ []
 one_line_more front spell xs x words e =
     ap (λ (ls : List (List Word)). front ++ ls) (map-append spell xs (x ∷ [])) ∙ sym (append_assoc front (map spell xs) (spell x ∷ []))
     ∙ ap (λ (l : List Word). (front ++ map spell xs) ++ l ∷ []) (sym e)
 
--- words behind a keyword
+-- words after a keyword
 behind_words : (keyword : Word) (words rest more : List Word) → words ≡ codes "c" ∷ keyword ∷ rest → rest ≡ more → words ≡ comment keyword more
 behind_words keyword words rest more e f = e ∙ ap (λ (ws : List Word). codes "c" ∷ keyword ∷ ws) f
 
@@ -58,7 +58,7 @@ pub empty_is : {X : Type 0} (xs : List X) → is_empty xs ≡ true → xs ≡ []
 empty_is [] h = refl
 empty_is (x ∷ xs) h = absurd (let f : ⊥ = cc in f)
 
--- PARTS IN FORM
+-- IN FORM
 
 pub record IsPure (n m : ℕ) (p : PurePart) : Type 0 where
   pub order : list_all (is_literal n) p.order ≡ true
@@ -72,7 +72,7 @@ pub record IsMatching (n m : ℕ) (p : MatchingPart) : Type 0 where
 pub record IsLinear (n m : ℕ) (p : LinearPart) : Type 0 where
   pub stages : list_all (is_stage n) p.stages ≡ true
   pub dual : are_listed (λ (y : Dual). y.pos) (λ (y : Dual). is_in_range y.y) 0 m p.dual ≡ true
-  pub units : are_listed (λ (u : Unit). u.var) (is_unit m) 0 n p.units ≡ true
+  pub units : are_listed (λ (u : Unit). u.var) (is_linear_unit m) 0 n p.units ≡ true
 
 abbrev pub IsPart : ℕ → ℕ → Part → Type 0
 IsPart n m (Pure p) = IsPure n m p
@@ -81,7 +81,7 @@ IsPart n m (Linear p) = IsLinear n m p
 IsPart n m (General p) = IsDoneRounds n m p
 IsPart n m (Unfinished p) = IsRounds n m p
 
--- the next part is in form, and has one line more
+-- what was read then is in form, and has one line more
 pub record IsPartStep (n m : ℕ) (p q : Part) (words : List Word) : Type 0 where
   pub form : IsPart n m q
   pub lines : part_lines q ≡ part_lines p ++ words ∷ []
@@ -235,7 +235,7 @@ unit_step : (n m : ℕ) (p q : LinearPart) (words rest : List Word) → n ≤ 10
 unit_step n m p q words rest few small h w e =
     let f : Unit → LinearPart = λ x. record p { units = p.units ++ x ∷ [] } in
     let one = map_some f (unit_within (last_or 0 (map (λ (x : Unit). x.var) p.units)) n m rest) q e in
-    let more = items_more (λ last ws. unit_within last n m ws) (λ (u : Unit). decimal u.var ∷ signed_decimal u.d ∷ ended (flat_map share_words u.shares)) (λ x. x.var) (is_unit m) n (unit_items n m few small) p.units one.item rest h.units one.there in
+    let more = items_more (λ last ws. unit_within last n m ws) (λ (u : Unit). decimal u.var ∷ signed_decimal u.d ∷ ended (flat_map share_words u.shares)) (λ x. x.var) (is_linear_unit m) n (unit_items n m few small) p.units one.item rest h.units one.there in
     let line : words ≡ unit_line one.item = behind_words (codes "unit") words rest (decimal one.item.var ∷ signed_decimal one.item.d ∷ ended (flat_map share_words one.item.shares)) w more.0 in
     subst (λ (r : LinearPart). IsPartStep n m (Linear p) (Linear r) words) (sym one.is) (record {
       form = record { stages = h.stages; dual = h.dual; units = more.1 };
@@ -253,7 +253,7 @@ linear_step n m p q words few small h e =
     by_words None (Some rest) c s t u f = dual_step n m p q words rest small h (after_form (codes "c") (codes "dual") words rest t).whole f
     by_words None None (Some rest) s t u f = unit_step n m p q words rest few small h (after_form (codes "c") (codes "unit") words rest u).whole f
 
--- EACH PART
+-- EACH BODY
 
 pub part_step : (n m : ℕ) (p q : Part) (words : List Word) → n ≤ 1000000 → m ≤ 4000000 → IsPart n m p → part_next n m p words ≡ Some q → IsPartStep n m p q words
 part_step n m (Pure p) q words few small h e =
@@ -274,7 +274,7 @@ part_step n m (Unfinished p) q words few small h e =
     let step = rounds_step true n m p one.item words few h one.there in
     subst (λ (r : Part). IsPartStep n m (Unfinished p) r words) (sym one.is) (record { form = step.form; lines = step.lines })
 
--- the next part is one of the same body
+-- what was read then is of the same body
 pub record IsSameKind (p q : Part) : Type 0 where
   pub word : part_word q ≡ part_word p
   pub finished : is_finished q ≡ is_finished p

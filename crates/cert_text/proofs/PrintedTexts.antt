@@ -1,5 +1,5 @@
 -- Texts as they are printed: lines, and documents.
-use Rattle.std.proofs.Common.{◌≡◌, ◌∙◌, ℕ, ◌+◌, ◌<◌, ◌≤◌, List, [], ◌∷◌, ◌++◌, length, map, drop, get_or, ap, refl, sym, append_assoc}
+use Rattle.std.proofs.Common.{◌≡◌, ◌∙◌, ℕ, ◌+◌, ◌<◌, ◌≤◌, List, [], ◌∷◌, ◌++◌, length, drop, get_or, ap, refl, sym, append_assoc}
 use Rattle.std.specs.Prelude.{codes}
 use Rattle.std.specs.Fmt.{decimal}
 use Rattle.std.specs.List.{flat_map, join_with_byte}
@@ -18,7 +18,7 @@ text_in_row d = in_row (document_lines d)
 
 -- LINES OF ONE ENTRY
 
--- words with a space behind each, and then the last word
+-- words with a space after each, and then the last word
 joined_last : (words : List Word) (last : Word) → join_with_byte 32 (words ++ last ∷ []) ≡ spaced words ++ last
 joined_last [] last = refl
 joined_last (word ∷ []) last = simp append_assoc
@@ -39,7 +39,7 @@ entry_behind before with_keyword with_numbers keyword numbers last first second 
     ap (λ (s : List ℕ). s ++ end) (second ∙ ap (λ (s : List ℕ). s ++ middle) first) ∙ append_assoc (before ++ heads) middle end ∙ append_assoc before heads (middle ++ end)
     ∙ ap (λ (s : List ℕ). before ++ s) (sym (entry_line keyword numbers last))
 
--- one more number behind those that are written
+-- one more number after those that are written
 pub next_number : (numbers : List ℕ) (i : ℕ) (written next whole : List ℕ) → i < length numbers → written ++ spaced (number_words (drop i numbers)) ≡ whole
     → next ≡ written ++ (decimal (get_or numbers i 0) ++ 32 ∷ []) → next ++ spaced (number_words (drop (i + 1) numbers)) ≡ whole
 next_number numbers i written next whole inside before more =

@@ -8,7 +8,7 @@ use Rattle.std.proofs.lemmas.List.Folds.{list_all-append}
 use Rattle.lk_model.specs.Held.Growing.{Growing}
 use Rattle.lk_model.specs.Texts.Lines.{Word}
 use Rattle.lk_model.specs.Texts.PlainText.{line}
-use Rattle.lk_model.specs.Documents.Reading.{cut_lines, IsTextOf, StopsAt, StopsAs}
+use Rattle.lk_model.specs.Documents.Reading.{cut_lines, IsTextOfDocument, StopsAt, StopsAs}
 use Rattle.lk_model.specs.Documents.Text.{text_of, text_lines, document_lines}
 use Rattle.lk_model.specs.declared.document.Document.{Document}
 use Rattle.lk_model.specs.declared.verdict.ReadStop.{ReadStop}
@@ -25,7 +25,8 @@ use Rattle.cert_text.specs.declared.draft.Draft.{Draft}
 use Rattle.cert_text.specs.declared.draft.LineDue.{LineDue}
 use Rattle.cert_text.specs.declared.draft.LineDue.TheVariants.{Format, Sizes, Protect, Keep, Set, Learned, Body, Clauses}
 use Rattle.cert_text.specs.Drafts.{fresh_draft, lines_read, lines_before, clause_count, next_draft, is_at_clauses, document_by, finished, run}
-use Rattle.cert_text.specs.Taking.{IsReadyAgain, IsSmall}
+use Rattle.formula_text.specs.FormulaLines.{IsReadyAgain}
+use Rattle.cert_text.specs.Taking.{IsSmall}
 use Rattle.cert_text.specs.Completing.{IsCompletedBy, IsRead}
 use Rattle.cert_text.specs.ReadTexts.{IsStopAt, ReadsDocuments, IsOfOneDocument, HasOneText, StopsNowhere}
 use Rattle.cert_text.proofs.CleanLines.{clean_document}
@@ -55,7 +56,7 @@ small_draft d growing h =
     record { vars = vars_limit d f; clauses = clauses_limit d f; kept = kept_limit d f; texts = f.texts_vars }
 
 -- one line more
-reads_on : (d next : Draft) (growing ready : Growing) (raw : List ℕ) (taken : Bool) → IsRead d growing → IsTaken (next_draft d (fields raw)) taken next → IsReadyAgain taken next ready → taken ≡ true
+reads_on : (d next : Draft) (growing ready : Growing) (raw : List ℕ) (taken : Bool) → IsRead d growing → IsTaken (next_draft d (fields raw)) taken next → IsReadyAgain taken next.vars ready → taken ≡ true
     → IsRead next ready × (length (lines_read next) ≡ length (lines_read d) + 1)
 reads_on d next growing ready raw taken h n again t =
     let words = fields raw in
@@ -64,7 +65,7 @@ reads_on d next growing ready raw taken h n again t =
     let one : run d (words ∷ []) ≡ Some next = ap (λ (o : Option Draft). option_and_then (λ e. run e []) o) leads in (
       record {
         runs = ap (run fresh_draft) step.lines ∙ run_append fresh_draft d (lines_read d) (words ∷ []) h.runs ∙ one;
-        ready = subst (λ (b : Bool). IsReadyAgain b next ready) t again;
+        ready = subst (λ (b : Bool). IsReadyAgain b next.vars ready) t again;
       },
       omega (arith, ap length step.lines, length-append (lines_read d) (words ∷ [])),
     )
@@ -138,7 +139,7 @@ pub if_takes : (d next : Draft) (growing : Growing) (raw : List ℕ) (r : Result
 if_takes d next growing raw (Ok taken) h few n = takes_line d next growing raw taken h few n
 if_takes d next growing raw (Err e) h few n = tt
 
-pub if_reads_on : (d next : Draft) (growing ready : Growing) (raw : List ℕ) (r : Result Bool OutOfMemory) → IsRead d growing → IfOk r (λ taken. IsTaken (next_draft d (fields raw)) taken next) → IfOk r (λ taken. IsReadyAgain taken next ready)
+pub if_reads_on : (d next : Draft) (growing ready : Growing) (raw : List ℕ) (r : Result Bool OutOfMemory) → IsRead d growing → IfOk r (λ taken. IsTaken (next_draft d (fields raw)) taken next) → IfOk r (λ taken. IsReadyAgain taken next.vars ready)
     → IfOk r (λ taken. IsTrue taken → IsRead next ready) × IfOk r (λ taken. IsTrue taken → length (lines_read next) ≡ length (lines_read d) + 1)
 if_reads_on d next growing ready raw (Ok taken) h n again =
     (λ t. (reads_on d next growing ready raw taken h n again t).0, λ t. (reads_on d next growing ready raw taken h n again t).1)
@@ -211,18 +212,18 @@ pub can_begin : (d : Draft) → d ≡ fresh_draft → CanComplete (IsCompletedBy
 can_begin d e = subst (λ (x : Draft). CanComplete (IsCompletedBy x)) (sym e) (can_complete fresh_draft refl (omega arith))
 
 -- the lines of a text are those of its document
-pub lines_of_text : (bytes : List ℕ) (d : Document) → IsTextOf bytes d → cut_lines bytes ≡ text_lines d
+pub lines_of_text : (bytes : List ℕ) (d : Document) → IsTextOfDocument bytes d → cut_lines bytes ≡ text_lines d
 unfolding text_of text_lines
 lines_of_text bytes d p = ap cut_lines p.text ∙ cut_lines_in_row (document_lines d) (clean_document d)
 
 -- what is read is the text of the document
-is_text : (d : Draft) (bytes : List ℕ) (document : Document) → d ≡ fresh_draft → IsReadBy (IsCompletedBy d) bytes document → IsTextOf bytes document
+is_text : (d : Draft) (bytes : List ℕ) (document : Document) → d ≡ fresh_draft → IsReadBy (IsCompletedBy d) bytes document → IsTextOfDocument bytes document
 unfolding text_of text_lines
 is_text d bytes document e h =
     let r = subst (λ (x : Draft). IsReadBy (IsCompletedBy x) bytes document) e h in
     record { form = r.lines.form; text = sym (lines_in_row bytes) ∙ ap concat (sym r.lines.lines) }
 
-admitted : (bytes : List ℕ) (document : Document) → IsTextOf bytes document → IsAdmitted (IsCompletedBy fresh_draft) bytes
+admitted : (bytes : List ℕ) (document : Document) → IsTextOfDocument bytes document → IsAdmitted (IsCompletedBy fresh_draft) bytes
 unfolding text_lines
 admitted bytes document p = (
   document,
@@ -236,7 +237,7 @@ admitted bytes document p = (
 stops_at : (d : Draft) (bytes : List ℕ) (number : ℕ) → d ≡ fresh_draft → StopsAs (IsAdmitted (IsCompletedBy d)) bytes number → StopsAt bytes number
 stops_at d bytes number e h = record {
   stops = λ g.
-      let is : IsTextOf (text_of g.document) g.document = record { form = g.form; text = refl } in
+      let is : IsTextOfDocument (text_of g.document) g.document = record { form = g.form; text = refl } in
       s.stops (record { text = text_of g.document; admitted = admitted (text_of g.document) g.document is; same = g.same ∙ ap (take number) (sym (lines_of_text (text_of g.document) g.document is)) });
   first = λ k lt.
       let g = s.first k lt in
@@ -254,7 +255,7 @@ reads_documents d e = record { text = λ bytes document h. is_text d bytes docum
     stop_by bytes (reading.Line number) h = stops_at d bytes number e h
     stop_by bytes reading.OutOfMemory h = tt
 
-pub if_text : (Completes : Grammar Document) (bytes : List ℕ) (r : Result Document ReadStop) → ReadsDocuments Completes → IfOk r (IsReadBy Completes bytes) → IfOk r (IsTextOf bytes)
+pub if_text : (Completes : Grammar Document) (bytes : List ℕ) (r : Result Document ReadStop) → ReadsDocuments Completes → IfOk r (IsReadBy Completes bytes) → IfOk r (IsTextOfDocument bytes)
 if_text Completes bytes (Ok document) d h = d.text bytes document h
 if_text Completes bytes (Err stop) d h = tt
 

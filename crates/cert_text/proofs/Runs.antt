@@ -1,20 +1,19 @@
 -- The lines of a document, read one after another.
-use Rattle.std.proofs.Common.{◌≡◌, ℕ, ◌+◌, ◌≤◌, ◌∙◌, Bool, true, false, cond, ◌&&◌, ◌==◌, List, [], ◌∷◌, ◌++◌, map, length, refl, sym, ap, subst, arith, ℤ, Option, Some, None, append_assoc, length-append, nat_le, nat_lt, sum_by}
+use Rattle.std.proofs.Common.{◌≡◌, ℕ, ◌≤◌, ◌∙◌, Bool, true, false, cond, ◌&&◌, ◌==◌, List, [], ◌∷◌, ◌++◌, map, length, refl, sym, ap, ℤ, Option, Some, None, append_assoc, sum_by}
 use Rattle.std.specs.Prelude.{option_map, option_and_then, codes}
 use Rattle.std.specs.Fmt.{decimal, signed_decimal}
 use Rattle.std.specs.Option.{option_map_or}
 use Rattle.std.specs.List.{list_all, flat_map}
-use Rattle.std.proofs.lemmas.Bool.{and_from, le-leb, lt-ltb}
 use Rattle.std.proofs.lemmas.List.{append-nil}
-use Rattle.std.proofs.lemmas.List.Sums.{sum_by-append, sum_by-cons}
 use Rattle.lk_model.specs.Lists.{is_between}
 use Rattle.lk_model.specs.Limits.{is_in_range, max_vars, max_clauses, max_literals}
 use Rattle.lk_model.specs.Formulas.Literal.{is_literal, is_clause}
+use Rattle.lk_model.specs.Formulas.Formula.{Cnf}
 use Rattle.lk_model.specs.Texts.Lines.{Word}
 use Rattle.lk_model.specs.Texts.PlainText.{ended, literal_words, number_words}
 use Rattle.lk_model.specs.Documents.Documents.{steps_of}
 use Rattle.lk_model.specs.Documents.Text.{pair_line, own_line, row_line, stage_line, dual_line, unit_line, class_lines}
-use Rattle.lk_model.specs.Documents.Form.{is_pair, is_match_row, is_stage, is_unit}
+use Rattle.lk_model.specs.Documents.Form.{is_pair, is_match_row, is_stage, is_linear_unit}
 use Rattle.lk_model.specs.declared.document.Pair.{Pair}
 use Rattle.lk_model.specs.declared.document.Own.{Own}
 use Rattle.lk_model.specs.declared.document.MatchRow.{MatchRow}
@@ -24,7 +23,6 @@ use Rattle.lk_model.specs.declared.document.Dual.{Dual}
 use Rattle.lk_model.specs.declared.document.Unit.{Unit}
 use Rattle.lk_model.specs.declared.document.Body.{Body}
 use Rattle.lk_model.specs.declared.document.Body.TheVariants as body
-use Rattle.lk_model.proofs.Booleans.{and_true}
 use Rattle.cert_text.specs.declared.part.Part.{Part}
 use Rattle.cert_text.specs.declared.part.Part.TheVariants.{Pure, Matching, Linear, General}
 use Rattle.cert_text.specs.declared.draft.Draft.{Draft}
@@ -39,8 +37,10 @@ use Rattle.cert_text.specs.LinearLines.{fresh_linear, stage_of, weight_within, u
 use Rattle.round_text.specs.RoundLines.{fresh_rounds}
 use Rattle.cert_text.specs.Parts.{part_next, may_end}
 use Rattle.line_text.specs.SizeLines.{is_problem}
-use Rattle.cert_text.specs.Drafts.{clause_count, has_room, put_clause, next_draft, run}
-use Rattle.line_text.proofs.ListForms.{literals_back, any_literals, clause_back}
+use Rattle.formula_text.specs.FormulaLines.{next_clause}
+use Rattle.formula_text.proofs.ClauseForms as formula
+use Rattle.cert_text.specs.Drafts.{clause_count, next_draft, run}
+use Rattle.line_text.proofs.ListForms.{literals_back, any_literals}
 use Rattle.line_text.proofs.Words.{after_first, after_ended}
 use Rattle.cert_text.proofs.LinearSteps.{weight_words, weights_two, are_weights, share_words}
 use Rattle.line_text.proofs.TwosSteps.{twos_back}
@@ -72,7 +72,7 @@ run_last d e x ls words ms h g = by_next (next_draft e words) refl (sym (run_app
 
 -- THE BODY
 
--- the part of which no line was read, and the one of all lines
+-- the body of which no line was read, and the one of all lines
 abbrev pub fresh_of : Body → Part
 fresh_of (body.Pure order pairs) = Pure fresh_pure
 fresh_of (body.Matching own rows) = Matching fresh_matching
@@ -146,7 +146,7 @@ matching_runs d own rows rest few small owns listed =
     [] rows rest listed
 
 pub linear_runs : (d : Draft) (stages : List Stage) (dual : List Dual) (units : List Unit) (rest : List (List Word)) → d.vars ≤ 1000000 → d.clauses ≤ 4000000
-    → list_all (is_stage d.vars) stages ≡ true → are_listed (λ (y : Dual). y.pos) (λ (y : Dual). is_in_range y.y) 0 d.clauses dual ≡ true → are_listed (λ (u : Unit). u.var) (is_unit d.clauses) 0 d.vars units ≡ true
+    → list_all (is_stage d.vars) stages ≡ true → are_listed (λ (y : Dual). y.pos) (λ (y : Dual). is_in_range y.y) 0 d.clauses dual ≡ true → are_listed (λ (u : Unit). u.var) (is_linear_unit d.clauses) 0 d.vars units ≡ true
     → run (at_body d (Linear fresh_linear)) (class_lines (body.Linear stages dual units) ++ rest) ≡ run (at_body d (part_from (body.Linear stages dual units))) rest
 linear_runs d stages dual units rest few small staged duals listed =
     let put : List Stage → Part = λ ss. Linear (record { stages = ss; dual = []; units = [] }) in
@@ -164,29 +164,35 @@ linear_runs d stages dual units rest few small staged duals listed =
     (λ ys y h. ap (λ (o : Option Dual). option_map Linear (option_map (λ (x : Dual). record { stages = stages; dual = ys ++ x ∷ []; units = [] }) o))
     (items_back (λ last ws. dual_within last d.clauses ws) (λ (x : Dual). decimal x.pos ∷ signed_decimal x.y ∷ []) (λ x. x.pos) (λ x. is_in_range x.y) d.clauses (dual_items d.clauses small) ys y h))
     [] dual (map unit_line units ++ rest) duals
-    ∙ lines_run d put_units (λ (u : Unit). codes "unit" ∷ decimal u.var ∷ signed_decimal u.d ∷ ended (flat_map share_words u.shares)) (are_listed (λ (u : Unit). u.var) (is_unit d.clauses) 0 d.vars)
-    (listed_front (λ (u : Unit). u.var) (is_unit d.clauses) 0 d.vars)
+    ∙ lines_run d put_units (λ (u : Unit). codes "unit" ∷ decimal u.var ∷ signed_decimal u.d ∷ ended (flat_map share_words u.shares)) (are_listed (λ (u : Unit). u.var) (is_linear_unit d.clauses) 0 d.vars)
+    (listed_front (λ (u : Unit). u.var) (is_linear_unit d.clauses) 0 d.vars)
     (λ us u h. ap (λ (o : Option Unit). option_map Linear (option_map (λ (x : Unit). record { stages = stages; dual = dual; units = us ++ x ∷ [] }) o))
-    (items_back (λ last ws. unit_within last d.vars d.clauses ws) (λ (x : Unit). decimal x.var ∷ signed_decimal x.d ∷ ended (flat_map share_words x.shares)) (λ x. x.var) (is_unit d.clauses) d.vars (unit_items d.vars d.clauses few small) us u h))
+    (items_back (λ last ws. unit_within last d.vars d.clauses ws) (λ (x : Unit). decimal x.var ∷ signed_decimal x.d ∷ ended (flat_map share_words x.shares)) (λ x. x.var) (is_linear_unit d.clauses) d.vars (unit_items d.vars d.clauses few small) us u h))
     [] units rest listed
 
 -- THE CLAUSES
 
--- a draft at its clauses
+-- a draft at its clauses, with these of a formula
+abbrev with_texts : Draft → Cnf → Draft
+with_texts d F = record d { due = Clauses; texts = F }
+
 abbrev pub at_clauses : Draft → List (List ℤ) → Draft
 at_clauses d cs = record d { due = Clauses; texts = record { vars = d.vars; clauses = cs } }
 
+-- lines of clauses lead a draft to what they lead its formula to
+clauses_lift : (d : Draft) (F : Cnf) (lines : List (List Word))
+    → run (with_texts d F) lines ≡ option_map (with_texts d) (formula.clauses_run (clause_count d) F lines)
+clauses_lift d F [] = refl
+clauses_lift d F (words ∷ lines) = by_next (λ G. clauses_lift d G lines) (next_clause (clause_count d) F words)
+  where
+    by_next : ((G : Cnf) → run (with_texts d G) lines ≡ option_map (with_texts d) (formula.clauses_run (clause_count d) G lines)) → (o : Option Cnf)
+        → option_and_then (λ (e : Draft). run e lines) (option_map (λ (G : Cnf). record (with_texts d F) { texts = G }) o)
+        ≡ option_map (with_texts d) (option_and_then (λ (G : Cnf). formula.clauses_run (clause_count d) G lines) o)
+    by_next later None = refl
+    by_next later (Some G) = later G
+
 pub clauses_run : (d : Draft) (cs ds : List (List ℤ)) → d.vars ≤ 1000000 → list_all (is_clause d.vars) ds ≡ true → length (cs ++ ds) ≤ clause_count d → sum_by length (cs ++ ds) ≤ max_literals
     → run (at_clauses d cs) (map literal_words ds) ≡ Some (at_clauses d (cs ++ ds))
-clauses_run d cs [] few h room fits = ap (λ (xs : List (List ℤ)). Some (at_clauses d xs)) (sym (append-nil cs))
-clauses_run d cs (c ∷ ds) few h room fits =
-    let both = and_true (is_clause d.vars c) (list_all (is_clause d.vars) ds) h in
-    let joined : (cs ++ c ∷ []) ++ ds ≡ cs ++ c ∷ ds = append_assoc cs (c ∷ []) ds in
-    let size = length-append cs (c ∷ ds) in
-    let there : has_room (at_clauses d cs) c ≡ true = and_from (nat_lt (length cs) (clause_count d)) (nat_le (sum_by length cs + length c) max_literals)
-    (lt-ltb (length cs) (clause_count d) (omega (arith, size, room)))
-    (le-leb (sum_by length cs + length c) max_literals (omega (arith, fits, sum_by-append length cs (c ∷ ds), sum_by-cons length c ds))) in
-    run_cons (at_clauses d cs) (at_clauses d (cs ++ c ∷ [])) (literal_words c) (map literal_words ds)
-    (ap (option_and_then (put_clause (at_clauses d cs))) (clause_back d.vars [] c few both.0) ∙ ap (λ (b : Bool). cond b (Some (at_clauses d (cs ++ c ∷ []))) None) there)
-    ∙ clauses_run d (cs ++ c ∷ []) ds few both.1 (omega (arith, room, ap length joined)) (subst (λ (xs : List (List ℤ)). sum_by length xs ≤ max_literals) (sym joined) fits)
-    ∙ ap (λ (xs : List (List ℤ)). Some (at_clauses d xs)) joined
+clauses_run d cs ds few h room fits =
+    clauses_lift d (formula.formula_with d.vars cs) (map literal_words ds)
+    ∙ ap (option_map (with_texts d)) (formula.clauses_back d.vars (clause_count d) cs ds few h room fits)

@@ -105,7 +105,7 @@ middle_run protect b n m kept set rest few small h g =
 
 -- THE PROBLEM LINE
 
--- what the part of all lines says
+-- what all lines of the body say
 record IsWholePart (b : Body) : Type 0 where
   finished : is_finished (part_from b) ≡ true
   ends : may_end (part_from b) ≡ true

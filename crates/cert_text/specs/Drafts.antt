@@ -1,10 +1,10 @@
 -- What was read of a document, line by line, and what the next line leads to.
-use Rattle.std.specs.Prelude.{ℕ, ◌+◌, ◌-◌, ◌^◌, Bool, true, false, ◌&&◌, ◌==◌, nat_lt, nat_le, if◌then◌else◌, List, [], ◌∷◌, ◌++◌, map, length, ℤ, codes, Option, Some, None, option_map, option_and_then}
+use Rattle.std.specs.Prelude.{ℕ, ◌-◌, ◌^◌, Bool, true, false, ◌&&◌, ◌==◌, if◌then◌else◌, List, [], ◌∷◌, ◌++◌, map, length, ℤ, codes, Option, Some, None, option_map, option_and_then}
 use Rattle.std.specs.Option.{option_zip}
 use Rattle.std.specs.Str.{bytes_eq}
 use Rattle.lk_model.specs.Texts.Lines.{Word}
-use Rattle.lk_model.specs.Limits.{max_vars, max_clauses, max_literals}
-use Rattle.lk_model.specs.Formulas.Formula.{literal_count, with_clause}
+use Rattle.lk_model.specs.Limits.{max_vars, max_clauses}
+use Rattle.lk_model.specs.Formulas.Formula.{Cnf}
 use Rattle.lk_model.specs.Texts.PlainText.{ended, literal_words, number_words}
 use Rattle.lk_model.specs.Documents.Text.{comment, version, first_lines}
 use Rattle.lk_model.specs.declared.document.DoneDocument.{DoneDocument}
@@ -18,7 +18,8 @@ use Rattle.cert_text.specs.declared.draft.LineDue.{LineDue}
 use Rattle.cert_text.specs.declared.draft.LineDue.TheVariants.{Format, Sizes, Protect, Keep, Set, Learned, Body, Clauses}
 use Rattle.line_text.specs.Fields.{after, one_within, two_within}
 use Rattle.line_text.specs.SizeLines.{problem_line, is_problem}
-use Rattle.line_text.specs.FieldLists.{rising_from, literals_from, clause_from}
+use Rattle.line_text.specs.FieldLists.{rising_from, literals_from}
+use Rattle.formula_text.specs.FormulaLines.{next_clause}
 use Rattle.cert_text.specs.Parts.{part_word, part_of, part_lines, part_next, may_end, is_finished, body_of, rounds_of}
 use Rattle.cert_text.specs.PureLines.{fresh_pure}
 
@@ -43,7 +44,7 @@ learned_line count = comment (codes "learned") (number_words (count ∷ []))
 abbrev pub head_lines : Draft → List (List Word)
 head_lines d = first_lines (part_word d.part) d.vars d.clauses d.protect
 
--- and those behind it, up to the body
+-- and those after it, up to the body
 abbrev pub middle_lines : Draft → List (List Word)
 middle_lines d = if is_finished d.part then keep_line d.kept ∷ set_line d.set ∷ [] else learned_line d.learned ∷ []
 
@@ -83,7 +84,7 @@ next_format d words =
     option_map (λ (h : Option (List ℕ) × Part). record d { due = Sizes; protect = h.0; part = h.1 })
     (option_and_then format_words (after (codes "c") (codes "leank") words))
 
--- the line behind that of the protected variables
+-- the line after that of the protected variables
 abbrev pub due_then : Part → LineDue
 due_then p = if is_finished p then Keep else Learned
 
@@ -114,15 +115,8 @@ next_body d words = if is_problem d.vars (clause_count d) words
     then if may_end d.part then Some (record d { due = Clauses }) else None
     else option_map (λ (p : Part). record d { part = p }) (part_next d.vars d.clauses d.part words)
 
--- the limits leave room for the clause
-abbrev pub has_room : Draft → List ℤ → Bool
-has_room d clause = nat_lt (length d.texts.clauses) (clause_count d) && nat_le (literal_count d.texts + length clause) max_literals
-
-abbrev pub put_clause : Draft → List ℤ → Option Draft
-put_clause d clause = if has_room d clause then Some (record d { texts = with_clause d.texts clause }) else None
-
-abbrev pub next_clause : Draft → List Word → Option Draft
-next_clause d words = option_and_then (put_clause d) (clause_from d.vars [] words)
+abbrev pub next_text : Draft → List Word → Option Draft
+next_text d words = option_map (λ (F : Cnf). record d { texts = F }) (next_clause (clause_count d) d.texts words)
 
 abbrev pub next_at : LineDue → Draft → List Word → Option Draft
 next_at Format d words = next_format d words
@@ -132,7 +126,7 @@ next_at Keep d words = next_keep d words
 next_at Set d words = next_set d words
 next_at Learned d words = next_learned d words
 next_at Body d words = next_body d words
-next_at Clauses d words = next_clause d words
+next_at Clauses d words = next_text d words
 
 -- what a line of these words leads to, if one may come
 abbrev pub next_draft : Draft → List Word → Option Draft

@@ -33,7 +33,7 @@ abbrev pub share_by : Option ℕ → Option ℤ → Option Share
 share_by (Some p) (Some z) = Some (record { pos = p; z = z })
 share_by _ _ = None
 
--- a weight behind others
+-- a weight after others
 abbrev pub weight_within : ℕ → List Weight → Word → Word → Option Weight
 weight_within n ws v x = weight_by (number_within (last_or 0 (map (λ (w : Weight). w.var) ws) + 1) n (plain_number v)) (if_weight (plain_number x))
 

@@ -20,7 +20,7 @@ part_word (Linear p) = codes "linear"
 part_word (General p) = codes "general"
 part_word (Unfinished p) = codes "unfinished"
 
--- the part of which no line was read, by that word
+-- the body of which no line was read, by that word
 abbrev pub part_of : Word → Option Part
 part_of word = if bytes_eq word (codes "pure") then Some (Pure fresh_pure)
     else if bytes_eq word (codes "matching") then Some (Matching fresh_matching)

@@ -1,4 +1,4 @@
--- Parts of documents as they are printed.
+-- Sections of documents as they are printed.
 use Rattle.std.specs.Prelude.{List, [], ◌∷◌, ◌++◌, codes}
 use Rattle.std.specs.List.{flat_map}
 use Rattle.std.specs.Fmt.{decimal, signed_decimal}
@@ -21,7 +21,7 @@ share_words shares = flat_map (λ (s : Share). decimal s.pos ∷ signed_decimal 
 abbrev pub unit_words : Unit → List Word
 unit_words u = decimal u.var ∷ signed_decimal u.d ∷ share_words u.shares
 
--- the lines of a finished document behind its first ones
+-- the lines of a finished document after its first ones
 abbrev pub found_lines : DoneDocument → List (List Word)
 found_lines d = comment (codes "keep") (ended (number_words d.kept)) ∷ comment (codes "set") (literal_words d.set) ∷ class_lines d.body
     ++ formula_lines d.texts

@@ -11,7 +11,7 @@ pub(crate) enum LineDue {
     Keep,
     Set,
     Learned,
-    /// A line of the body, or the problem line behind the last one.
+    /// A line of the body, or the problem line after the last one.
     Body,
     Clauses,
 }

@@ -22,7 +22,7 @@ pub(crate) enum Part {
     Unfinished(RoundsPart),
 }
 
-/// The part of which no line was read, by the word for it in the first line of a document.
+/// The body of which no line was read, by the word for it in the first line of a document.
 pub(crate) fn part_of(alloc: Global, word: &[u8]) -> Option<Part>
     ensures { result ≡ part_of word.now }
 {

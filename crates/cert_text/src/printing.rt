@@ -25,7 +25,7 @@ use lk_model::{Body, Document, DoneDocument, OutOfMemory};
 use round_text::put_rounds;
 use std::alloc::Global;
 
-/// The one text of a document. The error is want of memory for the text.
+/// The one text of a document. Fails only if memory for the text runs out.
 #[tactic(auto, using(crate::proofs::PrintedTexts::text_in_row))]
 pub fn print(alloc: Global, d: &Document) -> Result<Vec<u8>, OutOfMemory>
     ensures { IfOk result (λ text. text.items ≡ text_of d.now) }
@@ -47,7 +47,7 @@ fn put_done(out: &mut Vec<u8>, d: &DoneDocument) -> Result<(), OutOfMemory>
     put_found(out, d)
 }
 
-/// Appends the lines behind the first ones of a finished document.
+/// Appends the lines after the first ones of a finished document.
 fn put_found(out: &mut Vec<u8>, d: &DoneDocument) -> Result<(), OutOfMemory>
     ensures { OnOk result (out.new.items ≡ out.old.items ++ flat_map line (found_lines d.now)) }
 {

@@ -11,7 +11,7 @@ use crate::entries::{own_in, row_in};
 use line_text::behind;
 use lk_model::{List, MatchRow, OutOfMemory, Own};
 
-/// The own clauses, and behind them the rows.
+/// The own clauses, and after them the rows.
 #[derive(Drop)]
 pub(crate) struct MatchingPart {
     pub own: List<Own>,

@@ -20,7 +20,7 @@ pub(crate) struct PurePart {
     pub pairs: List<Pair>,
 }
 
-/// Takes the line of the order, or one of a pair behind it.
+/// Takes the line of the order, or one of a pair after it.
 pub(crate) fn take_pure(
     alloc: Global,
     part: &mut PurePart,

@@ -8,7 +8,7 @@ ghost use Rattle.cert_text.specs.Parts.{is_finished};
 ghost use Rattle.cert_text.specs.Drafts.{clause_count, document_by, done_by, open_by, finished, fresh_draft};
 ghost use Rattle.cert_text.specs.Drafts.{is_at_clauses, lines_read};
 ghost use Rattle.cert_text.specs.Completing.{IsCompletedBy, IsRead};
-ghost use Rattle.lk_model.specs.Documents.Reading.{IsTextOf};
+ghost use Rattle.lk_model.specs.Documents.Reading.{IsTextOfDocument};
 ghost use Rattle.cert_text.specs.ReadTexts.{IsStopAt, ReadsDocuments};
 ghost use Rattle.line_text.specs.LineReading.{CanComplete};
 
@@ -51,9 +51,9 @@ impl LineReader for DocumentReader {
 
 /// The document that has this text. Other bytes are refused with the first line in which no document's
 /// text can go on, counted from 1. A last line without its byte 10 is such a line; where the text ends too
-/// early, so is the line after its last one. The other error is want of memory.
+/// early, so is the line after its last one. The other error says that memory ran out.
 pub fn read(alloc: Global, bytes: &[u8]) -> Result<Document, ReadStop>
-    ensures document { IfOk result (IsTextOf bytes.now) }
+    ensures document { IfOk result (IsTextOfDocument bytes.now) }
     ensures stop { IfErr result (IsStopAt bytes.now) }
 {
     read_lines(alloc, document_reader(alloc)?, bytes)

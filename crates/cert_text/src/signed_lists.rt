@@ -1,4 +1,4 @@
-//! Lists of signed numbers, each behind the number of a variable or a position, that the word 0 closes.
+//! Lists of signed numbers, each after the number of a variable or a position, that the word 0 closes.
 ghost use Rattle.std.specs.Prelude.{◌≡◌, ◌+◌, [], IfOk};
 ghost use Rattle.lk_model.specs.Texts.NumberWords.{plain_number};
 ghost use Rattle.line_text.specs.Fields.{fields, number_within};

@@ -3,9 +3,10 @@ ghost use Rattle.std.specs.Prelude.{◌≡◌, ◌≤◌, IfOk, true};
 ghost use Rattle.lk_model.specs.Limits.{max_vars, max_clauses};
 ghost use Rattle.line_text.specs.Fields.{fields};
 ghost use Rattle.cert_text.specs.Drafts.{clause_count, due_then, due_first, next_format, next_sizes, next_protect};
-ghost use Rattle.cert_text.specs.Drafts.{next_keep, next_set, next_learned, next_body, next_clause, next_draft};
+ghost use Rattle.cert_text.specs.Drafts.{next_keep, next_set, next_learned, next_body, next_text, next_draft};
 ghost use Rattle.cert_text.specs.Drafts.{protect_of, format_words};
-ghost use Rattle.cert_text.specs.Taking.{IsReady, IsReadyAgain, IsSmall};
+ghost use Rattle.cert_text.specs.Taking.{IsSmall};
+ghost use Rattle.formula_text.specs.FormulaLines.{IsReady, IsReadyAgain};
 ghost use Rattle.line_text.specs.Taking.{IsTaken};
 
 use crate::draft::{Draft, LineDue};
@@ -28,9 +29,9 @@ pub(crate) fn take_line(
     line: &[u8],
 ) -> Result<bool, OutOfMemory>
     requires small { IsSmall draft.old }
-    requires growing { IsReady draft.old growing.old }
+    requires growing { IsReady draft.old.vars growing.old }
     ensures taken { IfOk result (λ taken. IsTaken (next_draft draft.old (fields line.now)) taken draft.new) }
-    ensures ready { IfOk result (λ taken. IsReadyAgain taken draft.new growing.new) }
+    ensures ready { IfOk result (λ taken. IsReadyAgain taken draft.new.vars growing.new) }
 {
     match draft.due {
         LineDue::Format => Ok(take_format(alloc, draft, line)),
@@ -96,7 +97,7 @@ fn protect_of(alloc: Global, version: &[u8]) -> Option<Option<List<u32>>>
     None
 }
 
-/// The line behind that of the protected variables.
+/// The line after that of the protected variables.
 fn due_then(part: &Part) -> LineDue
     ensures { result ≡ due_then part.now }
 {
@@ -107,7 +108,7 @@ fn due_then(part: &Part) -> LineDue
     }
 }
 
-/// The line behind that of the sizes.
+/// The line after that of the sizes.
 fn due_first(protect: &Option<List<u32>>, part: &Part) -> LineDue
     ensures { result ≡ due_first protect.now part.now }
 {
@@ -218,7 +219,7 @@ pub(crate) fn clause_count(draft: &Draft) -> usize
     }
 }
 
-/// Takes a line of the body, or the problem line behind the last one.
+/// Takes a line of the body, or the problem line after the last one.
 fn take_body(alloc: Global, draft: &mut Draft, line: &[u8]) -> Result<bool, OutOfMemory>
     requires { draft.old.vars ≤ max_vars }
     ensures taken { IfOk result (λ taken. IsTaken (next_body draft.old (fields line.now)) taken draft.new) }
@@ -237,9 +238,9 @@ fn take_body(alloc: Global, draft: &mut Draft, line: &[u8]) -> Result<bool, OutO
 /// Takes the line of a clause, by an open clause that has no literal before and after.
 fn take_text(draft: &mut Draft, growing: &mut OpenClause, line: &[u8]) -> Result<bool, OutOfMemory>
     requires small { IsSmall draft.old }
-    requires growing { IsReady draft.old growing.old }
-    ensures taken { IfOk result (λ taken. IsTaken (next_clause draft.old (fields line.now)) taken draft.new) }
-    ensures ready { IfOk result (λ taken. IsReadyAgain taken draft.new growing.new) }
+    requires growing { IsReady draft.old.vars growing.old }
+    ensures taken { IfOk result (λ taken. IsTaken (next_text draft.old (fields line.now)) taken draft.new) }
+    ensures ready { IfOk result (λ taken. IsReadyAgain taken draft.new.vars growing.new) }
 {
     let count = clause_count(draft);
     take_clause(&mut draft.texts, growing, line, count)

@@ -20,7 +20,7 @@ use Rattle.lk_model.specs.declared.document.DoneDocument.{DoneDocument}
 use Rattle.lk_model.proofs.Booleans.{and_true}
 use Rattle.lk_model.proofs.Clauses.{form_at}
 use Rattle.lk_model.proofs.Products.{mul_add}
-use Rattle.kernel_laws.proofs.Linear.Balances.{incidence_more, incidence_other}
+use Rattle.linear_laws.proofs.Balances.{incidence_more, incidence_other}
 use Rattle.check_tables.specs.Occurring.{AreOccurring}
 use Rattle.check_linear.specs.Linear.{signed, numbers_in, numbers_at, numbers_of, AreNumbers, AddsNumbers, is_unbalanced}
 use Rattle.check_tables.proofs.KeptFlags.{find_to}

@@ -15,7 +15,7 @@ use Rattle.lk_model.specs.Formulas.Crossed.{no_variable}
 use Rattle.lk_model.specs.Formulas.Balance.{balance_in}
 use Rattle.lk_model.specs.Held.VariableSets.{is_in}
 use Rattle.lk_model.specs.Documents.Documents.{unit_of, shares_at}
-use Rattle.lk_model.specs.Documents.Form.{is_unit, is_weight}
+use Rattle.lk_model.specs.Documents.Form.{is_linear_unit, is_weight}
 use Rattle.lk_model.specs.Checks.Check.{line_fails}
 use Rattle.lk_model.specs.Checks.LinearChecks.{bad_unit}
 use Rattle.lk_model.specs.declared.document.Share.{Share}
@@ -52,7 +52,7 @@ pub record HasUnitForm (m : ℕ) (u : Unit) : Type 0 where
   pub rising : rises_within 0 m (map (λ (s : Share). s.pos) u.shares) ≡ true
   pub weights : list_all (λ (s : Share). is_weight s.z) u.shares ≡ true
 
-pub unit_form : (m : ℕ) (u : Unit) → is_unit m u ≡ true → HasUnitForm m u
+pub unit_form : (m : ℕ) (u : Unit) → is_linear_unit m u ≡ true → HasUnitForm m u
 unit_form m u form =
     let a = and_true (is_in_range u.d && rises_within 0 m (map (λ (s : Share). s.pos) u.shares)) (list_all (λ (s : Share). is_weight s.z) u.shares) form in
     let b = and_true (is_in_range u.d) (rises_within 0 m (map (λ (s : Share). s.pos) u.shares)) a.0 in
@@ -253,7 +253,7 @@ any_agree s t a (suc n) same =
     (λ j. same a (omega arith) (omega arith) j || any_agree s t (a + 1) n (λ w low high. same w (omega (arith, low)) (omega (arith, high))) j)
 
 -- so the line tells what is asked
-line_asks : (F : Cnf) (kept : List ℕ) (flags occurring : List Bool) (u : Unit) (v : ℕ) → is_formula F ≡ true → AreKeptFlags (length F.clauses) kept flags → AreOccurring F kept occurring → is_unit (length F.clauses) u ≡ true → u.var ≡ v
+line_asks : (F : Cnf) (kept : List ℕ) (flags occurring : List Bool) (u : Unit) (v : ℕ) → is_formula F ≡ true → AreKeptFlags (length F.clauses) kept flags → AreOccurring F kept occurring → is_linear_unit (length F.clauses) u ≡ true → u.var ≡ v
     → is_bad_unit_line F flags occurring u ≡ asks F kept v u
 line_asks F kept flags occurring u v form k o unit same =
     let shares = shares_kept (length F.clauses) kept flags 0 u.shares k (unit_form (length F.clauses) u unit).rising in
@@ -269,14 +269,14 @@ unit_var (x ∷ units) v u e = elim (cases_Bool (x.var == v)) [
 ]
 
 line_told_by : (F : Cnf) (kept : List ℕ) (flags occurring : List Bool) (units : List Unit) (v : ℕ) (o : Option Unit) → is_formula F ≡ true → AreKeptFlags (length F.clauses) kept flags → AreOccurring F kept occurring
-    → list_all (is_unit (length F.clauses)) units ≡ true → unit_of units v ≡ o
+    → list_all (is_linear_unit (length F.clauses)) units ≡ true → unit_of units v ≡ o
     → line_fails (variable_occurs F kept v) o (is_bad_unit_line F flags occurring) ≡ line_fails (variable_occurs F kept v) o (asks F kept v)
 line_told_by F kept flags occurring units v None form k o all is = refl
 line_told_by F kept flags occurring units v (Some u) form k o all is =
-    ap (λ (b : Bool). not (variable_occurs F kept v) || b) (line_asks F kept flags occurring u v form k o (found_passes (is_unit (length F.clauses)) (λ (x : Unit). x.var == v) units u all is) (unit_var units v u is))
+    ap (λ (b : Bool). not (variable_occurs F kept v) || b) (line_asks F kept flags occurring u v form k o (found_passes (is_linear_unit (length F.clauses)) (λ (x : Unit). x.var == v) units u all is) (unit_var units v u is))
 
 pub unit_found : (F : Cnf) (d : DoneDocument) (units : List Unit) (flags occurring : List Bool) (table : List ℕ) → is_formula F ≡ true → AreKeptFlags (length F.clauses) d.kept flags → AreOccurring F d.kept occurring
-    → list_all (is_unit (length F.clauses)) units ≡ true → AreUnitPlaces F.vars units table → find (is_bad_unit F flags occurring units table) (variables_to F.vars) ≡ (bad_unit no_variable F d units).place
+    → list_all (is_linear_unit (length F.clauses)) units ≡ true → AreUnitPlaces F.vars units table → find (is_bad_unit F flags occurring units table) (variables_to F.vars) ≡ (bad_unit no_variable F d units).place
 unfolding bad_unit
 unit_found F d units flags occurring table form k o all t =
     find_to F.vars (is_bad_unit F flags occurring units table) (λ v. line_fails (variable_occurs F d.kept v) (unit_of units v) (asks F d.kept v)) (λ v low high.

@@ -11,7 +11,7 @@ ghost use Rattle.lk_model.specs.Formulas.Literal.{is_literal};
 ghost use Rattle.lk_model.specs.Formulas.Formula.{is_formula};
 ghost use Rattle.lk_model.specs.Formulas.Lean.{are_positions};
 ghost use Rattle.lk_model.specs.Formulas.Crossed.{no_variable};
-ghost use Rattle.lk_model.specs.Documents.Form.{is_unit, is_weight};
+ghost use Rattle.lk_model.specs.Documents.Form.{is_linear_unit, is_weight};
 ghost use Rattle.lk_model.specs.Checks.LinearChecks.{bad_unit};
 ghost use Rattle.lk_model.specs.declared.document.Share.{Share};
 ghost use Rattle.lk_model.specs.declared.document.Unit.{Unit};
@@ -52,7 +52,7 @@ pub fn bad_unit<R: Threads + Sync, G: Gate>(
 ) -> Result<Option<u32>, OutOfMemory>
     requires kept { IsTrue (are_positions f.now d.now.kept) }
     requires rising { IsTrue (rises_within 0 f.now.vars (map (λ (u : Unit). u.var) units.now)) }
-    requires units { IsTrue (list_all (is_unit (length f.now.clauses)) units.now) }
+    requires units { IsTrue (list_all (is_linear_unit (length f.now.clauses)) units.now) }
     ensures { IfOk result (λ place. place ≡ (bad_unit no_variable f.now d.now units.now).place) }
 {
     let n = f.vars();
@@ -76,7 +76,7 @@ fn bad_unit_in(
     requires occurring { length tables.now.occurring ≡ f.now.vars }
     requires numbers { AreUnitPlaces f.now.vars units.now tables.now.numbers.items }
     requires rising { IsTrue (rises_within 0 f.now.vars (map (λ (u : Unit). u.var) units.now)) }
-    requires units { IsTrue (list_all (is_unit (length f.now.clauses)) units.now) }
+    requires units { IsTrue (list_all (is_linear_unit (length f.now.clauses)) units.now) }
     requires first { 0 < span.first }
     requires within { span.first + span.count ≤ f.now.vars + 1 }
     requires few { span.first + span.count < 2 ^ 32 }
@@ -107,7 +107,7 @@ fn is_bad_unit(
     requires occurring { length tables.now.occurring ≡ f.now.vars }
     requires numbers { AreUnitPlaces f.now.vars units.now tables.now.numbers.items }
     requires rising { IsTrue (rises_within 0 f.now.vars (map (λ (u : Unit). u.var) units.now)) }
-    requires units { IsTrue (list_all (is_unit (length f.now.clauses)) units.now) }
+    requires units { IsTrue (list_all (is_linear_unit (length f.now.clauses)) units.now) }
     requires first { 0 < v }
     requires last { v ≤ f.now.vars }
     requires none { AreNone f.now.vars numbers.old.items }
@@ -166,7 +166,7 @@ fn is_bad_line(
 ) -> Result<bool, OutOfMemory>
     requires first { 0 < unit.now.var }
     requires last { unit.now.var ≤ f.now.vars }
-    requires unit { IsTrue (is_unit (length f.now.clauses) unit.now) }
+    requires unit { IsTrue (is_linear_unit (length f.now.clauses) unit.now) }
     requires occurring { length occurring.now ≡ f.now.vars }
     requires none { AreNone f.now.vars numbers.old.items }
     ensures bad { IfOk result (λ bad. bad ≡ is_bad_unit_line f.now kept.now occurring.now unit.now) }

@@ -11,7 +11,7 @@ use Rattle.lk_model.specs.Formulas.Formula.{Cnf}
 use Rattle.lk_model.specs.Checks.PureChecks.{breaks_order, bad_order}
 use Rattle.lk_model.specs.declared.document.DoneDocument.{DoneDocument}
 use Rattle.lk_model.proofs.Founds.{none_found, up_to_bounds}
-use Rattle.kernel_laws.proofs.Pure.Orders.{is_bad_place}
+use Rattle.pure_laws.proofs.Orders.{is_bad_place}
 use Rattle.check_lines.specs.Order.{first_broken, is_unsound, IsSoundCount}
 use Rattle.check_lines.proofs.OrderBreaks.{breaks, first_before, first_breaks}
 

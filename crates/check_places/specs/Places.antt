@@ -10,7 +10,7 @@ use Rattle.check_places.specs.Flags.{is_flagged}
 abbrev pub is_misplaced : Assignment → Bool → List ℤ → Bool
 is_misplaced φ kept clause = if kept then touches φ clause else not (touches φ clause)
 
--- the clause holds a literal on the variable that is true
+-- the clause contains a literal on the variable that is true
 abbrev pub holds_true : Assignment → ℕ → List ℤ → Bool
 holds_true φ v clause = list_any (λ l. makes_true φ l && (variable l == v)) clause
 

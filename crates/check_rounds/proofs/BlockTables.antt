@@ -19,7 +19,7 @@ use Rattle.lk_model.proofs.Variables.{variable_bound, position_with, among_varia
 use Rattle.check_tables.specs.Occurring.{AreOccurring}
 use Rattle.check_rounds.specs.Blocking.{blocks, first_block, AreBlocks, is_before, is_unblocked, BlocksClause, BlocksRound}
 use Rattle.check_tables.proofs.KeptFlags.{find_to}
-use Rattle.kernel_laws.proofs.Protected.Crossing.{mentions_crossed as crossed_mentions}
+use Rattle.kernel_laws.proofs.Crossing.{mentions_crossed as crossed_mentions}
 
 -- WHAT IS BLOCKED AFTER ROUNDS
 

@@ -18,7 +18,7 @@ use Rattle.lk_model.specs.declared.document.Turn.{Turn}
 use Rattle.lk_model.specs.declared.document.Round.{Round}
 use Rattle.lk_model.proofs.Booleans.{and_true}
 use Rattle.lk_model.proofs.ListTests.{all_at}
-use Rattle.kernel_laws.proofs.General.JoinLaws.{blocked_joined}
+use Rattle.general_laws.proofs.JoinLaws.{blocked_joined}
 use Rattle.check_tables.proofs.Parts.{map_or}
 use Rattle.check_rounds.specs.declared.chains.RoundAt.{RoundAt}
 use Rattle.check_rounds.specs.declared.work.Work.{Work}

@@ -22,7 +22,7 @@ use Rattle.lk_model.proofs.Lists.{among_here, among_append as among_both}
 use Rattle.lk_model.proofs.ListTests.{all_at}
 use Rattle.lk_model.proofs.Variables.{occurs, position_with}
 use Rattle.lk_model.proofs.Clauses.{clause_past}
-use Rattle.kernel_laws.proofs.General.PartLaws.{is_position}
+use Rattle.general_laws.proofs.PartLaws.{is_position}
 use Rattle.lk_model.proofs.Flags.{or_yes}
 use Rattle.check_places.specs.Places.{is_reached}
 use Rattle.check_rounds.specs.Blocking.{AreMarked, AreRoundSteps, BlocksClause, BlocksRound, first_number}

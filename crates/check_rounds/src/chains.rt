@@ -78,7 +78,7 @@ pub fn bad_step<'a, R: Threads + Sync, G: Gate>(
 /// variable is blocked before the round. The error says that memory ran out.
 ///
 /// If there is none, and the last clause and no other is empty, the clauses of the part have no model
-/// (`refutation_law` of `kernel_laws`).
+/// (`refutation_law` of `general_laws`).
 pub fn misstated_step(
     alloc: Global,
     f: &Formula,

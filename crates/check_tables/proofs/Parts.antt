@@ -1,4 +1,4 @@
--- What is found first in parts of a list.
+-- What is found first in pieces of a list.
 use Rattle.std.proofs.Common.{◌≡◌, ◌∙◌, ℕ, zero, suc, ◌<◌, Bool, List, [], ◌∷◌, ◌++◌, length, get_or, refl, sym, ap, arith, append_assoc, append-nil, Option, Some, None, Ok, Err, find, option_map}
 use Rattle.std.specs.Prelude.{IfOk}
 use Rattle.std.specs.Option.{option_or}
@@ -8,13 +8,13 @@ use denote.Ref.{Bor}
 use Rattle.check_tables.specs.Places.{Answer, IsPart, joined}
 use Rattle.check_places.specs.FirstAnswers.{first_answer}
 
--- what is told of the first of two
+-- what is found of the first of two
 pub map_or : {X Y : Type 0} (f : X → Y) (a b : Option X) → option_map f (option_or a b) ≡ option_or (option_map f a) (option_map f b)
 map_or f None b = refl
 map_or f (Some x) b = refl
 
 module _ {T : Type 0} where
-  -- one part more
+  -- one piece more
   pub joined_more : (parts : List (Bor (List T))) (part : Bor (List T)) → joined (parts ++ part ∷ []) ≡ joined parts ++ part.now
   joined_more [] part = append-nil part.now
   joined_more (p ∷ parts) part = ap (λ (xs : List T). p.now ++ xs) (joined_more parts part) ∙ sym (append_assoc p.now (joined parts) part.now)
@@ -26,7 +26,7 @@ module _ {T : Type 0} where
       let w = part_within parts i d (omega (arith, lt)) in
       (p.now ++ w.0, w.1, ap (λ (xs : List T). p.now ++ xs) w.2 ∙ sym (append_assoc p.now w.0 ((get_or parts i d).now ++ w.1)))
 
-  -- the first of all answers is what is told of the first item of all
+  -- the first of all answers is what is found of the first item of all
   pub first_of_parts : (by : T → Bool) (tell : T → ℕ) (parts : List (Bor (List T))) (rs : List Answer) → length rs ≡ length parts
       → ((i : ℕ) (d : Bor (List T)) (r : Answer) → i < length parts → IfOk (get_or rs i r) (λ place. place ≡ option_map tell (find by (get_or parts i d).now)))
       → IfOk (first_answer rs) (λ place. place ≡ option_map tell (find by (joined parts)))

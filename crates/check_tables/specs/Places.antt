@@ -16,7 +16,7 @@ Answer = Result (Option ℕ) OutOfMemory
 abbrev pub places_in : Span → List ℕ
 places_in span = range_with_len span.first span.count
 
--- the ranges, one behind the other, have the places from a first one to n
+-- the ranges, one after another, have the places from a first one to n
 abbrev pub AreCut : ℕ → ℕ → List Span → Type 0
 AreCut first n [] = first ≡ n + 1
 AreCut first n (span ∷ spans) = (span.first ≡ first) × AreCut (first + span.count) n spans
@@ -43,9 +43,9 @@ module _ {F : Type 0} (g : Shared F (Span × Unit {0}) Answer) (f : F) (n : ℕ)
   abbrev pub Finds : (ℕ → Bool) → Type 0
   Finds by = (span : Span) (r : Answer) → 0 < span.first → span.first + span.count ≤ n + 1 → FnReturns g f (span, tt) r → IfOk r (λ place. place ≡ find by (places_in span))
 
--- A SEARCH IN PARTS OF A LIST
+-- A SEARCH IN PIECES OF A LIST
 
--- what the parts have, one after another
+-- what the pieces have, one after another
 abbrev pub joined : {T : Type 0} → List (Bor (List T)) → List T
 joined [] = []
 joined (part ∷ parts) = part.now ++ joined parts
@@ -55,10 +55,10 @@ abbrev pub IsPart : {T : Type 0} → List T → List T → Type 0
 IsPart {T} part items = (before : List T) × (after : List T) × (items ≡ before ++ (part ++ after))
 
 module _ {F T : Type 0} (g : Shared F (Bor (List T) × Unit {0}) Answer) (f : F) (items : List T) where
-  -- f may be called on each part of the list
+  -- f may be called on each piece of the list
   abbrev pub AcceptsParts : Type 0
   AcceptsParts = (part : Bor (List T)) → IsPart part.now items → g.pre f (part, tt)
 
-  -- and answers what is told of the first item there at which the test says yes
+  -- and answers what is found of the first item there at which the test says yes
   abbrev pub FindsItems : (T → Bool) → (T → ℕ) → Type 0
   FindsItems by tell = (part : Bor (List T)) (r : Answer) → IsPart part.now items → FnReturns g f (part, tt) r → IfOk r (λ place. place ≡ option_map tell (find by part.now))

@@ -102,9 +102,9 @@ impl<R: Threads + Sync, G: Gate> Workers<'_, R, G> {
         first_answer(answers.as_slice())
     }
 
-    /// What is told of the first item of a list by a search in parts of it, of which each worker has one.
-    /// The search is to answer what is told of the first item of its part at which a test says yes, or
-    /// none; so this is told of the first such item of all. The error says that memory ran out, here or
+    /// What is found of the first item of a list by a search in pieces of it, of which each worker has one.
+    /// The search is to answer what is found of the first item of its piece at which a test says yes, or
+    /// none; so that of the first such item of all is answered. The error says that memory ran out, here or
     /// in the search.
     pub fn first_found<T: Sync, F: Fn(&[T]) -> Result<Option<u64>, OutOfMemory> + Sync>(
         &self,

@@ -9,13 +9,13 @@ use Rattle.lean_checker.specs.declared.verdict.Verdict.TheVariants as verdict
 use Rattle.command_words.specs.Shapes.{inputs_of}
 use Rattle.command_endings.specs.Commands.{Answers, Decides}
 use Rattle.status_lines.specs.Verdicts.{verdict_status}
-use Rattle.command_endings.specs.Commands.Demonstrating as demo
-use Rattle.command_endings.specs.Commands.Extracting as mus
-use Rattle.command_endings.specs.Commands.GeneralReducing as general
-use Rattle.command_endings.specs.Commands.Solving as solve
-use Rattle.command_endings.specs.Commands.Verifying as verify
-use Rattle.command_endings.specs.Commands.Extending.{Outcome, Open, Fails, Extends, outcome_of, outcome_status, said_of}
-use Rattle.command_endings.specs.Commands.LinearReducing.{protected}
+use Rattle.command_endings.specs.Commands.Demo as demo
+use Rattle.command_endings.specs.Commands.Mus as mus
+use Rattle.command_endings.specs.Commands.ReduceGeneral as general
+use Rattle.command_endings.specs.Commands.Solve as solve
+use Rattle.command_endings.specs.Commands.Verify as verify
+use Rattle.command_endings.specs.Commands.Extend.{Outcome, Open, Fails, Extends, outcome_of, outcome_status, said_of}
+use Rattle.command_endings.specs.Commands.ReduceLinear.{protected}
 use Rattle.command_inputs.specs.Inputs.{Values}
 use Rattle.command_words.specs.Settings.{Options}
 use Rattle.status_lines.specs.declared.status.Status.{Status}
@@ -25,7 +25,7 @@ use Rattle.command_words.specs.declared.command.Command.{Command}
 use Rattle.command_words.specs.declared.command.Command.TheVariants.{ReducePure, ReduceMatching, ReduceLinear, ReduceGeneral, Check, Extend, Report, Demo, Solve, Verify, Deficiency, Edits, Mus}
 use Rattle.command_endings.proofs.LinearEndings.{run_silent}
 use Rattle.command_endings.proofs.SolveEndings.{solve_status}
-use Rattle.command_endings.proofs.ExtractEndings.{mus_status}
+use Rattle.command_endings.proofs.MusEndings.{mus_status}
 
 -- of the statuses that it may answer with, it is the decided one
 pub one_status : (command : Command) (options : Options) (values : Values (inputs_of command)) (decided status : Status) (written said : List ℕ) → Decides command options values decided → Answers command options values status written said → status ≡ decided

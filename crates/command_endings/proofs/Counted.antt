@@ -6,7 +6,7 @@ use Rattle.std.proofs.lemmas.List.{length-take}
 use Rattle.std.proofs.lemmas.List.Sums.{count_by-le-length, count_by_more_yes, count_by_more_no, sum_by_more}
 use Rattle.lk_model.specs.Lists.{is_empty}
 use Rattle.lk_model.specs.Formulas.Literal.{is_tautology}
-use Rattle.command_endings.specs.Commands.Reporting.{is_unit}
+use Rattle.command_endings.specs.Commands.Report.{is_unit_clause}
 use Rattle.command_endings.specs.Counting.{counts_of, with_clause}
 
 one_more : (t : List ℤ → Bool) (cs : List (List ℤ)) (i : ℕ) → i < length cs → count_by t (take (i + 1) cs) ≡ count_by t (take i cs) + from_bool (t (get_or cs i []))
@@ -20,7 +20,7 @@ pub counted : (cs : List (List ℤ)) (i : ℕ) → i < length cs → counts_of (
 counted cs i h =
     let literals = sum_by_more length cs i [] h in
     let empty = one_more is_empty cs i h in
-    let units = one_more is_unit cs i h in
+    let units = one_more is_unit_clause cs i h in
     let tautologies = one_more is_tautology cs i h in
     λ k. record { literals = literals k; empty = empty k; units = units k; tautologies = tautologies k }
 

@@ -6,7 +6,8 @@ use Rattle.lk_model.specs.Formulas.Crossed.{no_variable}
 use Rattle.lk_model.specs.Formulas.Formula.{Cnf, is_formula, IsWithinLimits}
 use Rattle.lk_model.specs.Checks.Checks.{Accepts}
 use Rattle.lk_model.specs.Documents.Text.{text_of}
-use Rattle.lk_model.specs.Reduction.{Reduces, ReducesBy, IsUnfinishedText}
+use Rattle.lk_model.specs.Reduction.{Reduces, IsUnfinishedText}
+use Rattle.lk_model.specs.Formulas.Protected.{ReducesBy}
 use Rattle.lk_model.specs.Texts.PlainText.{line}
 use Rattle.lk_model.specs.declared.class.Class.{Class}
 use Rattle.lk_model.specs.declared.class.Class.TheVariants.{Matching, General}
@@ -15,14 +16,14 @@ use Rattle.lk_model.specs.declared.document.DoneDocument.{DoneDocument}
 use Rattle.lk_model.specs.declared.document.OpenDocument.{OpenDocument}
 use Rattle.lk_model.specs.declared.document.Round.{Round}
 use Rattle.lk_model.specs.declared.list.OutOfMemory.{OutOfMemory}
-use Rattle.kernel_laws.proofs.Protected.EmptyLaws.{formula_same}
+use Rattle.kernel_laws.proofs.EmptyLaws.{formula_same}
 use Rattle.lean_checker.specs.Verdicts.{verdict_by, verdict_of, verdict_words}
 use Rattle.lean_checker.specs.declared.verdict.Verdict.TheVariants.{Accepted}
 use Rattle.part_kernels.specs.ByParts.{IsFirstUnfinished}
 use Rattle.demo_formula.specs.Demo.{demo_formula}
-use Rattle.command_endings.specs.Commands.Demonstrating.{conflicts, demo_rows, Answers, WritesDemo, IsCheckedSize}
+use Rattle.command_endings.specs.Commands.Demo.{conflicts, demo_rows, Answers, WritesDemo, IsCheckedSize}
 use Rattle.status_lines.specs.RunLines.{conflicts_line}
-use Rattle.command_endings.specs.Commands.Reporting.{IsKernelSize, row_line}
+use Rattle.command_endings.specs.Commands.Report.{IsKernelSize, row_line}
 use Rattle.reductions.specs.Founds.{document_of, open_document_of, IsFoundFor, IsKernelFound}
 use Rattle.command_words.specs.Settings.{Options, options_by}
 use Rattle.reductions.specs.declared.document.Found.{Found}

@@ -5,9 +5,9 @@ use Rattle.edit_text.specs.LiveClauses.{LiveClauses}
 use Rattle.edit_text.specs.Edits.{CanBeMade, after, states}
 use Rattle.edit_text.specs.declared.edit.Edit.{Edit}
 use Rattle.match_edits.specs.LiveKernel.{IsLiveKernel}
-use Rattle.command_endings.specs.Commands.Editing.{keep_line, WritesKernels, WritesKernel}
+use Rattle.command_endings.specs.Commands.Edits.{keep_line, WritesKernels, WritesKernel}
 
--- the states behind the first one
+-- the states after the first one
 abbrev pub later : LiveClauses → List Edit → List LiveClauses
 later s [] = []
 later s (e ∷ edits) = states (after s e) edits
@@ -29,7 +29,7 @@ pub record IsWritten (first : LiveClauses) (edits : List Edit) (s : LiveClauses)
   pub made : CanBeMade s left
   pub goes_on : (more : List ℕ) → WritesKernels (later s left) more → WritesKernels (states first edits) (text ++ more)
 
--- behind the line of the first state
+-- after the line of the first state
 pub begun : (s : LiveClauses) (edits : List Edit) (before text : List ℕ) → CanBeMade s edits → before ≡ [] → WritesKernel s before text → IsWritten s edits s edits text
 begun s edits before text made none w = record {
   made = made;
@@ -38,7 +38,7 @@ begun s edits before text made none w = record {
       rw (is, states_are s edits) (one_more s w.kept (later s edits) more w.is rest);
 }
 
--- and behind the line of one more
+-- and after the line of one more
 pub next : (first s behind : LiveClauses) (edits left others : List Edit) (e : Edit) (text longer : List ℕ) → left ≡ e ∷ others → behind ≡ after s e → IsWritten first edits s left text → WritesKernel behind text longer
     → IsWritten first edits behind others longer
 next first s behind edits left others e text longer split is h w =
@@ -52,7 +52,7 @@ next first s behind edits left others e text longer split is h w =
           subst (WritesKernels (states first edits)) (sym (ap (λ (t : List ℕ). t ++ more) w.written_is ∙ append_assoc text (keep_line w.kept) more)) (was.goes_on (keep_line w.kept ++ more) lines);
     }
 
--- behind all edits
+-- after all edits
 pub written : (first s : LiveClauses) (edits left : List Edit) (text : List ℕ) → left ≡ [] → IsWritten first edits s left text → WritesKernels (states first edits) text
 written first s edits left text none h =
     let was : IsWritten first edits s [] text = subst (λ (es : List Edit). IsWritten first edits s es text) none h in

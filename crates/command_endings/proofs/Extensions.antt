@@ -4,21 +4,20 @@ use Rattle.std.specs.Prelude.{IsTrue}
 use Rattle.lk_model.specs.Lists.{among, rises_within}
 use Rattle.lk_model.specs.Formulas.Literal.{variable}
 use Rattle.lk_model.specs.Formulas.Formula.{Cnf, clause_at}
-use Rattle.lk_model.specs.Formulas.Assignment.{Assignment, assignment_of, satisfies, extended, extended_value}
+use Rattle.lk_model.specs.Formulas.Assignment.{Assignment, assignment_of, satisfies, extended, extended_value, IsModel}
 use Rattle.lk_model.specs.Formulas.Crossed.{protected_by}
 use Rattle.lk_model.specs.Formulas.Lean.{all_of}
 use Rattle.lk_model.specs.Documents.Form.{is_done_in_form}
 use Rattle.lk_model.specs.Checks.Check.{Check, first_of}
 use Rattle.lk_model.specs.Checks.CommonChecks.{model_fails}
 use Rattle.lk_model.specs.Checks.Checks.{Accepts, first_five, first_failure_to_extend, first_failure_to_extend_under}
-use Rattle.lk_model.specs.Reduction.{IsModel}
 use Rattle.lk_model.specs.declared.document.DoneDocument.{DoneDocument}
 use Rattle.lk_model.specs.declared.document.Document.TheVariants.{Done as Finished}
 use Rattle.lk_model.specs.declared.verdict.Why.{Why}
 use Rattle.lk_model.proofs.Founds.{none_found}
 use Rattle.kernel_laws.proofs.Passed.{HaveNoPlace, none_fails, has_passed, same_numbers, in_form}
 use Rattle.lean_checker.proofs.ExtendFailures.{model_place}
-use Rattle.command_endings.specs.Commands.Extending.{Outcome, Open, Fails, Extends, extension, outcome_by, outcome_status, written_of, said_of, model_line, failure_line, Tells}
+use Rattle.command_endings.specs.Commands.Extend.{Outcome, Open, Fails, Extends, extension, outcome_by, outcome_status, written_of, said_of, model_line, failure_line, Tells}
 use Rattle.status_lines.specs.Statuses.{is_result}
 use Rattle.status_lines.specs.declared.status.Status.{Status}
 use Rattle.status_lines.specs.declared.status.Status.TheVariants.{Done, Refused}

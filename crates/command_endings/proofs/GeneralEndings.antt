@@ -3,7 +3,7 @@ use Rattle.std.proofs.Common.{◌≡◌, ◌∙◌, ℕ, ◌*◌, ◌^◌, ◌<�
 use Rattle.std.specs.Prelude.{IsTrue}
 use Rattle.std.specs.List.{AllByRecursion}
 use Rattle.lk_model.specs.Formulas.Formula.{Cnf, is_formula, IsWithinLimits}
-use Rattle.lk_model.specs.Formulas.Crossed.{Variables, formula_without, protected_by}
+use Rattle.lk_model.specs.Formulas.Crossed.{Variables, formula_without, protected_by, protect_line_of}
 use Rattle.lk_model.specs.Formulas.Parts.{IsPartUnder, ArePartsUnder}
 use Rattle.lk_model.specs.Chains.Rounds.{names_within, AreNeeded}
 use Rattle.lk_model.specs.Chains.Searches.{WantsMore}
@@ -11,26 +11,28 @@ use Rattle.lk_model.specs.Checks.RoundChecks.{learned_steps}
 use Rattle.lk_model.specs.Checks.Checks.{IsSound, HasProgress}
 use Rattle.lk_model.specs.Documents.Form.{is_protect_line}
 use Rattle.lk_model.specs.Documents.Text.{text_of}
-use Rattle.lk_model.specs.Reduction.{Reduces, protect_line_of}
+use Rattle.lk_model.specs.Reduction.{Reduces}
 use Rattle.lk_model.specs.declared.class.Class.TheVariants.{General}
 use Rattle.lk_model.specs.declared.document.Document.TheVariants.{Done as Finished, Unfinished}
 use Rattle.lk_model.specs.declared.document.DoneDocument.{DoneDocument}
 use Rattle.lk_model.specs.declared.document.OpenDocument.{OpenDocument}
 use Rattle.lk_model.specs.declared.document.Round.{Round}
 use Rattle.lk_model.proofs.Crossings.{formula_form}
-use Rattle.kernel_laws.specs.General.OpenResults.{open_document}
-use Rattle.kernel_laws.specs.Protected.FoundLaw.{rest_of, open_written_for}
-use Rattle.kernel_laws.proofs.General.OpenResults.{open_result_law}
-use Rattle.kernel_laws.proofs.Protected.CheckLaws.{check_law}
-use Rattle.kernel_laws.proofs.Protected.Crossing.{same_count}
-use Rattle.kernel_laws.proofs.Protected.FoundLaws.{found_law, limits_without as limits_left}
-use Rattle.kernel_laws.proofs.Protected.Parts.{run_law}
-use Rattle.round_laws.specs.Budgets.{AreWithinBudget, CanBeFinished}
+use Rattle.kernel_laws.proofs.Crossing.{same_count}
+use Rattle.general_laws.specs.OpenResults.{open_document}
+use Rattle.general_laws.proofs.OpenResults.{open_result_law}
+use Rattle.document_laws.specs.FoundLaw.{rest_of, open_written_for}
+use Rattle.document_laws.proofs.ProtectedCheckLaws.{protected_check_law}
+use Rattle.document_laws.proofs.FoundLaws.{found_law, limits_without as limits_left}
+use Rattle.document_laws.proofs.Parts.{run_law}
+use Rattle.round_laws.specs.Budgets.{CanBeFinished}
+use Rattle.lk_model.specs.Chains.Budgets.{AreWithinBudget}
 use Rattle.round_laws.proofs.RoundLaws.{round_law}
 use Rattle.part_kernels.specs.ByParts.{CanBeDone, IsFirstUnfinished}
-use Rattle.command_endings.specs.Commands.GeneralReducing.{IsEnough, WritesFinished, WritesUnfinished, Writes, Answers}
+use Rattle.command_endings.specs.Commands.ReduceGeneral.{IsEnoughToReduce, WritesFinished, WritesUnfinishedKernel, Writes, Answers}
 use Rattle.status_lines.specs.RunLines.{conflicts_line}
-use Rattle.reductions.specs.Founds.{document_of, open_document_of, rounds_in, IsKernelFound}
+use Rattle.reductions.specs.Founds.{document_of, open_document_of, IsKernelFound}
+use Rattle.lk_model.specs.Documents.Documents.{rounds_in}
 use Rattle.reductions.specs.Protecting.{line_of, left_of, IsProblem}
 use Rattle.command_words.specs.Settings.{Options}
 use Rattle.reductions.specs.declared.document.Found.{Found}
@@ -81,14 +83,14 @@ each_finished P F conflicts (part ∷ parts) h =
 
 -- the document of rounds over a part of what is left, written for the formula
 pub writes_open : (options : Options) (F : Cnf) (protect : Option (List ℕ)) (rounds : List Round) (d : OpenDocument) (written : List ℕ) → IsTrue (is_formula F) → IsWithinLimits F → protect ≡ protect_line_of F options.protect
-    → IsFirstUnfinished (rest_of F protect) options.conflicts rounds → options.conflicts < 2 ^ 63 → d ≡ open_document_of F protect options.conflicts rounds → written ≡ text_of (Unfinished d) → WritesUnfinished options F written
+    → IsFirstUnfinished (rest_of F protect) options.conflicts rounds → options.conflicts < 2 ^ 63 → d ≡ open_document_of F protect options.conflicts rounds → written ≡ text_of (Unfinished d) → WritesUnfinishedKernel options F written
 writes_open options F protect rounds d written form limits lists h few told text =
     let P = protected_by protect in
     let G = rest_of F protect in
     let o = open_document G rounds in
     let u = h.unfinished in
     let there = open_result_law.sound G h.part rounds (formula_form P F form) (limits_left P F limits) h.positions h.apart u.result (subst (λ (n : ℕ). n < 2 ^ 63) (sym u.all) few) in
-    let line = subst (λ (l : Option (List ℕ)). IsTrue (is_protect_line F.vars l)) (sym lists) (check_law.listed F options.protect) in
+    let line = subst (λ (l : Option (List ℕ)). IsTrue (is_protect_line F.vars l)) (sym lists) (protected_check_law.listed F options.protect) in
     let same : open_written_for F protect o ≡ open_document_of F protect options.conflicts rounds = λ i. record { vars = F.vars; clauses = same_count F P i; protect = protect; learned = u.all i; rounds = rounds; texts = F } in
     let is = same ∙ sym told in
     record {
@@ -103,7 +105,7 @@ writes_open options F protect rounds d written form limits lists h few told text
       learned = ap (λ (e : OpenDocument). length (learned_steps e.rounds)) told ∙ u.all;
       part = h.part;
       is_part = subst (λ (e : OpenDocument). IsPartUnder (protected_by e.protect) F h.part) (sym told) ((run_law.part P F h.part).1 h.is_part);
-      names = subst (λ (e : OpenDocument). IsTrue (names_within F h.part e.rounds)) (sym told) (check_law.names P F h.part rounds ∙ open_result_law.names G h.part rounds u.result);
+      names = subst (λ (e : OpenDocument). IsTrue (names_within F h.part e.rounds)) (sym told) (protected_check_law.names P F h.part rounds ∙ open_result_law.names G h.part rounds u.result);
       wants = subst (λ (e : OpenDocument). WantsMore F (protected_by e.protect) h.part e.rounds) (sym told) (round_law.protected_wants F protect h.part rounds u.wants);
       before = h.before;
       after = h.after;
@@ -112,7 +114,7 @@ writes_open options F protect rounds d written form limits lists h few told text
     }
 
 -- the budget was not enough
-not_enough : (conflicts : ℕ) (F : Cnf) → conflicts < F.vars * 3 ^ F.vars → IsEnough conflicts F → ⊥
+not_enough : (conflicts : ℕ) (F : Cnf) → conflicts < F.vars * 3 ^ F.vars → IsEnoughToReduce conflicts F → ⊥
 not_enough conflicts F few enough = omega (arith, few, enough)
 
 pub open_answers : (options : Options) (F : Cnf) (p : Problem) (rounds : List Round) (d : OpenDocument) (status : Status) (written said : List ℕ) → IsProblem F options.protect p → IsTrue (is_formula p.formula) → IsWithinLimits p.formula

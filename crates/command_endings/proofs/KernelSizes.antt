@@ -4,12 +4,12 @@ use Rattle.lk_model.specs.Formulas.Assignment.{Assignment}
 use Rattle.lk_model.specs.Formulas.Crossed.{no_variable}
 use Rattle.lk_model.specs.Formulas.Formula.{Cnf, positions_of}
 use Rattle.lk_model.specs.Formulas.Lean.{Kernel, KernelWithin}
-use Rattle.lk_model.specs.Reduction.{ReducesBy}
+use Rattle.lk_model.specs.Formulas.Protected.{ReducesBy}
 use Rattle.lk_model.specs.declared.class.Class.{Class}
 use Rattle.kernel_laws.proofs.Kernels.{one_kernel}
 use Rattle.kernel_laws.proofs.Occurrences.{in_positions}
 use Rattle.kernel_laws.proofs.Reductions.{kernel_plain}
-use Rattle.command_endings.specs.Commands.Reporting.{IsKernelSize}
+use Rattle.command_endings.specs.Commands.Report.{IsKernelSize}
 
 size_of : (class : Class) (F : Cnf) (kept : List ℕ) → Kernel class F kept → IsKernelSize class F (length kept)
 size_of class F kept k = record { kept = kept; kernel = k; each = λ others o. ap length (one_kernel class F kept others k o) }

@@ -10,7 +10,7 @@ pub mod GeneralEndings
 pub mod DemoEndings
 pub mod Extensions
 pub mod SolveEndings
-pub mod ExtractEndings
+pub mod MusEndings
 pub mod VerifiedAnswers
 pub mod NumberLines
 pub mod EditedLines

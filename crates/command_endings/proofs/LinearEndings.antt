@@ -10,7 +10,7 @@ use Rattle.linear_kernel.specs.Answers.{AnswersRun}
 use Rattle.linear_kernel.specs.declared.stop.LinearStop.{LinearStop}
 use Rattle.linear_kernel.specs.declared.stop.LinearStop.TheVariants as stop
 use Rattle.reductions.specs.Founds.{EndsDone}
-use Rattle.command_endings.specs.Commands.LinearReducing.{protected, status_by, line_by, Writes, Answers}
+use Rattle.command_endings.specs.Commands.ReduceLinear.{protected, status_by, line_by, Writes, Answers}
 use Rattle.status_lines.specs.RunLines.{budget_line, too_large_line}
 use Rattle.status_lines.specs.LinearStops.{TellsStop}
 use Rattle.command_words.specs.Settings.{Options}

@@ -6,7 +6,7 @@ use Rattle.std.proofs.lemmas.Bool.{cases_Bool, eqb-true}
 use Rattle.std.specs.Borrow.{Bor}
 use Rattle.lk_model.specs.Formulas.Formula.{Cnf}
 use Rattle.lk_model.specs.Lists.{among, is_between}
-use Rattle.lk_model.specs.Reduction.{protect_line_of}
+use Rattle.lk_model.specs.Formulas.Crossed.{protect_line_of}
 use Rattle.lk_model.specs.Texts.Lines.{Word}
 use Rattle.lk_model.specs.Texts.NumberWords.{natural}
 use Rattle.lk_model.specs.declared.list.OutOfMemory.{OutOfMemory}

@@ -5,7 +5,7 @@ use Rattle.lk_model.specs.Formulas.Formula.{Cnf}
 use Rattle.lk_model.specs.Formulas.Crossed.{protected_by}
 use Rattle.lk_model.specs.Formulas.Lean.{are_positions}
 use Rattle.lk_model.specs.Lists.{rises_within}
-use Rattle.kernel_laws.proofs.Protected.Crossing.{same_count}
+use Rattle.kernel_laws.proofs.Crossing.{same_count}
 use Rattle.reductions.specs.Protecting.{line_of, left_of, IsProblem}
 use Rattle.reductions.specs.declared.problem.Problem.{Problem}
 

@@ -1,7 +1,7 @@
 -- How what is found of a formula is answered.
 use Rattle.std.proofs.Common.{◌≡◌, ◌∙◌, ℕ, ◌^◌, ◌<◌, true, false, List, [], ◌∷◌, Option, None, length, ℤ, refl, sym, ap, subst, arith, inl, inr}
 use Rattle.std.specs.Prelude.{is_some}
-use Rattle.lk_model.specs.Formulas.Formula.{Cnf, is_formula}
+use Rattle.lk_model.specs.Formulas.Formula.{Cnf, is_formula, first_empty}
 use Rattle.lk_model.specs.Formulas.Assignment.{assignment_of}
 use Rattle.lk_model.specs.Chains.Rounds.{used_positions}
 use Rattle.lk_model.specs.Checks.Checks.{IsSound, HasProgress}
@@ -9,16 +9,15 @@ use Rattle.lk_model.specs.Documents.Text.{text_of}
 use Rattle.lk_model.specs.declared.document.Document.TheVariants.{Unfinished}
 use Rattle.lk_model.specs.declared.document.OpenDocument.{OpenDocument}
 use Rattle.lk_model.specs.declared.document.Round.{Round}
-use Rattle.kernel_laws.specs.General.OpenResults.{open_document}
-use Rattle.kernel_solve.specs.EmptyClause.{first_empty}
-use Rattle.kernel_solve.specs.Solutions.{IsTotalModel, IsRefuted, IsUnfinished}
+use Rattle.general_laws.specs.OpenResults.{open_document}
+use Rattle.kernel_solve.specs.Solutions.{IsTotalModel, IsRefutedWithin, IsUndecidedWithin}
 use Rattle.reductions.specs.Founds.{open_document_of}
-use Rattle.answer_check.specs.Answers.{answer_text}
-use Rattle.answer_check.specs.declared.answer.Answer.TheVariants.{Model, Refuted}
+use Rattle.lk_model.specs.Documents.Answers.{answer_text}
+use Rattle.lk_model.specs.declared.answer.Answer.TheVariants.{Model, Refuted}
 use Rattle.answer_check.proofs.AnswerLaws.{answer_law}
 use Rattle.command_words.specs.Settings.{Options}
 use Rattle.status_lines.specs.RunLines.{conflicts_line}
-use Rattle.command_endings.specs.Commands.Solving.{IsEnoughToRefute, WritesModel, WritesRefutation, WritesUnfinished, Answers, Decides}
+use Rattle.command_endings.specs.Commands.Solve.{IsEnoughToRefute, WritesModel, WritesRefutation, WritesUnfinishedSearch, Answers, Decides}
 use Rattle.status_lines.specs.declared.status.Status.{Status}
 use Rattle.status_lines.specs.declared.status.Status.TheVariants.{Done, Words, Input, ReadFault, WriteFault, Budget, TooWide, TooLarge, Refused, Memory, Satisfiable, Unsatisfiable}
 use Rattle.command_endings.proofs.VerifiedAnswers.{in_kernel}
@@ -36,7 +35,7 @@ writes_model F literals written h text =
     }
 
 -- the text of a refutation
-pub writes_refutation : (options : Options) (F : Cnf) (round : Round) (written : List ℕ) → is_formula F ≡ true → IsRefuted F options.conflicts round → written ≡ answer_text (Refuted round) → WritesRefutation options F written
+pub writes_refutation : (options : Options) (F : Cnf) (round : Round) (written : List ℕ) → is_formula F ≡ true → IsRefutedWithin F options.conflicts round → written ≡ answer_text (Refuted round) → WritesRefutation options F written
 writes_refutation options F round written formed h text =
     let form = answer_law.refutes F _ round h.refutation in
     record {
@@ -51,8 +50,8 @@ writes_refutation options F round written formed h text =
     }
 
 -- the text of an open round
-pub writes_unfinished : (options : Options) (F : Cnf) (round : Round) (rounds : List Round) (d : OpenDocument) (written : List ℕ) → IsUnfinished F options.conflicts round → rounds ≡ round ∷ []
-    → d ≡ open_document_of F None options.conflicts rounds → written ≡ text_of (Unfinished d) → WritesUnfinished options F written
+pub writes_unfinished : (options : Options) (F : Cnf) (round : Round) (rounds : List Round) (d : OpenDocument) (written : List ℕ) → IsUndecidedWithin F options.conflicts round → rounds ≡ round ∷ []
+    → d ≡ open_document_of F None options.conflicts rounds → written ≡ text_of (Unfinished d) → WritesUnfinishedSearch options F written
 writes_unfinished options F round rounds d written h one told text =
     let counted : open_document F (round ∷ []) ≡ open_document_of F None options.conflicts (round ∷ []) =
     λ i. record { vars = F.vars; clauses = length F.clauses; protect = None; learned = h.all i; rounds = round ∷ []; texts = F } in
@@ -81,12 +80,12 @@ pub model_answers : (options : Options) (F : Cnf) (literals : List ℤ) (status 
 model_answers options F literals status written said h is text silent =
     subst (λ (s : Status). Answers options F s written said) (sym is) (writes_model F literals written h text, silent)
 
-pub refuted_answers : (options : Options) (F : Cnf) (round : Round) (status : Status) (written said : List ℕ) → is_formula F ≡ true → IsRefuted F options.conflicts round → status ≡ Unsatisfiable → written ≡ answer_text (Refuted round) → said ≡ []
+pub refuted_answers : (options : Options) (F : Cnf) (round : Round) (status : Status) (written said : List ℕ) → is_formula F ≡ true → IsRefutedWithin F options.conflicts round → status ≡ Unsatisfiable → written ≡ answer_text (Refuted round) → said ≡ []
     → Answers options F status written said
 refuted_answers options F round status written said formed h is text silent =
     subst (λ (s : Status). Answers options F s written said) (sym is) (writes_refutation options F round written formed h text, silent)
 
-pub open_answers : (options : Options) (F : Cnf) (round : Round) (rounds : List Round) (d : OpenDocument) (status : Status) (written said : List ℕ) → IsUnfinished F options.conflicts round → rounds ≡ round ∷ []
+pub open_answers : (options : Options) (F : Cnf) (round : Round) (rounds : List Round) (d : OpenDocument) (status : Status) (written said : List ℕ) → IsUndecidedWithin F options.conflicts round → rounds ≡ round ∷ []
     → d ≡ open_document_of F None options.conflicts rounds → status ≡ Budget → written ≡ text_of (Unfinished d) → said ≡ conflicts_line d.learned → Answers options F status written said
 open_answers options F round rounds d status written said h one told is text line =
     subst (λ (s : Status). Answers options F s written said) (sym is)

@@ -11,7 +11,7 @@ use Rattle.lean_checker.specs.Accepted.{IsReducedBy}
 use Rattle.lean_checker.specs.Verdicts.{verdict_by, verdict_of, verdict_words}
 use Rattle.lean_checker.specs.declared.verdict.Verdict.{Verdict}
 use Rattle.lean_checker.specs.declared.verdict.Verdict.TheVariants as verdict
-use Rattle.command_endings.specs.Commands.Checking.{Answers, IsProved}
+use Rattle.command_endings.specs.Commands.Check.{Answers, IsProvedDocument}
 use Rattle.status_lines.specs.Verdicts.{verdict_status}
 use Rattle.status_lines.specs.Statuses.{is_result}
 use Rattle.status_lines.specs.declared.status.Status.{Status}
@@ -26,7 +26,7 @@ verdict_result v status e = subst (λ (s : Status). IsTrue (is_result s)) (sym e
     by (verdict.No why) = refl
 
 -- where no check fails, the document is proved
-is_proved : (F : Cnf) (d : Document) → IsTrue (is_in_form d) → first_failure F d ≡ None → (verdict_of F d ≡ verdict.Accepted → IsReducedBy F d) → IsProved F d
+is_proved : (F : Cnf) (d : Document) → IsTrue (is_in_form d) → first_failure F d ≡ None → (verdict_of F d ≡ verdict.Accepted → IsReducedBy F d) → IsProvedDocument F d
 is_proved F (Done d) form none reduced = (record { form = form; checks = none }, reduced (ap (verdict_by (Done d)) none))
 is_proved F (Unfinished d) form none reduced = record { form = form; checks = none }
 

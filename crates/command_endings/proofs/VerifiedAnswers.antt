@@ -16,18 +16,18 @@ use Rattle.lk_model.specs.declared.document.MusAnswer.{MusAnswer}
 use Rattle.lk_model.specs.declared.verdict.Why.{Why}
 use Rattle.lk_model.proofs.Booleans.{and_true}
 use Rattle.lk_model.proofs.Rising.{bounded}
-use Rattle.kernel_laws.proofs.Existence.ExistenceLaws.{existence_law}
-use Rattle.kernel_laws.proofs.Protected.EmptyLaws.{empty_law}
+use Rattle.kernel_laws.proofs.EmptyLaws.{empty_law}
+use Rattle.document_laws.proofs.Existence.ExistenceLaws.{existence_law}
 use Rattle.lean_checker.specs.Verdicts.{verdict_words}
 use Rattle.lean_checker.specs.declared.verdict.Verdict.{Verdict}
-use Rattle.answer_check.specs.Answers.{is_answer}
+use Rattle.lk_model.specs.Documents.Answers.{is_answer}
 use Rattle.answer_check.specs.AnswerChecks.{first_failure_of_answer}
 use Rattle.answer_check.specs.AnswerLaw.{Shows}
-use Rattle.answer_check.specs.declared.answer.Answer.{Answer}
-use Rattle.answer_check.specs.declared.answer.Answer.TheVariants.{Model, Refuted, Core}
+use Rattle.lk_model.specs.declared.answer.Answer.{Answer}
+use Rattle.lk_model.specs.declared.answer.Answer.TheVariants.{Model, Refuted, Core}
 use Rattle.answer_check.proofs.AnswerLaws.{answer_law}
 use Rattle.status_lines.specs.Verdicts.{verdict_status}
-use Rattle.command_endings.specs.Commands.Verifying.{Answers, AreInKernel, IsMinimalCore, IsProved, verdict_by}
+use Rattle.command_endings.specs.Commands.Verify.{Answers, AreInKernel, IsMinimalCore, IsProvedAnswer, verdict_by}
 use Rattle.status_lines.specs.declared.status.Status.{Status}
 
 -- the positions of a core in form
@@ -69,7 +69,7 @@ minimal_core F core formed form shown =
     }
 
 -- where no check fails, the answer is proved
-is_proved : (F : Cnf) (a : Answer) → is_formula F ≡ true → IsTrue (is_answer F.vars (length F.clauses) a) → first_failure_of_answer F a ≡ None → IsProved F a
+is_proved : (F : Cnf) (a : Answer) → is_formula F ≡ true → IsTrue (is_answer F.vars (length F.clauses) a) → first_failure_of_answer F a ≡ None → IsProvedAnswer F a
 is_proved F (Model literals) formed form none = (answer_law.shows F (Model literals) form).0 none
 is_proved F (Refuted round) formed form none =
     let refutes = (answer_law.shows F (Refuted round) form).0 none in

@@ -6,8 +6,8 @@ ghost use Rattle.command_endings.specs.Counting.{counts_of, with_clause};
 use lk_model::{Formula, Lit, OpenClause, OutOfMemory};
 use std::alloc::Global;
 
-/// How many literals the clauses of a formula hold together, and how many of them have none, have one, and
-/// hold both literals of a variable.
+/// How many literals the clauses of a formula contain together, and how many of them have none, have one, and
+/// contain both literals of a variable.
 #[derive(Clone, Copy)]
 pub(crate) struct Counts {
     pub(crate) literals: u64,

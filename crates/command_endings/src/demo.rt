@@ -7,8 +7,8 @@ ghost use Rattle.lk_model.specs.Checks.Checks.{Accepts};
 ghost use Rattle.lk_model.specs.Formulas.Formula.{is_formula};
 ghost use Rattle.lk_model.specs.Texts.PlainText.{line};
 ghost use Rattle.lk_model.specs.declared.class.Class.TheVariants.{Matching};
-ghost use Rattle.command_endings.specs.Commands.Demonstrating.{conflicts, Answers, WritesDemo};
-ghost use Rattle.command_endings.specs.Commands.Reporting.{IsKernelSize};
+ghost use Rattle.command_endings.specs.Commands.Demo.{conflicts, Answers, WritesDemo};
+ghost use Rattle.command_endings.specs.Commands.Report.{IsKernelSize};
 ghost use Rattle.reductions.specs.Founds.{IsKernelFound};
 ghost use Rattle.status_lines.specs.Statuses.{is_result};
 

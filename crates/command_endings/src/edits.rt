@@ -5,10 +5,10 @@
 //! its ledger is unknown to the functions that search.
 ghost use Rattle.std.specs.Prelude.{◌≡◌, ◌+◌, ◌≤◌, None, length, IfOk, OnOk, IsTrue};
 ghost use Rattle.edit_text.specs.LiveClauses.{live_of};
-ghost use Rattle.edit_text.specs.Edits.{CanBeMade, after, fault_of, is_edit_over, states};
+ghost use Rattle.edit_text.specs.Edits.{CanBeMade, after, edit_fault, is_edit_over, states};
 ghost use Rattle.command_words.specs.OptionRows.{values_of};
 ghost use Rattle.command_endings.specs.Answering.{IsAnswer};
-ghost use Rattle.command_endings.specs.Commands.Editing.{WritesKernels, WritesKernel};
+ghost use Rattle.command_endings.specs.Commands.Edits.{WritesKernels, WritesKernel};
 
 use crate::numbers::put_closed;
 use bipartite_match::Steps;
@@ -20,7 +20,7 @@ use match_edits::{EditStop, Live};
 use status_lines::{Ending, Status};
 use std::alloc::Global;
 
-/// The matching kernel of a formula, and that of what is live behind each of its edits.
+/// The matching kernel of a formula, and that of what is live after each of its edits.
 pub fn answer(alloc: Global, read: &Edited, options: &Options<'_>) -> Result<Ending, OutOfMemory>
     requires made { CanBeMade (live_of read.now.formula) read.now.edits }
     ensures { IfOk result (IsAnswer Command.Edits (values_of options.now) (read.now.formula, (read.now.edits, tt))) }
@@ -37,7 +37,7 @@ pub fn answer(alloc: Global, read: &Edited, options: &Options<'_>) -> Result<End
     })
 }
 
-/// The lines of the matching kernels of what is live: as it stands, and behind each of these edits. For each edit at
+/// The lines of the matching kernels of what is live: as it stands, and after each of these edits. For each edit at
 /// most one search is counted.
 fn text_of<L>(
     alloc: Global,
@@ -66,7 +66,7 @@ fn make<L>(
     steps: &mut Steps<L>,
 ) -> Result<(), OutOfMemory>
     requires over { IsTrue (is_edit_over live.old.held.vars edit.now) }
-    requires made { fault_of live.old edit.now ≡ None }
+    requires made { edit_fault live.old edit.now ≡ None }
     ensures ok { OnOk result (live.new ≡ after live.old edit.now) }
     ensures search { steps.new ≤ steps.old + 1 }
 {

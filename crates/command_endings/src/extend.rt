@@ -6,7 +6,7 @@ ghost use Rattle.lk_model.specs.Formulas.Assignment.{assignment_of, extended, ex
 ghost use Rattle.lk_model.specs.Held.PartialValues.{assignment_by};
 ghost use Rattle.lk_model.specs.Documents.Form.{is_done_in_form, is_in_form};
 ghost use Rattle.lk_model.specs.declared.document.Document.TheVariants.{Done as Finished};
-ghost use Rattle.command_endings.specs.Commands.Extending.{Tells, failure_line};
+ghost use Rattle.command_endings.specs.Commands.Extend.{Tells, failure_line};
 
 use cert_text::print_model;
 use lean_checker::{Verdict, check_extend, put_verdict};

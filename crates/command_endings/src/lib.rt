@@ -3,11 +3,11 @@
 
 pub mod check;
 mod counts;
+pub mod deficiency_command;
 pub mod demo;
 pub mod edits;
 pub mod extend;
-pub mod extract;
-pub mod measure;
+pub mod mus;
 mod numbers;
 mod protect;
 pub mod reduce;

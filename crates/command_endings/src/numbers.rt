@@ -20,7 +20,7 @@ pub(crate) fn put_closed(
     put_closing_zero(text)
 }
 
-/// Appends numbers, each with a space behind it.
+/// Appends numbers, each with a space after it.
 fn put_numbers(text: &mut Vec<u8>, numbers: &[u32]) -> Result<(), OutOfMemory>
     ensures { OnOk result (text.new.items ≡ text.old.items ++ spaced (number_words numbers.now)) }
 {

@@ -4,7 +4,7 @@ ghost use Rattle.lk_model.specs.Formulas.Formula.{occurring_count};
 ghost use Rattle.lk_model.specs.declared.class.Class.TheVariants.{Pure, Matching};
 ghost use Rattle.command_words.specs.OptionRows.{values_of};
 ghost use Rattle.command_endings.specs.Answering.{IsAnswer};
-ghost use Rattle.command_endings.specs.Commands.Reporting.{IsKernelSize, WritesReport};
+ghost use Rattle.command_endings.specs.Commands.Report.{IsKernelSize, WritesReport};
 
 use crate::counts::counts_of;
 use crate::rows::{Row, text_of};

@@ -1,6 +1,6 @@
 //! Lines of a word and a number.
 ghost use Rattle.std.specs.Prelude.{◌≡◌, ◌++◌, map, flat_map, OnOk, IfOk};
-ghost use Rattle.command_endings.specs.Commands.Reporting.{row_line};
+ghost use Rattle.command_endings.specs.Commands.Report.{row_line};
 ghost use Rattle.command_endings.specs.Counting.{seen};
 
 use lk_model::OutOfMemory;

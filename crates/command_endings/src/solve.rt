@@ -3,7 +3,7 @@ ghost use Rattle.std.specs.Prelude.{◌≡◌, ◌∷◌, ◌<◌, ◌^◌, [], 
 ghost use Rattle.lk_model.specs.Documents.Text.{text_of};
 ghost use Rattle.lk_model.specs.Formulas.Formula.{is_formula, IsWithinLimits};
 ghost use Rattle.lk_model.specs.declared.document.Document.TheVariants.{Unfinished};
-ghost use Rattle.answer_check.specs.Answers.{answer_text};
+ghost use Rattle.lk_model.specs.Documents.Answers.{answer_text};
 ghost use Rattle.command_words.specs.OptionRows.{values_of};
 ghost use Rattle.reductions.specs.Founds.{open_document_of};
 ghost use Rattle.command_endings.specs.Answering.{IsAnswer};

@@ -1,9 +1,9 @@
 //! What `verify` answers.
 ghost use Rattle.std.specs.Prelude.{◌≡◌, length, IfOk, IsTrue};
-ghost use Rattle.answer_check.specs.Answers.{is_answer};
+ghost use Rattle.lk_model.specs.Documents.Answers.{is_answer};
 ghost use Rattle.command_words.specs.OptionRows.{values_of};
 ghost use Rattle.command_endings.specs.Answering.{IsAnswer};
-ghost use Rattle.command_endings.specs.Commands.Verifying.{verdict_by};
+ghost use Rattle.command_endings.specs.Commands.Verify.{verdict_by};
 
 use answer_check::check_answer;
 use command_inputs::Answered;

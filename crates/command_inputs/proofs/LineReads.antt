@@ -9,9 +9,10 @@ use Rattle.lk_model.specs.declared.verdict.ReadStop.{ReadStop}
 use Rattle.lk_model.specs.declared.verdict.ReadStop.TheVariants as read
 use Rattle.line_text.specs.LineReading.{Grammar, IsAdmitted, IsStopOf}
 use Rattle.cert_text.specs.ReadTexts.{ReadsDocuments}
-use Rattle.answer_check.specs.Answers as answers
-use Rattle.answer_check.specs.Answers.{ReadsAnswers, is_answer}
-use Rattle.answer_check.specs.declared.answer.Answer.{Answer as AnyAnswer}
+use Rattle.lk_model.specs.Documents.Answers as answers
+use Rattle.lk_model.specs.Documents.Answers.{is_answer}
+use Rattle.answer_check.specs.ReadAnswers.{ReadsAnswers}
+use Rattle.lk_model.specs.declared.answer.Answer.{Answer as AnyAnswer}
 use Rattle.command_words.specs.declared.shape.Grammar.TheVariants.{Document, Answer}
 use Rattle.command_inputs.specs.Inputs.{nothing_known, StopsReading, StopsText}
 use Rattle.command_inputs.specs.LineTexts.{IsReadFrom}
@@ -22,8 +23,8 @@ use Rattle.command_inputs.proofs.LineStreams.{told_value}
 
 -- DOCUMENTS
 
-pub document_read : (Completes : Grammar AnyDocument) (told : Option (List ℕ)) (d : AnyDocument) → ReadsDocuments Completes → IsReadFrom Completes told d → IfSome told (λ bytes. documents.IsTextOf bytes d)
-document_read Completes told d reads h = told_value Completes documents.IsTextOf told d (λ bytes r. reads.text bytes d r) h
+pub document_read : (Completes : Grammar AnyDocument) (told : Option (List ℕ)) (d : AnyDocument) → ReadsDocuments Completes → IsReadFrom Completes told d → IfSome told (λ bytes. documents.IsTextOfDocument bytes d)
+document_read Completes told d reads h = told_value Completes documents.IsTextOfDocument told d (λ bytes r. reads.text bytes d r) h
 
 pub document_form : (Completes : Grammar AnyDocument) (told : Option (List ℕ)) (d : AnyDocument) → ReadsDocuments Completes → IsReadFrom Completes told d → IsTrue (is_in_form d)
 document_form Completes told d reads h = (reads.text h.bytes d h.read).form

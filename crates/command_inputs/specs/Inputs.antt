@@ -10,10 +10,10 @@ use Rattle.lk_model.specs.Texts.ModelText.{model_of}
 use Rattle.lk_model.specs.declared.document.Document.{Document as AnyDocument}
 use Rattle.dimacs_reader.specs.Faults.{refusal_of}
 use Rattle.lk_model.specs.Documents.Reading as documents
-use Rattle.answer_check.specs.Answers as answers
+use Rattle.lk_model.specs.Documents.Answers as answers
 use Rattle.edit_text.specs.EditText.{IsEdits, IsFaultyAt}
 use Rattle.edit_text.specs.declared.edit.Edit.{Edit}
-use Rattle.answer_check.specs.declared.answer.Answer.{Answer as AnyAnswer}
+use Rattle.lk_model.specs.declared.answer.Answer.{Answer as AnyAnswer}
 use Rattle.command_words.specs.declared.shape.Grammar.{Grammar}
 use Rattle.command_words.specs.declared.shape.Grammar.TheVariants.{Formula, Document, Model, Answer, Edits}
 use Rattle.command_inputs.specs.declared.stop.Stop.{Stop}
@@ -59,7 +59,7 @@ known_behind Edits known edits = known
 -- the bytes are a text of the value: a model has the formula's variables, an answer is in form for it, and edits are of it
 abbrev pub IsTextOf : (grammar : Grammar) → Known → ValueOf grammar → List ℕ → Type 0
 IsTextOf Formula known F bytes = Spells bytes F
-IsTextOf Document known d bytes = documents.IsTextOf bytes d
+IsTextOf Document known d bytes = documents.IsTextOfDocument bytes d
 IsTextOf Model known literals bytes = model_of bytes known.vars ≡ Ok literals
 IsTextOf Answer known a bytes = answers.IsAnswerText known.vars (length known.clauses) bytes a
 IsTextOf Edits known edits bytes = IsEdits known edits bytes
@@ -134,7 +134,7 @@ StopsOn told known grammars names ailing current stop.Read = IsAilingOn told kno
 StopsOn told known grammars names ailing current stop.Memory = ⊤
 StopsOn told known grammars names ailing current s = IsFirstBad told known grammars names s
 
--- the stop tells of a failed call, or of want of memory
+-- the stop tells of a failed call, or that memory ran out
 abbrev pub IsFailure : Stop → Type 0
 IsFailure stop.Read = ⊤
 IsFailure stop.Memory = ⊤

@@ -1,10 +1,10 @@
 //! Reading whole inputs.
-ghost use Rattle.std.specs.Prelude.{◌≡◌, ◌≢◌, OnOk, Some, ℕ, ◌<◌, ◌≤◌, ◌∷◌, [], length, IfOk, IfErr, IfSome, IsTrue};
+ghost use Rattle.std.specs.Prelude.{◌≡◌, ◌≢◌, OnOk, Some, ◌<◌, ◌≤◌, ◌∷◌, [], length, IfOk, IfErr, IfSome, IsTrue};
 ghost use Rattle.std.specs.Prelude.{IsErrAnd};
 ghost use Rattle.lk_model.specs.Documents.Form.{is_in_form};
-ghost use Rattle.lk_model.specs.Documents.Reading.{IsTextOf};
+ghost use Rattle.lk_model.specs.Documents.Reading.{IsTextOfDocument};
 ghost use Rattle.lk_model.specs.Texts.Dimacs.{Spells};
-ghost use Rattle.answer_check.specs.Answers.{is_answer, IsAnswerText};
+ghost use Rattle.lk_model.specs.Documents.Answers.{is_answer, IsAnswerText};
 ghost use Rattle.edit_text.specs.LiveClauses.{live_of};
 ghost use Rattle.edit_text.specs.Edits.{CanBeMade};
 ghost use Rattle.edit_text.specs.EditText.{IsEdits};
@@ -133,7 +133,7 @@ pub fn read_checked<H: Shelf>(
 /// Reads the document under a name. It is in form.
 fn read_document<H: Shelf>(alloc: Global, shelf: &mut H, name: &str) -> Result<Document, Stop>
     ensures told { TellsTheSame (H.told shelf.old) (H.told shelf.new) }
-    ensures document { IfOk result (λ d. IfSome (H.told shelf.old name.now) (λ bytes. IsTextOf bytes d)) }
+    ensures document { IfOk result (λ d. IfSome (H.told shelf.old name.now) (λ bytes. IsTextOfDocument bytes d)) }
     ensures form { IfOk result (λ d. IsTrue (is_in_form d)) }
     ensures stop { IfErr result
         (StopsReading DocumentText nothing_known (H.told shelf.old name.now) (H.ailing shelf.new)) }

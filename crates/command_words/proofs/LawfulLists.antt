@@ -24,7 +24,7 @@ arity c = length (inputs_of c)
 abbrev pub with_options : Command → ℕ → List Word → Options → Request
 with_options c n names o = record { command = c; names = names; options = record o { number = n } }
 
--- behind so many names stand options
+-- after so many names stand options
 pub behind_names : (c : Command) (n : ℕ) (names words : List Word) → length names ≡ arity c → with_names c n (names ++ words) ≡ option_map (with_options c n names) (options_of (keys_of c) words)
 behind_names c n names words count =
     let enough : nat_le (arity c) (length (names ++ words)) ≡ true = le-leb (arity c) (length (names ++ words)) (omega (arith, count, length-append names words)) in

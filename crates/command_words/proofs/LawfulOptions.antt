@@ -156,7 +156,7 @@ all_pass keys before (word ∷ value ∷ words) e = elim (cases_Bool (is_new key
     none_before None h = refl
     none_before (Some i) h = absurd (let f : ⊥ = cc in f)
 
--- options that go on behind the first i words, and not behind one more
+-- options that go on after the first i words, and not after one more
 pub record IsRefused (keys : List Key) (before words : List Word) (i : ℕ) : Type 0 where
   pub unfit : fits keys before words ≡ false
   pub last : i ≤ length words

@@ -28,7 +28,7 @@ begin keys words = plus_none (refused_place keys [] words)
     plus_none None = refl
     plus_none (Some i) = ap Some (omega arith)
 
--- what goes on behind a place depends on the words from there on alone
+-- what goes on after a place depends on the words from there on alone
 from_there : (keys : List Key) (words before : List Word) (place : ℕ) (rest : List Word) → GoesOn keys words before place → drop place words ≡ rest → refused_place keys [] words ≡ option_map (λ i. i + place) (refused_place keys before rest)
 from_there keys words before place rest on here = on ∙ ap (λ (ws : List Word). option_map (λ i. i + place) (refused_place keys before ws)) here
 
@@ -60,7 +60,7 @@ abbrev doubled : ℕ → ℕ
 doubled zero = zero
 doubled (suc k) = suc (suc (doubled k))
 
--- behind pairs of words, one pair more
+-- after pairs of words, one pair more
 given_more : (k : ℕ) (words rest : List Word) (word value w : Word) → drop (doubled k) words ≡ word ∷ value ∷ rest
     → is_some (value_behind w (take (suc (suc (doubled k))) words)) ≡ (bytes_eq word w || is_some (value_behind w (take (doubled k) words)))
 given_more zero [] rest word value w e = absurd (let f : ⊥ = cc e in f)
@@ -191,7 +191,7 @@ all_given command xs place h end =
     fit : fits keys [] words ≡ true
     fit = all_pass keys [] words (h.on ∙ ap (λ (ws : List Word). option_map (λ i. i + place) (refused_place keys h.before ws)) (no_more xs place end))
 
--- THE VALUE BEHIND A WORD
+-- THE VALUE AFTER A WORD
 
 -- it is among the words from a place on
 pub record IsBehind (option : Word) (xs : List (Bor Word)) (place : ℕ) : Type 0 where

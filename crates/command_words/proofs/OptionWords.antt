@@ -69,7 +69,7 @@ allowed_is (k ∷ keys) key word value a e h =
     left_out true c t h = h
     left_out false c t h = absurd (let f : ⊥ = cc t in f)
 
--- what stands behind an option's word among options is a value of the option
+-- what stands after an option's word among options is a value of the option
 pub value_is : (keys : List Key) (before words : List Word) (key : Key) (w : Word) → agrees keys key ≡ true → fits keys before words ≡ true → value_behind key.word words ≡ Some w → is_value_of key w ≡ true
 value_is keys before [] key w a f e = absurd (let g : ⊥ = cc e in g)
 value_is keys before (word ∷ []) key w a f e = absurd (let g : ⊥ = cc e in g)

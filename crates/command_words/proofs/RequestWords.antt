@@ -24,7 +24,7 @@ pub record IsOpened (xs : List (Bor Word)) (c : Command) (start n : ℕ) : Type 
   pub within : start ≤ length xs
   pub front : IsFront c (take start (texts xs)) n
 
--- the command's words stand at the front, and behind them its number, where it takes one
+-- the command's words stand at the front, and after them its number, where it takes one
 pub opened : (xs : List (Bor Word)) (c : Command) (numbers : Option Range) (front width n : ℕ) → IsCommandOf (texts xs) c → front ≡ length (words_of c) → numbers ≡ number_of c
     → Some n ≡ number_first numbers (drop front (texts xs)) → width ≡ number_words numbers → IsOpened xs c (front + width) n
 opened xs c numbers front width n of at takes e wide = subst (λ (k : ℕ). IsOpened xs c (front + k) n) (sym wide) (by numbers (sym takes) (sym e))

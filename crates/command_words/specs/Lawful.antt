@@ -14,13 +14,13 @@ pub record Request : Type 0 where
   pub names : List Word
   pub options : Options
 
--- the words behind those at the front, where these stand there
+-- the words after those at the front, where these stand there
 abbrev pub behind : List Word → List Word → Option (List Word)
 behind [] words = Some words
 behind (word ∷ front) [] = None
 behind (word ∷ front) (first ∷ words) = if bytes_eq first word then behind front words else None
 
--- the command with this number, names for its inputs, and options behind them
+-- the command with this number, names for its inputs, and options after them
 abbrev pub with_names : Command → ℕ → List Word → Option Request
 with_names command number words =
     let count = length (inputs_of command) in
@@ -39,7 +39,7 @@ number_first None words = Some 0
 number_first (Some range) [] = None
 number_first (Some range) (word ∷ words) = number_within range (natural word)
 
--- the command with its number, where it takes one, and what stands behind that
+-- the command with its number, where it takes one, and what stands after that
 abbrev pub with_number : Command → List Word → Option Request
 with_number command words =
     option_and_then (λ (n : ℕ). with_names command n (drop (number_words (number_of command)) words)) (number_first (number_of command) words)

@@ -16,11 +16,11 @@ is_word_of keys word = list_any (λ (key : Key). bytes_eq key.word word) keys
 abbrev pub is_new : List Key → List Word → Word → Bool
 is_new keys before word = is_word_of keys word && not (has before word)
 
--- the second word may stand behind the first, as its value
+-- the second word may stand after the first, as its value
 abbrev pub is_value : List Key → Word → Word → Bool
 is_value keys word value = is_allowed keys (word, value)
 
--- The place, counted from 0, of the first word that cannot stand where it does behind these options' words, or of the
+-- The place, counted from 0, of the first word that cannot stand where it does after these options' words, or of the
 -- value that is missing.
 abbrev pub refused_place : List Key → List Word → List Word → Option ℕ
 refused_place keys before [] = None

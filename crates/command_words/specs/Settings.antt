@@ -46,7 +46,7 @@ pub record Options : Type 0 where
 
 -- WHICH WORDS ARE OPTIONS
 
--- an option's word, and the word behind it
+-- an option's word, and the word after it
 abbrev pub Setting : Type 0
 Setting = Word × Word
 
@@ -94,13 +94,13 @@ number_within range (Some n) = if nat_le range.least n && nat_le n range.greates
 
 -- WHAT THEY GIVE
 
--- the word behind an option's word
+-- the word after an option's word
 abbrev pub value_behind : Word → List Word → Option Word
 value_behind option [] = None
 value_behind option (word ∷ []) = None
 value_behind option (word ∷ value ∷ words) = if bytes_eq word option then Some value else value_behind option words
 
--- the number behind it, or the usual one where the option is not given
+-- the number after it, or the usual one where the option is not given
 abbrev pub option_number : Key → ℕ → List Word → ℕ
 option_number key usual words = unwrap_or (option_and_then natural (value_behind key.word words)) usual
 

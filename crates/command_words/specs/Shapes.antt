@@ -15,8 +15,8 @@ use Rattle.command_words.specs.declared.shape.Grammar.TheVariants as grammar
 abbrev pub commands : List Command
 commands = ReducePure ∷ ReduceMatching ∷ ReduceLinear ∷ ReduceGeneral ∷ Check ∷ Extend ∷ Report ∷ Demo ∷ Solve ∷ Verify ∷ Deficiency ∷ Edits ∷ Mus ∷ []
 
--- The words at a command's front, the number that stands behind them for the commands that take one, its inputs in the order
--- of the words, and the options that it takes.
+-- The words at a command's front, the number that stands after them for the commands that take one, its inputs in the
+-- order of the words, and the options that it takes.
 pub record Shape : Type 0 where
   pub words : List Word
   pub number : Option Range

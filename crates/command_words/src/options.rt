@@ -64,7 +64,7 @@ fn is_word_of(keys: &[Key], word: &str) -> bool
     keys.iter().any(|key| key.word == word)
 }
 
-/// Whether a word is behind the option's word that is a value of the option.
+/// Whether a word is after the option's word that is a value of the option.
 fn has_value(keys: &[Key], word: &str, behind: &[&str]) -> bool
     ensures { result ≡ is_value_first (map known keys.now) word.now (map (λ w. w.now) behind.now) }
 {
@@ -81,7 +81,7 @@ fn is_allowed(keys: &[Key], word: &str, value: &str) -> bool
     keys.iter().any(|key| key.word == word && key.allows(value))
 }
 
-/// The value behind an option's word, if that is given.
+/// The value after an option's word, if that is given.
 fn value_behind<'a>(words: &[&'a str], option: &str) -> Option<&'a str>
     ensures { option_map (λ w. w.now) result ≡ value_behind option.now (map (λ w. w.now) words.now) }
 {
@@ -95,7 +95,7 @@ fn value_behind<'a>(words: &[&'a str], option: &str) -> Option<&'a str>
     None
 }
 
-/// What options give, with the usual number where one is not given, behind no number.
+/// What options give, with the usual number where one is not given, after no number.
 fn given<'a>(words: &[&'a str]) -> Options<'a>
     ensures { values_of result ≡ given_by (map (λ w. w.now) words.now) }
 {

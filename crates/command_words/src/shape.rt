@@ -23,7 +23,7 @@ pub enum Grammar {
     Edits,
 }
 
-/// What the words of a command are made of: the words at its front, the numbers of which one stands behind them for
+/// What the words of a command are made of: the words at its front, the numbers of which one stands after them for
 /// the commands that take one, its inputs, and its options.
 #[derive(Clone, Copy)]
 pub(crate) struct Shape {

@@ -6,7 +6,7 @@
 //! matching kernel has it: it is the least set that does (Kullmann, "Lean Clause-Sets: Generalizations of Minimally
 //! Unsatisfiable Clause-Sets", 2003; the contracts say only that it has it).
 //!
-//! One maximum matching and one search from what it leaves give all three parts of the result. What shows the value is
+//! One maximum matching and one search from what it leaves give all three fields of the result. What shows the value is
 //! so small that it can be checked by counting: the set from below, the variables of the clauses' own from above.
 ghost use Rattle.std.specs.Prelude.{◌≡◌, ◌+◌, ◌≤◌, length, IfOk, IsTrue};
 ghost use Rattle.lk_model.specs.Formulas.Formula.{positions_of};

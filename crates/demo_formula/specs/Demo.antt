@@ -30,7 +30,7 @@ word g = (pcg32 g).0
 unfoldable pub rest : Lcg → Lcg
 rest g = (pcg32 g).1
 
--- a literal behind the others, unless the clause has a literal of its variable
+-- a literal after the others, unless the clause has a literal of its variable
 abbrev pub with_literal : List ℤ → ℤ → List ℤ
 with_literal c l = if mentions c (variable l) then c else c ++ l ∷ []
 
@@ -49,7 +49,7 @@ drawn_clause g = with_literal (with_literal (drawn_variable g ∷ []) (drawn_lit
 unfoldable pub after_clause : Lcg → Lcg
 after_clause g = rest (rest (rest (rest (rest g))))
 
--- so many clauses, one behind the other
+-- so many clauses, one after another
 unfoldable pub drawn_clauses : ℕ → Lcg → List (List ℤ)
 drawn_clauses zero g = []
 drawn_clauses (suc n) g = drawn_clause g ∷ drawn_clauses n (after_clause g)

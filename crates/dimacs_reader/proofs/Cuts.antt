@@ -14,7 +14,7 @@ use Rattle.dimacs_reader.proofs.NumberLemmas.{split_part, HasPart}
 abbrev pub piece : List ℕ → ℕ → Piece
 piece bytes last = record { bytes = bytes; last = last }
 
--- the parts that are words
+-- the pieces that are words
 abbrev words_among : List Piece → List Piece
 words_among pieces = filter (λ word. not (is_empty word.bytes)) pieces
 
@@ -23,7 +23,7 @@ moved_words m n bytes e = ap (λ (k : ℕ). words_after k bytes) e
 
 -- CUTS
 
--- bytes behind one that does not cut them
+-- bytes after one that does not cut them
 pub split_on : (p : ℕ → Bool) (b : ℕ) (bs : List ℕ) (o : HasPart (slice_split p bs)) → p b ≡ false → slice_split p (b ∷ bs) ≡ (b ∷ o.0) ∷ o.1
 split_on p b bs o e = ap (λ (t : Bool). cond t ([] ∷ slice_split p bs) (onto_first b (slice_split p bs))) e ∙ ap (onto_first b) o.2
 
@@ -61,7 +61,7 @@ word_last n word some h =
     ap (λ (parts : List (List ℕ)). words_among (placed_after n parts)) (slice_split_none is_blank word (none_pass is_blank word h))
     ∙ ap (λ (t : Bool). cond (not t) (piece word (n + length word) ∷ []) []) (not_empty word some)
 
--- the words of a line that begins behind so many bytes
+-- the words of a line that begins after so many bytes
 pub words_of_line : (before : ℕ) (line : List ℕ) → words_of (piece line (before + length line)) ≡ words_after before line
 words_of_line before line = moved_words (before + length line - length line) before line (omega arith)
 

@@ -1,4 +1,4 @@
--- No fault of a text that has not been told must have been told.
+-- No fault of a text that has not been reported must have been reported.
 use Rattle.std.proofs.Common.{◌≡◌, ℕ, ◌+◌, ◌∙◌, Bool, true, false, cond, not, ◌||◌, ◌&&◌, List, [], ◌∷◌, ◌++◌, length, Option, Some, None, refl, sym, ap, subst, arith, ℤ, nat_lt, nat_le}
 use Rattle.std.specs.Prelude.{count_by}
 use Rattle.std.proofs.lemmas.Bool.{le-ltb, lt-leb}
@@ -27,12 +27,12 @@ use Rattle.dimacs_reader.specs.declared.reading.Stage.TheVariants as stage
 use Rattle.dimacs_reader.proofs.Cuts.{piece}
 use Rattle.dimacs_reader.proofs.Endings.{head_end, problem_ended, no_word, in_word}
 
--- no fault of an outcome must have been told when so many bytes were fed
+-- no fault of an outcome must have been reported when so many bytes were fed
 abbrev pub NoneDue : ℕ → Outcome → Type 0
 NoneDue size (Faulty f) = is_due size f ≡ false
 NoneDue size (Written vars clauses words) = Unit {0}
 
--- a fault behind the bytes
+-- a fault after the bytes
 behind_all : (size : ℕ) (f : Fault) → f.place ≡ size + 1 → is_due size f ≡ false
 behind_all size f e =
     let no_less : nat_lt f.place size ≡ false = le-ltb f.place size (omega (arith, e)) in

@@ -81,7 +81,7 @@ problem_at_end fed p vars clauses state v c r sv sc states h =
           ∙ ap (λ (n : ℕ). end_outcome n clauses [] (length fed + 1)) (sym sv) ∙ ap (λ (n : ℕ). end_outcome state.formula.vars n [] (length fed + 1)) (sym sc);
     }
 
--- BEHIND THE PROBLEM LINE
+-- AFTER THE PROBLEM LINE
 
 -- the places where no word ends
 pub no_word : (fed : List ℕ) (state : ReadState) (line : NumberLine) → ((w : WordSoFar) → line ≡ numbers.Word w → ⊥) → StandsInNumbers fed state line → EndsAs fed state

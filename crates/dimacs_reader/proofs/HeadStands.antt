@@ -1,4 +1,4 @@
--- Where a text stands before the numbers, behind one more byte.
+-- Where a text stands before the numbers, after one more byte.
 use Rattle.std.proofs.Common.{◌≡◌, ℕ, ◌+◌, ◌-◌, ◌≤◌, ◌∙◌, Bool, true, false, cond, List, [], ◌∷◌, ◌++◌, length, take, Some, refl, sym, ap, subst, arith, length-append}
 use Rattle.std.specs.Prelude.{count_by, sum_by}
 use Rattle.std.specs.List.{slice_split}

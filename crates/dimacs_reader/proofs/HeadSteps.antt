@@ -22,7 +22,7 @@ use Rattle.dimacs_reader.proofs.Cuts.{piece, split_on, blank_first, begins, word
 
 -- ONE BYTE MORE
 
--- what a text comes to behind one more byte
+-- what a text comes to after one more byte
 pub next_rest : (fed : List ℕ) (b : ℕ) (before after : ℕ → List ℕ → Outcome) → ((more : List ℕ) → text_outcome (fed ++ more) ≡ before (length fed) more)
     → ((more : List ℕ) → before (length fed) (b ∷ more) ≡ after (length fed + 1) more)
     → (more : List ℕ) → text_outcome ((fed ++ b ∷ []) ++ more) ≡ after (length (fed ++ b ∷ [])) more
@@ -34,7 +34,7 @@ next_rest fed b before after r step more =
 pub moved : (G : ℕ → ℕ → Outcome) (m n k l : ℕ) → m ≡ n → k ≡ l → G m k ≡ G n l
 moved G m n k l e f = ap (λ (x : ℕ). G x k) e ∙ ap (G n) f
 
--- the outcome of the bytes behind so many
+-- the outcome of the bytes after so many
 abbrev pub head_rest : HeadLine → List ℕ → ℕ → List ℕ → Outcome
 head_rest line part before more = head_outcome line part before (slice_split is_newline more) (before + length more + 1)
 
@@ -46,7 +46,7 @@ with_words words last lines over = first_line_outcome (kind_by words) (outcome_f
 abbrev with_kind : LineKind → List Word → ℕ → List Piece → ℕ → Outcome
 with_kind kind words last lines over = first_line_outcome kind (outcome_from lines over) (problem_outcome (stated_by words) last lines over)
 
--- the first part of a line that does not end yet
+-- the beginning of a line that does not end yet
 first_line : (n b : ℕ) (bs : List ℕ) (o : HasPart (slice_split is_newline bs)) → is_newline b ≡ false
     → head_rest head.Start [] n (b ∷ bs)
     ≡ with_words (words_after n (b ∷ o.0)) (n + length (b ∷ o.0)) (placed_after (n + length (b ∷ o.0) + 1) o.1) (n + length (b ∷ bs) + 1)

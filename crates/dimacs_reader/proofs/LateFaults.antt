@@ -1,4 +1,4 @@
--- Faults behind the first bytes of a text.
+-- Faults after the first bytes of a text.
 use Rattle.std.proofs.Common.{◌≡◌, ℕ, ◌+◌, ◌-◌, ◌<◌, ◌≤◌, Bool, true, false, cond, ◌||◌, List, [], length, Option, Some, None, refl, ap, arith, nat_lt}
 use Rattle.std.specs.Prelude.{nat_le}
 use Rattle.std.proofs.lemmas.Bool.{lt-leb}
@@ -22,16 +22,16 @@ within k (Some f) = cond (nat_le f.place k) (Some f) None
 
 -- LATE FAULTS
 
--- a fault behind the first k bytes does not show among them
+-- a fault after the first k bytes does not show among them
 pub late_fault : (k : ℕ) (f : Fault) → k < f.place → within k (Some f) ≡ None
 late_fault k f h = ap (λ (b : Bool). cond b (Some f) None) (lt-leb f.place k h)
 
--- the same of the least of faults that all stand behind them
+-- the same of the least of faults that all stand after them
 late_least : (k : ℕ) (fs : List Fault) (o : Option Fault) → Above k fs → least fs ≡ o → within k o ≡ None
 late_least k fs None a e = refl
 late_least k fs (Some f) a e = late_fault k f (least_above k fs f a e)
 
--- a late fault behind another one does not matter
+-- a late fault after another one does not matter
 pub or_late : (k : ℕ) (a b : Option Fault) → within k b ≡ None → within k (or_behind a b) ≡ within k a
 or_late k None b h = h
 or_late k (Some f) b h = refl
@@ -44,12 +44,12 @@ late_end k clauses words end h = by_test (nat_lt (length (runs_of (numbers_of wo
     by_test true = late_fault k (record { kind = TooFewClauses; place = end }) h
     by_test false = refl
 
--- parts that begin behind the first k bytes are lines behind them
+-- pieces that begin after the first k bytes are lines after them
 late_lines : (k n over : ℕ) (parts : List (List ℕ)) → k < n → n + room parts ≤ over → AreLines k (placed_after n parts) (over - 1)
 late_lines k n over parts h o =
     lines_placed k (placed_after n parts) (over - 1) (placed k n parts (over - 1) (omega (arith, h)) (omega (arith, h, o)) (omega (arith, h, o)))
 
--- late lines behind a problem line
+-- late lines after a problem line
 pub late_behind : (k vars clauses n over : ℕ) (earlier : List Piece) (parts : List (List ℕ)) → k < n → n + room parts ≤ over
     → within k (fault_behind vars clauses earlier (placed_after n parts) over) ≡ None
 late_behind k vars clauses n over earlier parts h o =
@@ -88,7 +88,7 @@ same_line k clauses earlier Skipped here here2 skipped skipped2 taken taken2 s t
 same_line k clauses earlier (Problem first) here here2 skipped skipped2 taken taken2 s t = refl
 same_line k clauses earlier (Numbers first) here here2 skipped skipped2 taken taken2 s t = t
 
--- a line behind the problem line whose first word is late
+-- a line after the problem line whose first word is late
 pub late_line : (k end clauses : ℕ) (earlier : List Piece) (kind : LineKind) (here skipped taken : Option Fault) → IsPlaced k kind end
     → within k skipped ≡ None → within k (or_behind here taken) ≡ None → within k (line_fault kind clauses earlier here skipped taken) ≡ None
 late_line k end clauses earlier (EndMark first) here skipped taken p s t = late_end k clauses earlier first p.0

@@ -23,7 +23,7 @@ abbrev pub At : ℕ → List Fault → Type 0
 At n [] = Unit
 At n (f ∷ fs) = (f.place ≡ n) × At n fs
 
--- the bounds hold of faults behind each other
+-- the bounds hold of faults after each other
 pub above_append : (n : ℕ) (fs gs : List Fault) → Above n fs → Above n gs → Above n (fs ++ gs)
 above_append n [] gs a b = b
 above_append n (f ∷ fs) gs a b = (a.0, above_append n fs gs a.1 b)
@@ -83,13 +83,13 @@ earlier_all : (f : Fault) (o : Option Fault) → ((g : Fault) → o ≡ Some g �
 earlier_all f None h = refl
 earlier_all f (Some g) h = earlier_first f g (h g refl)
 
--- a fault behind the one that is met first changes nothing there
+-- a fault after the one that is met first changes nothing there
 earlier_behind : (f : Fault) (first rest : Option Fault) → ((g : Fault) → first ≡ Some g → g.place < f.place)
     → earlier_of f (or_behind first rest) ≡ or_behind first (earlier_of f rest)
 earlier_behind f None rest h = refl
 earlier_behind f (Some g) rest h = earlier_second f g (h g refl)
 
--- a fault that is not behind what is met last changes nothing there
+-- a fault that is not after what is met last changes nothing there
 earlier_before : (f : Fault) (first rest : Option Fault) → ((g : Fault) → rest ≡ Some g → f.place ≤ g.place)
     → earlier_of f (or_behind first rest) ≡ or_behind (earlier_of f first) rest
 earlier_before f None rest h = earlier_all f rest h

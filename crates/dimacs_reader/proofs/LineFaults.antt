@@ -1,4 +1,4 @@
--- The faults of lines behind a problem line, and of all lines.
+-- The faults of lines after a problem line, and of all lines.
 use Rattle.std.proofs.Common.{◌≡◌, ℕ, ◌<◌, Bool, true, false, not, cond, ◌||◌, List, [], ◌∷◌, ◌++◌, length, refl, ◌∙◌, ap, arith, Option, Some, None, nat_lt}
 use Rattle.std.specs.Prelude.{filter, flat_map}
 use Rattle.std.proofs.lemmas.List.{append-nil}
@@ -16,9 +16,9 @@ use Rattle.dimacs_reader.proofs.Placing.{AreLines, words_order}
 use Rattle.dimacs_reader.proofs.LineSteps.{counted_of, end_of, Adds, adds, IsPlaced, kind_placed}
 use Rattle.dimacs_reader.proofs.WordFaults.{faults_of, faults_above, least_words}
 
--- BEHIND A PROBLEM LINE
+-- AFTER A PROBLEM LINE
 
--- the faults of problem lines behind the first one
+-- the faults of problem lines after the first one
 abbrev pub seconds : List Piece → List Fault
 seconds lines = flat_map (λ line. fault_if true SecondHeader (first_of_line line)) (filter is_problem lines)
 
@@ -45,7 +45,7 @@ words_numbers : (line : Piece) (lines : List Piece) → is_problem line ≡ fals
 words_numbers line lines e =
     ap (λ (b : Bool). flat_map words_of (cond (not b) (line ∷ filter (λ l. not (is_problem l)) lines) (filter (λ l. not (is_problem l)) lines))) e
 
--- the faults of further problem lines stand behind the place before the lines
+-- the faults of further problem lines stand after the place before the lines
 pub seconds_above : (n : ℕ) (lines : List Piece) (last : ℕ) → AreLines n lines last → Above n (seconds (counted_of lines))
 seconds_above n [] last a = tt
 seconds_above n (line ∷ lines) last a =
@@ -58,11 +58,11 @@ seconds_above n (line ∷ lines) last a =
     above_by (Problem first) s p later = rw (s.0, seconds_problem line (counted_of lines) s.2, s.3) (p.0, later)
     above_by (Numbers first) s p later = rw (s.0, seconds_numbers line (counted_of lines) s.2) later
 
--- the faults of words behind earlier ones, and of their end
+-- the faults of words after earlier ones, and of their end
 abbrev pub faults_behind : ℕ → ℕ → List Piece → List Piece → ℕ → List Fault
 faults_behind vars clauses earlier lines over = faults_of vars clauses earlier (number_words (counted_of lines)) (end_of lines over)
 
--- the faults of words behind earlier ones stand behind the place before the lines
+-- the faults of words after earlier ones stand after the place before the lines
 pub behind_above : (vars clauses n : ℕ) (lines : List Piece) (last over : ℕ) → AreLines n lines last → last < over
     → (earlier : List Piece) → Above n (faults_behind vars clauses earlier lines over)
 behind_above vars clauses n [] last over a h earlier =
@@ -94,17 +94,17 @@ least_end clauses earlier end =
     ap (λ (ws : List Piece). least (fault_if (nat_lt (length (runs_of (numbers_of ws))) clauses) TooFewClauses end)) (append-nil earlier)
     ∙ least_if (nat_lt (length (runs_of (numbers_of earlier))) clauses) TooFewClauses end
 
--- all faults behind a problem line
+-- all faults after a problem line
 abbrev pub all_behind : ℕ → ℕ → List Piece → List Piece → ℕ → List Fault
 all_behind vars clauses earlier lines over = seconds (counted_of lines) ++ faults_behind vars clauses earlier lines over
 
--- they stand behind the place before the lines
+-- they stand after the place before the lines
 pub all_above : (vars clauses n : ℕ) (lines : List Piece) (last over : ℕ) → AreLines n lines last → last < over
     → (earlier : List Piece) → Above n (all_behind vars clauses earlier lines over)
 all_above vars clauses n lines last over a h earlier =
     above_append n (seconds (counted_of lines)) (faults_behind vars clauses earlier lines over) (seconds_above n lines last a) (behind_above vars clauses n lines last over a h earlier)
 
--- the least of the faults behind a problem line is the first one
+-- the least of the faults after a problem line is the first one
 pub least_behind : (vars clauses n : ℕ) (lines : List Piece) (last over : ℕ) → AreLines n lines last → last < over
     → (earlier : List Piece) → least (all_behind vars clauses earlier lines over) ≡ fault_behind vars clauses earlier lines over
 least_behind vars clauses n [] last over a h earlier = least_end clauses earlier over
@@ -137,7 +137,7 @@ least_behind vars clauses n (line ∷ lines) last over a h earlier =
 abbrev pub all_faults : List Piece → ℕ → List Fault
 all_faults lines over = content_faults (counted_of lines) (end_of lines over)
 
--- all faults of a problem line and of the lines behind it
+-- all faults of a problem line and of the lines after it
 abbrev faults_of_problem_line : Option (ℕ × ℕ) → Piece → List Piece → ℕ → List Fault
 faults_of_problem_line stated line lines over = problem_faults stated line (counted_of lines) (end_of lines over)
 
@@ -151,7 +151,7 @@ faults_no_problem_line : (line : Piece) (lines : List Piece) (end : ℕ) → is_
 faults_no_problem_line line lines end e =
     ap (λ (b : Bool). cond b (problem_faults (stated_by (texts (words_of line))) line lines end) (fault_if true NoHeader (first_of_line line))) e
 
--- all faults of a problem line and of the lines behind it stand behind the place before the problem line
+-- all faults of a problem line and of the lines after it stand after the place before the problem line
 problem_line_above : (n : ℕ) (stated : Option (ℕ × ℕ)) (line : Piece) (lines : List Piece) (last over : ℕ) → n < line.last → AreLines line.last lines last → last < over
     → Above n (faults_of_problem_line stated line lines over)
 problem_line_above n None line lines last over p a h = (p, tt)
@@ -160,7 +160,7 @@ problem_line_above n (Some (vars, clauses)) line lines last over p a h =
     (above_at n line.last (fault_if (nat_lt max_vars vars || nat_lt max_clauses clauses) Limit line.last) p (at_fault_if _ Limit line.last))
     (above_less n line.last (all_behind vars clauses [] lines over) (omega (arith, p)) (all_above vars clauses line.last lines last over a h []))
 
--- all faults of lines stand behind the place before the lines
+-- all faults of lines stand after the place before the lines
 pub lines_above : (n : ℕ) (lines : List Piece) (last over : ℕ) → AreLines n lines last → last < over → Above n (all_faults lines over)
 lines_above n [] last over a h = let b = a in (omega (arith, b, h), tt)
 lines_above n (line ∷ lines) last over a h =
@@ -176,7 +176,7 @@ lines_above n (line ∷ lines) last over a h =
         (problem_line_above n (stated_by (texts (words_of line))) line lines last over (omega (arith, b)) a.1 h)
     above_by (Numbers first) s p later = rw (s.0, s.1, faults_no_problem_line line (counted_of lines) (end_of lines over) s.2, s.3) (p.0, tt)
 
--- the least fault of a problem line and of the lines behind it is the first one
+-- the least fault of a problem line and of the lines after it is the first one
 least_problem_line : (stated : Option (ℕ × ℕ)) (line : Piece) (lines : List Piece) (last over : ℕ) → AreLines line.last lines last → last < over
     → least (faults_of_problem_line stated line lines over) ≡ problem_line_fault stated line.last lines over
 least_problem_line None line lines last over a h = refl

@@ -13,7 +13,7 @@ use Rattle.dimacs_reader.proofs.Placing.{AreWords, first_above, first_within}
 abbrev pub counted_of : List Piece → List Piece
 counted_of lines = filter (λ line. not (is_blank_line line || is_comment line)) (take_while (λ line. not (is_end_mark line)) lines)
 
--- the place at the end of the lines, behind which over is the next place
+-- the place at the end of the lines, after which over is the next place
 abbrev pub end_of : List Piece → ℕ → ℕ
 end_of lines over = unwrap_or (option_map first_of_line (find is_end_mark lines)) over
 
@@ -76,7 +76,7 @@ end_here line lines over e = ap (λ (b : Bool). unwrap_or (option_map first_of_l
 end_later : (line : Piece) (lines : List Piece) (over : ℕ) → is_end_mark line ≡ false → end_of (line ∷ lines) over ≡ end_of lines over
 end_later line lines over e = ap (λ (b : Bool). unwrap_or (option_map first_of_line (cond b (Some line) (find is_end_mark lines))) over) e
 
--- what a line of a kind adds to the lines behind it
+-- what a line of a kind adds to the lines after it
 abbrev pub Adds : LineKind → Piece → List Piece → ℕ → Type 0
 Adds (EndMark first) line lines over = (counted_of (line ∷ lines) ≡ []) × (end_of (line ∷ lines) over ≡ first)
 Adds Skipped line lines over = (counted_of (line ∷ lines) ≡ counted_of lines) × (end_of (line ∷ lines) over ≡ end_of lines over)
@@ -101,7 +101,7 @@ adds line lines over = adds_by (kind_by (words_of line)) line lines over (tests 
 
 -- PLACES
 
--- the place beside a kind is behind one place, and at most the other
+-- the place beside a kind is after one place, and at most the other
 abbrev pub IsPlaced : ℕ → LineKind → ℕ → Type 0
 IsPlaced n (EndMark first) end = (n < first) × (first ≤ end)
 IsPlaced n Skipped end = n ≤ end

@@ -1,4 +1,4 @@
--- A line that goes on behind the first bytes of a text, and its words.
+-- A line that goes on after the first bytes of a text, and its words.
 use Rattle.std.proofs.Common.{◌≡◌, ◌⊎◌, ℕ, ◌+◌, ◌-◌, ◌<◌, ◌≤◌, not, cond, ◌==◌, List, [], ◌∷◌, ◌++◌, length, Option, None, refl, sym, ◌∙◌, ap, subst, arith, inl, inr, length-append}
 use Rattle.std.specs.Prelude.{filter}
 use Rattle.std.specs.List.{slice_split}
@@ -17,11 +17,11 @@ use Rattle.dimacs_reader.proofs.LateFaults.{within, late_fault}
 
 -- WORDS
 
--- the parts that are not empty, as words behind so many bytes
+-- the pieces that are not empty, as words after so many bytes
 abbrev words_at : ℕ → List (List ℕ) → List Piece
 words_at n parts = filter (λ word. not (is_empty word.bytes)) (placed_after n parts)
 
--- faults at one late place, and a late fault behind them
+-- faults at one late place, and a late fault after them
 late_or : (k place : ℕ) (fs : List Fault) (o : Option Fault) → k < place → At place fs → within k o ≡ None → within k (first_or fs o) ≡ None
 late_or k place [] o h a e = e
 late_or k place (f ∷ fs) o h a e = let b = a.0 in late_fault k f (omega (arith, h, b))
@@ -31,7 +31,7 @@ same_or : (k : ℕ) (fs : List Fault) (a b : Option Fault) → within k a ≡ wi
 same_or k [] a b e = e
 same_or k (f ∷ fs) a b e = refl
 
--- words that end behind the first k bytes
+-- words that end after the first k bytes
 late_words : (k vars clauses n : ℕ) (run : List ℕ) (parts : List (List ℕ)) (earlier : List Piece) → k < n + length run
     → within k (fault_among vars clauses earlier (words_at n (run ∷ parts))) ≡ None
 late_words k vars clauses n [] [] earlier h = refl
@@ -85,7 +85,7 @@ pub record GoesOn (k : ℕ) (words words2 : List Piece) (end : ℕ) : Type 0 whe
   pub kind : HaveSameKind k words words2 end
   pub same : (vars clauses : ℕ) (earlier : List Piece) → within k (fault_among vars clauses earlier words2) ≡ within k (fault_among vars clauses earlier words)
 
--- a line that ends behind the first k bytes, where more bytes follow
+-- a line that ends after the first k bytes, where more bytes follow
 pub line_goes_on : (k n : ℕ) (run first : List ℕ) → k < n + length run
     → GoesOn k (words_of (piece run (n + length run))) (words_of (piece (run ++ first) (n + length (run ++ first)))) (n + length (run ++ first))
 line_goes_on k n run first h =

@@ -15,14 +15,14 @@ use Rattle.lk_model.proofs.Literals.{contains_filter}
 
 -- RUNS
 
--- two cut lists, where the last part of the one goes on in the first of the other
+-- two cut lists, where the last piece of the one goes on in the first of the other
 unfoldable pub glue : {X : Type 0} → List (List X) → List (List X) → List (List X)
 glue [] more = more
 glue (run ∷ []) [] = run ∷ []
 glue (run ∷ []) (first ∷ more) = (run ++ first) ∷ more
 glue (run ∷ next ∷ runs) more = run ∷ glue (next ∷ runs) more
 
--- a cut list has a part
+-- a cut list has a piece
 abbrev pub HasPart : {X : Type 0} → List (List X) → Type 0
 HasPart {X} parts = (first : List X) × (more : List (List X)) × (parts ≡ first ∷ more)
 

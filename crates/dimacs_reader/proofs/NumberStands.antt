@@ -1,4 +1,4 @@
--- Where a text stands behind the problem line, behind one more byte.
+-- Where a text stands after the problem line, after one more byte.
 use Rattle.std.proofs.Common.{◌≡◌, ◌≢◌, ℕ, ◌+◌, ◌∙◌, Bool, true, false, not, cond, ◌&&◌, List, [], ◌∷◌, ◌++◌, length, Some, refl, sym, ap, subst, arith, length-append, nat_lt}
 use Rattle.std.specs.List.{slice_split}
 use Rattle.std.proofs.lemmas.Bool.{and_from}
@@ -27,7 +27,7 @@ use Rattle.dimacs_reader.proofs.WordFaults.{fault_place}
 use Rattle.dimacs_reader.proofs.StateLemmas.{short_read}
 use Rattle.dimacs_reader.proofs.NumberSteps.{number_rest, start_newline, start_blank, start_end, start_number, comment_newline, comment_other, gap_newline, gap_blank, gap_word, word_taken, word_at_fault, word_newline, word_blank, word_more}
 
--- the outcome of the bytes behind so many, over what a state read
+-- the outcome of the bytes after so many, over what a state read
 abbrev rest_in : ReadState → NumberLine → List Piece → List ℕ → ℕ → List ℕ → Outcome
 rest_in state line earlier word = number_rest line state.formula.vars state.stated earlier word
 
@@ -108,7 +108,7 @@ word_goes_on fed b state w v e no_blank step h =
       },
     )
 
--- behind the end mark
+-- after the end mark
 pub end_stays : (fed : List ℕ) (b : ℕ) (state : ReadState) → StandsInNumbers fed state numbers.Ended → StandsInNumbers (fed ++ b ∷ []) state numbers.Ended
 end_stays fed b state h =
     steps fed b state numbers.Ended numbers.Ended h.word h

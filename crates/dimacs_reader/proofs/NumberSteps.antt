@@ -1,4 +1,4 @@
--- Behind the problem line, one byte after the other.
+-- After the problem line, one byte after the other.
 use Rattle.std.proofs.Common.{◌≡◌, ◌≢◌, ℕ, ◌+◌, ◌-◌, ◌<◌, ◌≤◌, ◌∙◌, Bool, true, false, cond, ◌==◌, List, [], ◌∷◌, ◌++◌, length, Option, Some, None, refl, sym, ap, arith, inl, inr, append_assoc, length-append}
 use Rattle.std.specs.List.{slice_split}
 use Rattle.std.proofs.lemmas.Bool.{cases_Bool, eqb-true}
@@ -19,7 +19,7 @@ use Rattle.dimacs_reader.proofs.NumberLemmas.{split_part, HasPart}
 use Rattle.dimacs_reader.proofs.Cuts.{piece, split_on, blank_first, begins, words_of_line, word_then, word_last}
 use Rattle.dimacs_reader.proofs.HeadSteps.{moved}
 
--- the outcome of the bytes behind so many
+-- the outcome of the bytes after so many
 abbrev pub number_rest : NumberLine → ℕ → ℕ → List Piece → List ℕ → ℕ → List ℕ → Outcome
 number_rest line vars clauses earlier word before more = number_outcome line vars clauses earlier word before (slice_split is_newline more) (before + length more + 1)
 
@@ -33,7 +33,7 @@ abbrev with_kind : ℕ → ℕ → List Piece → LineKind → List Piece → Li
 with_kind vars clauses earlier kind words lines over =
     line_outcome kind (end_outcome vars clauses earlier) (outcome_behind vars clauses earlier lines over) (outcome_of_words vars clauses earlier words lines over)
 
--- the first part of a line that does not end yet
+-- the beginning of a line that does not end yet
 first_line : (vars clauses : ℕ) (earlier : List Piece) (n b : ℕ) (bs : List ℕ) (o : HasPart (slice_split is_newline bs)) → is_newline b ≡ false
     → number_rest numbers.Start vars clauses earlier [] n (b ∷ bs)
     ≡ with_words vars clauses earlier (words_after n (b ∷ o.0)) (placed_after (n + length (b ∷ o.0) + 1) o.1) (n + length (b ∷ bs) + 1)
@@ -129,7 +129,7 @@ gap_newline vars clauses earlier n b bs word e =
     ∙ ap (λ (ws : List Piece). outcome_behind vars clauses ws (placed_after (n + 0 + 1) (slice_split is_newline bs)) (n + length (b ∷ bs) + 1)) (append-nil earlier)
     ∙ moved (λ m over. outcome_behind vars clauses earlier (placed_after m (slice_split is_newline bs)) over) (n + 0 + 1) (n + 1) (n + length (b ∷ bs) + 1) (n + 1 + length bs + 1) (omega arith) (omega arith)
 
--- the part of a line behind a gap
+-- the rest of a line after a gap
 gap_part : (vars clauses : ℕ) (earlier : List Piece) (n b : ℕ) (bs word : List ℕ) (o : HasPart (slice_split is_newline bs)) → is_newline b ≡ false
     → number_rest numbers.Gap vars clauses earlier word n (b ∷ bs)
     ≡ outcome_of_words vars clauses earlier (words_after n (b ∷ o.0)) (placed_after (n + length (b ∷ o.0) + 1) o.1) (n + length (b ∷ bs) + 1)
@@ -196,7 +196,7 @@ word_end vars clauses earlier word n w some within h =
     ∙ ap (λ (k : ℕ). outcome_of_words vars clauses earlier (piece word k ∷ []) [] (n + 0 + 1)) place
     ∙ ap (outcome_of_words vars clauses earlier (piece word n ∷ []) []) (let p : n + 0 + 1 ≡ n + 1 = omega arith in p)
 
--- a part of the line that goes on with the word
+-- a piece of the line that goes on with the word
 word_part : (vars clauses : ℕ) (earlier : List Piece) (word : List ℕ) (n b : ℕ) (bs : List ℕ) (w : WordSoFar) (o : HasPart (slice_split is_newline bs)) → is_newline b ≡ false
     → number_rest (numbers.Word w) vars clauses earlier word n (b ∷ bs)
     ≡ outcome_of_words vars clauses earlier (words_after (n - length word) (word ++ b ∷ o.0)) (placed_after (n + 1 + length o.0 + 1) o.1) (n + 1 + length bs + 1)

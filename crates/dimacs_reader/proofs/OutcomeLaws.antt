@@ -70,7 +70,7 @@ outcome_fault text = from_fault (lines_of text) (length text + 1)
 
 -- LINES THAT COUNT
 
--- what counts of a line and those behind it
+-- what counts of a line and those after it
 abbrev pub with_line : List ℕ → List (List ℕ) → List (List ℕ)
 with_line line rest = cond (is_end line) [] (cond (is_content line) (line ∷ rest) rest)
 
@@ -88,7 +88,7 @@ content_line line lines =
           ∙ sym (ap (λ (b : Bool). cond b [] (cond (is_content line) (line ∷ content_of lines) (content_of lines))) e)
     ]
 
--- what counts of a line of a kind, and of those behind it
+-- what counts of a line of a kind, and of those after it
 abbrev by_kind : LineKind → List ℕ → List (List ℕ) → List (List ℕ)
 by_kind (EndMark first) line rest = []
 by_kind (Problem first) line rest = line ∷ rest
@@ -122,7 +122,7 @@ line_words n line = ap texts (words_of_line n line) ∙ words_texts n line
 
 -- WHAT IS WRITTEN
 
--- lines behind the problem line write these words behind earlier ones
+-- lines after the problem line write these words after earlier ones
 record WritesBehind (vars clauses : ℕ) (earlier : List Piece) (contents : List (List ℕ)) (vars2 clauses2 : ℕ) (words : List Piece) : Type 0 where
   vars_are : vars2 ≡ vars
   clauses_are : clauses2 ≡ clauses
@@ -175,7 +175,7 @@ behind_written vars clauses n earlier (part ∷ parts) over v c words e =
     by_case (Numbers first) k h skipped taken = subst (λ (cs : List (List ℕ)). WritesBehind vars clauses earlier cs v c words) (sym k)
         (taken_words (fault_among vars clauses earlier (words_of (piece part (n + length part)))) h taken)
 
--- the lines of a text write these words behind a problem line that states these numbers
+-- the lines of a text write these words after a problem line that states these numbers
 pub record WritesText (contents : List (List ℕ)) (vars clauses : ℕ) (words : List Piece) : Type 0 where
   pub problem : List ℕ
   pub rest : List (List ℕ)

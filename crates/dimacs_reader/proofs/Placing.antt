@@ -8,22 +8,22 @@ use Rattle.lk_model.specs.Texts.Lines.{Piece, first_place, is_newline, is_blank,
 
 -- PIECES
 
--- the pieces stand behind one place, one behind the other, and at most at the other place
+-- the pieces stand after one place, one after the other, and at most at the other place
 abbrev pub ArePlaced : ℕ → List Piece → ℕ → Type 0
 ArePlaced n [] end = n ≤ end
 ArePlaced n (piece ∷ pieces) end = (n + length piece.bytes ≤ piece.last) × ArePlaced piece.last pieces end
 
--- the bytes of parts, with one byte behind each
+-- the bytes of pieces, with one byte after each
 abbrev pub room : List (List ℕ) → ℕ
 room [] = 0
 room (part ∷ parts) = length part + 1 + room parts
 
--- a byte more in the first part
+-- a byte more in the first piece
 room_onto : (b : ℕ) (parts : List (List ℕ)) → 1 ≤ room parts → room (onto_first b parts) ≡ room parts + 1
 room_onto b [] h = absurd (omega (arith, h))
 room_onto b (part ∷ parts) h = omega arith
 
--- the parts between the bytes of a kind take what the bytes take
+-- the pieces between the bytes of a kind take what the bytes take
 pub room_split : (p : ℕ → Bool) (bytes : List ℕ) → room (slice_split p bytes) ≡ length bytes + 1
 room_split p [] = omega arith
 room_split p (b ∷ bytes) = elim (cases_Bool (p b)) [
@@ -31,13 +31,13 @@ room_split p (b ∷ bytes) = elim (cases_Bool (p b)) [
   | inr e ↦ rw e (let h = room_split p bytes in let g = room_onto b (slice_split p bytes) (omega (arith, h)) in omega (arith, h, g))
 ]
 
--- parts stand where there is room for them
+-- pieces stand where there is room for them
 pub placed : (n before : ℕ) (parts : List (List ℕ)) (end : ℕ) → n ≤ before → n ≤ end → before + room parts ≤ end + 1 → ArePlaced n (placed_after before parts) end
 placed n before [] end a b c = b
 placed n before (part ∷ parts) end a b c =
     (omega (arith, a), placed (before + length part) (before + length part + 1) parts end (omega arith) (omega (arith, c)) (omega (arith, c)))
 
--- the parts between the bytes of a kind stand within the bytes
+-- the pieces between the bytes of a kind stand within the bytes
 pub placed_split : (p : ℕ → Bool) (before : ℕ) (bytes : List ℕ) → ArePlaced before (placed_after before (slice_split p bytes)) (before + length bytes)
 placed_split p before bytes =
     let h = room_split p bytes in placed before before (slice_split p bytes) (before + length bytes) (omega arith) (omega arith) (omega (arith, h))
@@ -84,7 +84,7 @@ words_placed line h =
 
 -- LINES
 
--- the lines stand behind one place, with their words, one behind the other, and at most at the other place
+-- the lines stand after one place, with their words, one after the other, and at most at the other place
 abbrev pub AreLines : ℕ → List Piece → ℕ → Type 0
 AreLines n [] end = n ≤ end
 AreLines n (line ∷ lines) end = AreWords n (words_of line) line.last × AreLines line.last lines end
@@ -103,7 +103,7 @@ text_placed text =
     let parts = rw end at (placed_split is_newline 0 text) in
     lines_placed 0 (lines_of text) (length text) parts
 
--- the first place of the first word is behind the place before, and in the line
+-- the first place of the first word is after the place before, and in the line
 pub first_above : (n : ℕ) (word : Piece) (words : List Piece) (end : ℕ) → AreWords n (word ∷ words) end → n < first_place word
 first_above n word words end a = let b = a.1 in omega (arith, b)
 

@@ -18,7 +18,7 @@ pub use Rattle.dimacs_reader.proofs.LateFaults.{within}
 
 -- THE LAST LINE
 
--- the last line behind a problem line, where it goes on and others follow
+-- the last line after a problem line, where it goes on and others follow
 last_behind : (k vars clauses n end over over2 : ℕ) (earlier : List Piece) (line line2 : Piece) (later : List (List ℕ))
     → GoesOn k (words_of line) (words_of line2) end → k < over → k < n → n + room later ≤ over2
     → within k (fault_behind vars clauses earlier (line2 ∷ placed_after n later) over2) ≡ within k (fault_behind vars clauses earlier (line ∷ []) over)
@@ -67,7 +67,7 @@ last_from k n end over over2 line line2 later g a b h i o =
 
 -- ALL LINES
 
--- the first fault behind a problem line, where the last line goes on
+-- the first fault after a problem line, where the last line goes on
 same_behind : (k vars clauses n over over2 : ℕ) (parts : List (List ℕ)) (first : List ℕ) (later : List (List ℕ)) (earlier : List Piece)
     → k + 1 < n + room parts → n + room parts ≤ over → n + room (glue parts (first ∷ later)) ≤ over2
     → within k (fault_behind vars clauses earlier (placed_after n (glue parts (first ∷ later))) over2) ≡ within k (fault_behind vars clauses earlier (placed_after n parts) over)
@@ -94,7 +94,7 @@ same_behind k vars clauses n over over2 (run ∷ next ∷ parts) first later ear
     same_taken None b c e = e
     same_taken (Some f) b c e = refl
 
--- a problem line, where the last line behind it goes on
+-- a problem line, where the last line after it goes on
 same_problem_line : (k : ℕ) (stated : Option (ℕ × ℕ)) (last n over over2 : ℕ) (parts : List (List ℕ)) (first : List ℕ) (later : List (List ℕ))
     → k + 1 < n + room parts → n + room parts ≤ over → n + room (glue parts (first ∷ later)) ≤ over2
     → within k (problem_line_fault stated last (placed_after n (glue parts (first ∷ later))) over2) ≡ within k (problem_line_fault stated last (placed_after n parts) over)

@@ -21,7 +21,7 @@ use Rattle.lk_model.proofs.Pieces.{blank_before}
 use Rattle.dimacs_reader.proofs.Cuts.{word_before, one_word, grows}
 use Rattle.dimacs_reader.proofs.Digits.{digits_no_blank, digits_more, one_digit, natural_is, natural_wrong}
 
--- BYTES BEHIND
+-- BYTES AFTER
 
 -- a word ends
 ends_word : (bytes : List ℕ) (words : List Word) (word : List ℕ) (b : ℕ) → 0 < length word → has_no_blank word ≡ true → is_blank b ≡ true → BeginsAs bytes words word → BeginsAs (bytes ++ b ∷ []) (words ++ word ∷ []) []
@@ -30,7 +30,7 @@ ends_word bytes words word b some h blank begins more =
     ∙ ap (λ (ws : List Word). words ++ ws) (word_before word more some h b blank)
     ∙ sym (append_assoc words (word ∷ []) (words_in more))
 
--- a blank behind a blank
+-- a blank after a blank
 more_blanks : (bytes : List ℕ) (words : List Word) (b : ℕ) → is_blank b ≡ true → BeginsAs bytes words [] → BeginsAs (bytes ++ b ∷ []) words []
 more_blanks bytes words b blank begins more =
     ap words_in (append_assoc bytes (b ∷ []) more) ∙ begins (b ∷ more) ∙ ap (λ (ws : List Word). words ++ ws) (blank_before b more blank)
@@ -69,7 +69,7 @@ fourth_wrong : (v c : Word) (words : List Word) → natural c ≡ None → state
 fourth_wrong v c [] e = no_second (natural v) (natural c) e
 fourth_wrong v c (d ∷ words) e = refl
 
--- a word goes on as one that is wrong, whatever comes behind
+-- a word goes on as one that is wrong, whatever comes after
 goes_wrong : (bytes : List ℕ) (words : List Word) (word : List ℕ) → BeginsAs bytes words word → 0 < length word → has_no_blank word ≡ true
     → ((rest : List ℕ) (others : List Word) → stated_by (words ++ (word ++ rest) ∷ others) ≡ None) → IsLineSoFar bytes Other
 goes_wrong bytes words word begins some h wrong more =
@@ -126,7 +126,7 @@ other_byte (BehindClauses vars clauses) b h d no_c no_n no_f bytes begins =
     (λ rest others. refl)
 other_byte Other b h d no_c no_n no_f bytes wrong = λ more. ap (λ (bs : List ℕ). stated_by (words_in bs)) (append_assoc bytes (b ∷ []) more) ∙ wrong (b ∷ more)
 
--- a blank behind a blank
+-- a blank after a blank
 pub blank_again : (line : ProblemLine) → (line ≡ P → ⊥) → (line ≡ C → ⊥) → (line ≡ Cn → ⊥) → (line ≡ Cnf → ⊥) → ((v : ℕ) → line ≡ Vars v → ⊥) → ((v c : ℕ) → line ≡ Clauses v c → ⊥)
     → (bytes : List ℕ) (b : ℕ) → is_blank b ≡ true → IsLineSoFar bytes line → IsLineSoFar (bytes ++ b ∷ []) line
 blank_again P n1 n2 n3 n4 n5 n6 bytes b h begins = absurd (n1 refl)

@@ -88,7 +88,7 @@ settled_long fed b line l size e more =
     (ap (λ (bytes : List ℕ). line_number bytes (max_bytes + 1)) joined ∙ line_stays fed (b ∷ more) (max_bytes + 1) (omega (arith, size))
     ∙ ap (λ (n : ℕ). line_number fed (n + 1)) (sym size) ∙ next_line fed ∙ sym l)
 
--- no fault of an outcome that has none due, or one behind the bytes that are allowed
+-- no fault of an outcome that has none due, or one after the bytes that are allowed
 late_due : (o : Outcome) (size : ℕ) → size ≡ max_bytes + 1 → NoneDue size o → within max_bytes (fault_in_outcome o) ≡ None
 late_due (Faulty f) size s due = elim (cases_lt max_bytes f.place) [
   | inl high ↦ ap (λ (b : Bool). cond b (Some f) None) (lt-leb f.place max_bytes high)
@@ -129,7 +129,7 @@ settled_stop fed b before line taken next (stop.Fault f) size few l first ok err
 
 -- REFUSALS
 
--- a refusal is no want of memory
+-- a refusal does not say that memory ran out
 is_refusal : (text : List ℕ) (kind : FaultKind) (line : ℕ) → refusal_of text ≡ Some (refusal_by (kind, line)) → IsRefusalOf text (refusal_by (kind, line))
 is_refusal text NoHeader line h = h
 is_refusal text BadHeader line h = h
@@ -141,7 +141,7 @@ is_refusal text TooFewClauses line h = h
 is_refusal text Limit line h = h
 is_refusal text TooLong line h = h
 
--- the refusal at a stop that is settled, behind more bytes
+-- the refusal at a stop that is settled, after more bytes
 pub settled_refusal : (fed : List ℕ) (line : ℕ) (s : Stop) (whole rest : List ℕ) → whole ≡ fed ++ rest → ForFault s (λ f. IsSettled fed (f.kind, line)) → IsSettledAs whole (refusal_at line s)
 settled_refusal fed line stop.OutOfMemory whole rest e h = λ more. tt
 settled_refusal fed line (stop.Fault f) whole rest e h = λ more.
@@ -154,7 +154,7 @@ refusal_at_end fed line stop.OutOfMemory h l met = tt
 refusal_at_end fed line (stop.Fault f) h l met =
     is_refusal fed f.kind line (ap (option_map refusal_by) (at_line fed f line (short fed h ∙ faulty fed f met.outcome) (met.line ∙ sym l)))
 
--- no fault must have been told
+-- no fault must have been reported
 pub none_due : (fed : List ℕ) (s : Stage) → length fed ≤ max_bytes → Stands fed s → HasNoneDue fed
 none_due fed s h stands f e =
     due (text_outcome fed) (stands_late fed s stands) (outcome_fault fed ∙ sym (short fed h) ∙ e)

@@ -77,13 +77,13 @@ all_words (line ∷ lines) = map-append (λ (p : Piece). p.bytes) (words_of line
 
 -- WHAT A TEXT SPELLS
 
--- a problem line and what is written behind it
+-- a problem line and what is written after it
 pub record Spelled (bytes : List ℕ) (rest : List (List ℕ)) (F : Cnf) : Type 0 where
   pub stated : stated_by (words_in bytes) ≡ Some (F.vars, length F.clauses)
   pub written : IsWritten F.vars (flat_map words_in rest) F
   pub small : F.vars ≤ max_vars
 
--- the pieces behind bytes
+-- the pieces after bytes
 behind : (pieces : List Piece) (bytes : List ℕ) (rest : List (List ℕ)) → texts pieces ≡ bytes ∷ rest → (problem : Piece) × (others : List Piece) × (pieces ≡ problem ∷ others) × (problem.bytes ≡ bytes) × (texts others ≡ rest)
 behind [] bytes rest e = absurd (let f : ⊥ = cc in f)
 behind (problem ∷ others) bytes rest e = (problem, others, refl, (let h : problem.bytes ≡ bytes = cc in h), (let t : texts others ≡ rest = cc in t))

@@ -83,7 +83,7 @@ by_number words word state x h e =
     ∙ ap (λ (n : ℕ). first_or (faults_by state.formula.vars state.stated n (count_by is_nonzero (numbers_of words)) x word.last) None) (zeros_read words state h)
     ∙ ap (λ (n : ℕ). first_or (faults_by state.formula.vars state.stated (length state.formula.clauses) n x word.last) None) (written_read words state h)
 
--- the number behind what a word is
+-- the number after what a word is
 number_behind : (n : ℕ) (o : Option ℤ) (num : Number) → IsNumber n o num → (x : ℤ) × (o ≡ Some x)
 number_behind n o Zero h = (pos 0, h)
 number_behind n o (Literal l) h = (l, h.0)

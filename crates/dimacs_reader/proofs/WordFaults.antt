@@ -1,4 +1,4 @@
--- The faults of words that stand behind earlier ones.
+-- The faults of words that stand after earlier ones.
 use Rattle.std.proofs.Common.{◌≡◌, ℕ, ◌<◌, not, ◌&&◌, List, [], ◌∷◌, ◌++◌, length, refl, sym, ◌∙◌, ap, arith, append_assoc, ℤ, Option, Some, None, nat_le, nat_lt, count_by}
 use Rattle.std.specs.Prelude.{flat_map}
 use Rattle.std.proofs.lemmas.List.{append-nil}
@@ -15,13 +15,13 @@ use Rattle.dimacs_reader.specs.FirstFaults.{first_or, or_behind, fault_among}
 use Rattle.dimacs_reader.proofs.Least.{Above, At, above_append, above_at, above_less, within_at, at_append, at_fault_if, least_midst, least_at}
 use Rattle.dimacs_reader.proofs.Placing.{AreWords, words_order}
 
--- the faults of words that stand behind earlier ones and go on to the place at the end
+-- the faults of words that stand after earlier ones and go on to the place at the end
 abbrev pub faults_of : ℕ → ℕ → List Piece → List Piece → ℕ → List Fault
 faults_of vars clauses earlier words end =
     flat_map (word_faults vars clauses) (with_earlier earlier words)
     ++ fault_if (nat_lt (length (runs_of (numbers_of (earlier ++ words)))) clauses) TooFewClauses end
 
--- the faults of the first word, and of those behind it
+-- the faults of the first word, and of those after it
 pub faults_first : (vars clauses : ℕ) (earlier : List Piece) (word : Piece) (words : List Piece) (end : ℕ)
     → faults_of vars clauses earlier (word ∷ words) end ≡ word_faults vars clauses (earlier, word) ++ faults_of vars clauses (earlier ++ word ∷ []) words end
 faults_first vars clauses earlier word words end =
@@ -42,7 +42,7 @@ number_at vars clauses earlier (Some x) place =
 pub word_at : (vars clauses : ℕ) (earlier : List Piece) (word : Piece) → At word.last (word_faults vars clauses (earlier, word))
 word_at vars clauses earlier word = number_at vars clauses (numbers_of earlier) (number word.bytes) word.last
 
--- faults of words stand behind the place before the words
+-- faults of words stand after the place before the words
 pub faults_above : (vars clauses n : ℕ) (words : List Piece) (last : ℕ) (more : List Piece) (end : ℕ) → AreWords n words last
     → ((earlier : List Piece) → Above last (faults_of vars clauses earlier more end))
     → (earlier : List Piece) → Above n (faults_of vars clauses earlier (words ++ more) end)
@@ -56,7 +56,7 @@ faults_above vars clauses n (word ∷ words) last more end a later earlier =
     (above_less n word.last (faults_of vars clauses (earlier ++ word ∷ []) (words ++ more) end) (omega (arith, order))
     (faults_above vars clauses word.last words last more end a.2 later (earlier ++ word ∷ []))))
 
--- what comes behind what comes behind
+-- what comes after what comes after
 or_first : (fs : List Fault) (second third : Option Fault) → or_behind (first_or fs second) third ≡ first_or fs (or_behind second third)
 or_first [] second third = refl
 or_first (f ∷ fs) second third = refl

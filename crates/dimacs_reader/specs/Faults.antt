@@ -30,7 +30,7 @@ refusal_at line stop.OutOfMemory = refused.OutOfMemory
 abbrev pub refusal_of : List ℕ → Option Refused
 refusal_of text = option_map refusal_by (fault_of text)
 
--- the refusal is that of the text, or want of memory, which is free
+-- the refusal is that of the text, or says that memory ran out, which is possible anywhere
 abbrev pub IsRefusalOf : List ℕ → Refused → Type 0
 IsRefusalOf text refused.OutOfMemory = Unit {0}
 IsRefusalOf text refusal = refusal_of text ≡ Some refusal
@@ -39,7 +39,7 @@ IsRefusalOf text refusal = refusal_of text ≡ Some refusal
 abbrev pub IsSettledAs : List ℕ → Refused → Type 0
 IsSettledAs bytes refusal = (more : List ℕ) → IsRefusalOf (bytes ++ more) refusal
 
--- what is said of the fault at which reading stops; want of memory is free
+-- what is said of the fault at which reading stops; memory may run out anywhere
 abbrev pub ForFault : Stop → (Fault → Type 0) → Type 0
 ForFault (stop.Fault fault) P = P fault
 ForFault stop.OutOfMemory P = Unit {0}
@@ -48,8 +48,8 @@ ForFault stop.OutOfMemory P = Unit {0}
 abbrev pub first_fault_of : List ℕ → Option Fault
 first_fault_of text = least (faults text)
 
--- A fault of a word, or of a problem line, is told when a byte behind it shows that it has ended. Another fault shows at its own
--- byte: the first one of a line, an end mark, or the one that is too many.
+-- A fault of a word, or of a problem line, is reported when a byte after it shows that it has ended. Another fault
+-- shows at its own byte: the first one of a line, an end mark, or the one that is too many.
 abbrev pub shows_at_once : FaultKind → Bool
 shows_at_once kind.NoHeader = true
 shows_at_once kind.BadHeader = false
@@ -61,10 +61,10 @@ shows_at_once kind.TooFewClauses = true
 shows_at_once kind.Limit = false
 shows_at_once kind.TooLong = true
 
--- the fault must have been told when so many bytes were fed
+-- the fault must have been reported when so many bytes were fed
 abbrev pub is_due : ℕ → Fault → Bool
 is_due size fault = nat_lt fault.place size || (shows_at_once fault.kind && nat_le fault.place size)
 
--- no fault of these bytes must have been told
+-- no fault of these bytes must have been reported
 abbrev pub HasNoneDue : List ℕ → Type 0
 HasNoneDue fed = (f : Fault) → first_fault_of fed ≡ Some f → is_due (length fed) f ≡ false

@@ -8,17 +8,17 @@ use Rattle.lk_model.specs.declared.text_fault.Fault.{Fault}
 use Rattle.lk_model.specs.declared.text_fault.FaultKind.TheVariants.{NoHeader, BadHeader, SecondHeader, TooFewClauses, Limit}
 use Rattle.dimacs_reader.specs.LineKinds.{LineKind, Skipped, EndMark, Problem, Numbers, kind_by}
 
--- the first of some faults, or else what comes behind them
+-- the first of some faults, or else what comes after them
 abbrev pub first_or : List Fault → Option Fault → Option Fault
 first_or [] behind = behind
 first_or (f ∷ fs) behind = Some f
 
--- a fault, or else what comes behind it
+-- a fault, or else what comes after it
 abbrev pub or_behind : Option Fault → Option Fault → Option Fault
 or_behind None behind = behind
 or_behind (Some f) behind = Some f
 
--- the first fault of words that stand behind earlier ones
+-- the first fault of words that stand after earlier ones
 abbrev pub fault_among : ℕ → ℕ → List Piece → List Piece → Option Fault
 fault_among vars clauses earlier [] = None
 fault_among vars clauses earlier (word ∷ words) =
@@ -29,7 +29,7 @@ abbrev pub fault_at_end : ℕ → List Piece → ℕ → Option Fault
 fault_at_end clauses words end =
     if nat_lt (length (runs_of (numbers_of words))) clauses then Some (record { kind = TooFewClauses; place = end }) else None
 
--- the first fault of a line behind the problem line and of what comes behind the line: where it is skipped, and where its
+-- the first fault of a line after the problem line and of what comes after the line: where it is skipped, and where its
 -- words are taken
 abbrev pub line_fault : LineKind → ℕ → List Piece → Option Fault → Option Fault → Option Fault → Option Fault
 line_fault (EndMark first) clauses earlier here skipped taken = fault_at_end clauses earlier first
@@ -37,7 +37,7 @@ line_fault Skipped clauses earlier here skipped taken = skipped
 line_fault (Problem first) clauses earlier here skipped taken = Some (record { kind = SecondHeader; place = first })
 line_fault (Numbers first) clauses earlier here skipped taken = or_behind here taken
 
--- the first fault of the lines behind the problem line, which stand behind earlier words; over is the place behind them
+-- the first fault of the lines after the problem line, which stand after earlier words; over is the place after them
 abbrev pub fault_behind : ℕ → ℕ → List Piece → List Piece → ℕ → Option Fault
 fault_behind vars clauses earlier [] over = fault_at_end clauses earlier over
 fault_behind vars clauses earlier (line ∷ lines) over =
@@ -45,7 +45,7 @@ fault_behind vars clauses earlier (line ∷ lines) over =
     (fault_behind vars clauses earlier lines over)
     (fault_behind vars clauses (earlier ++ words_of line) lines over)
 
--- the first fault of a problem line that states these numbers, and of the lines behind it
+-- the first fault of a problem line that states these numbers, and of the lines after it
 abbrev pub problem_line_fault : Option (ℕ × ℕ) → ℕ → List Piece → ℕ → Option Fault
 problem_line_fault None last lines over = Some (record { kind = BadHeader; place = last })
 problem_line_fault (Some (vars, clauses)) last lines over =
@@ -58,7 +58,7 @@ first_line_fault Skipped skipped problem = skipped
 first_line_fault (Problem first) skipped problem = problem
 first_line_fault (Numbers first) skipped problem = Some (record { kind = NoHeader; place = first })
 
--- the first fault of the lines of a text, behind which over is the next place
+-- the first fault of the lines of a text, after which over is the next place
 abbrev pub fault_from : List Piece → ℕ → Option Fault
 fault_from [] over = Some (record { kind = NoHeader; place = over })
 fault_from (line ∷ lines) over =

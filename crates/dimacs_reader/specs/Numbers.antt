@@ -1,4 +1,4 @@
--- What a word is behind the problem line.
+-- What a word is after the problem line.
 use Rattle.std.specs.Prelude.{◌≡◌, ℕ, ℤ, pos, false, nat_le, Option, Some, IsTrue, IsSomeAnd}
 use Rattle.lk_model.specs.Formulas.Literal.{is_literal, variable}
 use Rattle.dimacs_reader.specs.declared.word.Number.{Number}

@@ -9,7 +9,7 @@ use Rattle.lk_model.specs.declared.text_fault.FaultKind.TheVariants.{NoHeader, B
 use Rattle.dimacs_reader.specs.LineKinds.{LineKind, Skipped, EndMark, Problem, Numbers, kind_by}
 use Rattle.dimacs_reader.specs.FirstFaults.{fault_among}
 
--- the first fault, or else the numbers of variables and of clauses that the problem line states, and the words behind it
+-- the first fault, or else the numbers of variables and of clauses that the problem line states, and the words after it
 pub data Outcome : Type 0 where
   Faulty : Fault → Outcome
   Written : ℕ → ℕ → List Piece → Outcome
@@ -19,19 +19,19 @@ abbrev pub end_outcome : ℕ → ℕ → List Piece → ℕ → Outcome
 end_outcome vars clauses words end =
     if nat_lt (length (runs_of (numbers_of words))) clauses then Faulty (record { kind = TooFewClauses; place = end }) else Written vars clauses words
 
--- a fault, or else what comes behind it
+-- a fault, or else what comes after it
 abbrev pub fault_or : Option Fault → Outcome → Outcome
 fault_or None behind = behind
 fault_or (Some f) behind = Faulty f
 
--- a line behind the problem line: where it ends the text, where it is skipped, and where its words are taken
+-- a line after the problem line: where it ends the text, where it is skipped, and where its words are taken
 abbrev pub line_outcome : LineKind → (ℕ → Outcome) → Outcome → Outcome → Outcome
 line_outcome (EndMark first) ended skipped taken = ended first
 line_outcome Skipped ended skipped taken = skipped
 line_outcome (Problem first) ended skipped taken = Faulty (record { kind = SecondHeader; place = first })
 line_outcome (Numbers first) ended skipped taken = taken
 
--- the lines behind the problem line, behind earlier words; over is the place behind them
+-- the lines after the problem line, after earlier words; over is the place after them
 abbrev pub outcome_behind : ℕ → ℕ → List Piece → List Piece → ℕ → Outcome
 outcome_behind vars clauses earlier [] over = end_outcome vars clauses earlier over
 outcome_behind vars clauses earlier (line ∷ lines) over =
@@ -39,11 +39,11 @@ outcome_behind vars clauses earlier (line ∷ lines) over =
     (outcome_behind vars clauses earlier lines over)
     (fault_or (fault_among vars clauses earlier (words_of line)) (outcome_behind vars clauses (earlier ++ words_of line) lines over))
 
--- words of a line behind earlier ones, and then lines
+-- words of a line after earlier ones, and then lines
 abbrev pub outcome_of_words : ℕ → ℕ → List Piece → List Piece → List Piece → ℕ → Outcome
 outcome_of_words vars clauses earlier words lines over = fault_or (fault_among vars clauses earlier words) (outcome_behind vars clauses (earlier ++ words) lines over)
 
--- a problem line that states these numbers, and the lines behind it
+-- a problem line that states these numbers, and the lines after it
 abbrev pub problem_outcome : Option (ℕ × ℕ) → ℕ → List Piece → ℕ → Outcome
 problem_outcome None last lines over = Faulty (record { kind = BadHeader; place = last })
 problem_outcome (Some (vars, clauses)) last lines over =
@@ -56,7 +56,7 @@ first_line_outcome Skipped skipped problem = skipped
 first_line_outcome (Problem first) skipped problem = problem
 first_line_outcome (Numbers first) skipped problem = Faulty (record { kind = NoHeader; place = first })
 
--- the lines of a text, behind which over is the next place
+-- the lines of a text, after which over is the next place
 abbrev pub outcome_from : List Piece → ℕ → Outcome
 outcome_from [] over = Faulty (record { kind = NoHeader; place = over })
 outcome_from (line ∷ lines) over =

@@ -36,11 +36,11 @@ pub record Fits (state : ReadState) : Type 0 where
   pub literals : literal_count state.formula + length state.growing.literals ≤ state.written
   pub written : state.written ≤ max_literals
 
--- the first fault of words behind earlier ones, over what the problem line of the state states
+-- the first fault of words after earlier ones, over what the problem line of the state states
 abbrev pub fault_in : ReadState → List Piece → List Piece → Option Fault
 fault_in state earlier words = fault_among state.formula.vars state.stated earlier words
 
--- the words lead from one state to the other, behind whatever words the first one stands, and have no fault there
+-- the words lead from one state to the other, after whatever words the first one stands, and have no fault there
 pub record Leads (words : List Piece) (before after : ReadState) : Type 0 where
   pub vars : after.formula.vars ≡ before.formula.vars
   pub stated : after.stated ≡ before.stated
@@ -48,7 +48,7 @@ pub record Leads (words : List Piece) (before after : ReadState) : Type 0 where
   pub goes_on : (earlier : List Piece) → HasRead earlier before → HasRead (earlier ++ words) after
   pub silent : (earlier : List Piece) → HasRead earlier before → fault_in before earlier words ≡ None
 
--- behind whatever words of which this is the state, the words have this first fault
+-- after whatever words of which this is the state, the words have this first fault
 abbrev pub HasFault : List Piece → ReadState → Fault → Type 0
 HasFault words state fault = (earlier : List Piece) → HasRead earlier state → fault_in state earlier words ≡ Some fault
 

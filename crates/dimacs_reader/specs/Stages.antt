@@ -26,8 +26,8 @@ IsInLine fed = line_number fed (length fed) ≡ count_by is_newline fed + 1
 
 -- BEFORE THE NUMBERS
 
--- what the bytes of a text come to that stand behind so many others, where these are the parts between the bytes 10, and part is
--- what was read of a problem line
+-- what the bytes of a text come to that stand after so many others, where these are the pieces between the bytes 10,
+-- and `part` is what was read of a problem line
 abbrev pub head_outcome : HeadLine → List ℕ → ℕ → List (List ℕ) → ℕ → Outcome
 head_outcome head.Start part before parts over = outcome_from (placed_after before parts) over
 head_outcome head.Comment part before [] over = outcome_from [] over
@@ -36,7 +36,7 @@ head_outcome (head.Problem p) part before [] over = problem_outcome (stated_by (
 head_outcome (head.Problem p) part before (line ∷ parts) over =
     problem_outcome (stated_by (words_in (part ++ line))) (before + length line) (placed_after (before + length line + 1) parts) over
 
--- part is what was read of the problem line
+-- `part` is what was read of the problem line
 abbrev pub IsHeadPart : List ℕ → HeadLine → List ℕ → Type 0
 IsHeadPart fed (head.Problem p) part = IsLineSoFar part p × IsInLine fed
 IsHeadPart fed line part = Unit {0}
@@ -46,7 +46,7 @@ pub record StandsInHead (fed : List ℕ) (line : HeadLine) : Type 0 where
   pub is_part : IsHeadPart fed line part
   pub rest : (more : List ℕ) → text_outcome (fed ++ more) ≡ head_outcome line part (length fed) (slice_split is_newline more) (length fed + length more + 1)
 
--- behind the problem line, which states these numbers
+-- after the problem line, which states these numbers
 pub record StandsBehind (fed : List ℕ) (vars clauses : ℕ) : Type 0 where
   pub rest : (more : List ℕ) → text_outcome (fed ++ more) ≡ outcome_behind vars clauses [] (placed_after (length fed) (slice_split is_newline more)) (length fed + length more + 1)
 
@@ -59,7 +59,7 @@ abbrev pub IsWithinLimits : HeadStep → Type 0
 IsWithinLimits (In line) = Unit {0}
 IsWithinLimits (Stated vars clauses) = (vars ≤ max_vars) × (clauses ≤ max_clauses)
 
--- BEHIND THE PROBLEM LINE
+-- AFTER THE PROBLEM LINE
 
 -- the same, where these words were read, and word is what was read of one more
 abbrev pub number_outcome : NumberLine → ℕ → ℕ → List Piece → List ℕ → ℕ → List (List ℕ) → ℕ → Outcome
@@ -93,7 +93,7 @@ pub record StandsInNumbers (fed : List ℕ) (state : ReadState) (line : NumberLi
   pub rest : (more : List ℕ) → text_outcome (fed ++ more)
       ≡ number_outcome line state.formula.vars state.stated earlier word (length fed) (slice_split is_newline more) (length fed + length more + 1)
 
--- the words behind the problem line that were read are all, with the place behind the text
+-- the words after the problem line that were read are all, with the place after the text
 pub record EndsAs (fed : List ℕ) (state : ReadState) : Type 0 where
   pub words : List Piece
   pub read : HasRead words state
@@ -105,12 +105,12 @@ abbrev pub Stands : List ℕ → Stage → Type 0
 Stands fed (stage.Head line) = StandsInHead fed line
 Stands fed (stage.Numbers state line) = StandsInNumbers fed state line
 
--- what was read behind the problem line lies within the limits
+-- what was read after the problem line lies within the limits
 abbrev pub IsSound : Stage → Type 0
 IsSound (stage.Head line) = Unit {0}
 IsSound (stage.Numbers state line) = Fits state
 
--- the fault with which a text is met at its next byte, whatever comes behind that, in the line of that byte
+-- the fault with which a text is met at its next byte, whatever comes after that, in the line of that byte
 pub record IsMet (fed : List ℕ) (byte : ℕ) (fault : Fault) : Type 0 where
   pub line : line_number fed fault.place ≡ count_by is_newline fed + 1
   pub place : fault.place ≤ length fed + 1

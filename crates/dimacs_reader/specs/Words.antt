@@ -12,7 +12,7 @@ pub record AreDigits (digits : List ℕ) (value : ℕ) : Type 0 where
   pub all : IsTrue (list_all is_ascii_digit digits)
   pub value_is : value ≡ min (digits_value digits) (2 ^ 32 - 1)
 
--- digits, behind a minus sign where the number is negative
+-- digits, after a minus sign where the number is negative
 pub record AreSigned (bytes : List ℕ) (is_negative : Bool) (value : ℕ) : Type 0 where
   pub digits : List ℕ
   pub are : AreDigits digits value

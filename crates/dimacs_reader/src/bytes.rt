@@ -37,7 +37,7 @@ pub(crate) fn digit_of(byte: u8) -> Option<u32>
     }
 }
 
-/// A number with one more digit behind it, or 2^32 - 1 where that is more.
+/// A number with one more digit after it, or 2^32 - 1 where that is more.
 pub(crate) fn with_digit(number: u32, digit: u32) -> u32
     ensures { result ≡ min (10 * number + digit) (2 ^ 32 - 1) }
 {

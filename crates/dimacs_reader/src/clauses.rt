@@ -1,4 +1,4 @@
-//! The numbers behind the problem line.
+//! The numbers after the problem line.
 ghost use Rattle.std.specs.Prelude.{◌≡◌, ◌<◌, ◌≤◌, ◌+◌, ◌∷◌, [], ℕ, List, length, OnOk, IfOk, IfErr, IsTrue};
 ghost use Rattle.lk_model.specs.Formulas.Literal.{is_literal};
 ghost use Rattle.lk_model.specs.Limits.{max_vars, max_clauses};
@@ -38,7 +38,7 @@ fn close(state: &mut ReadState) -> Result<(), OutOfMemory>
     }
 }
 
-/// Counts a literal, and adds it to the open clause unless that holds it.
+/// Counts a literal, and adds it to the open clause unless that contains it.
 fn add_literal(state: &mut ReadState, lit: Lit) -> Result<(), OutOfMemory>
     requires literal { IsTrue (is_literal state.old.growing.vars lit) }
     requires room { state.old.written < 20000000 }
@@ -125,7 +125,7 @@ pub(crate) fn finish(state: ReadState, end: usize) -> Result<Formula, Stop>
     Ok(formula)
 }
 
-/// What was read where nothing was read behind a problem line that states these numbers.
+/// What was read where nothing was read after a problem line that states these numbers.
 pub(crate) fn nothing_read(alloc: Global, vars: u32, stated: u32) -> Result<ReadState, OutOfMemory>
     requires vars { vars ≤ max_vars }
     requires stated { stated ≤ max_clauses }

@@ -21,7 +21,7 @@ pub(crate) enum HeadLine {
     Problem(ProblemLine),
 }
 
-/// Where a text stands behind one more byte.
+/// Where a text stands after one more byte.
 #[derive(Clone, Copy)]
 pub(crate) enum HeadStep {
     In(HeadLine),
@@ -29,7 +29,7 @@ pub(crate) enum HeadStep {
     Stated { vars: u32, clauses: u32 },
 }
 
-/// Takes the next byte behind so many.
+/// Takes the next byte after so many.
 pub(crate) fn head_step(line: HeadLine, byte: u8, before: usize) -> Result<HeadStep, Fault>
     requires { before < usize.MAX }
     ensures limits { IfOk result IsWithinLimits }
@@ -44,7 +44,7 @@ pub(crate) fn head_step(line: HeadLine, byte: u8, before: usize) -> Result<HeadS
     }
 }
 
-/// Takes the end of the line, behind so many bytes.
+/// Takes the end of the line, after so many bytes.
 fn end_line(line: HeadLine, before: usize) -> Result<HeadStep, Fault>
     ensures limits { IfOk result IsWithinLimits }
     ensures ok { (fed : List ℕ) → length fed ≡ before → StandsInHead fed line →
@@ -71,7 +71,7 @@ pub(crate) fn stated_at(line: ProblemLine, last: usize) -> Result<(u32, u32), Fa
     }
 }
 
-/// The line with a blank behind it.
+/// The line with a blank after it.
 fn with_blank(line: HeadLine) -> HeadLine
     ensures { (fed : List ℕ) → (blank : ℕ) → is_blank blank ≡ true → is_newline blank ≡ false → StandsInHead fed line →
         StandsInHead (fed ++ blank ∷ []) result }
@@ -82,7 +82,7 @@ fn with_blank(line: HeadLine) -> HeadLine
     }
 }
 
-/// The line with a byte of a word behind it.
+/// The line with a byte of a word after it.
 fn with_byte(line: HeadLine, byte: u8, before: usize) -> Result<HeadLine, Fault>
     requires room { before < usize.MAX }
     requires no_newline { is_newline byte ≡ false }

@@ -1,4 +1,4 @@
-//! The lines of numbers behind the problem line.
+//! The lines of numbers after the problem line.
 ghost use Rattle.std.specs.Prelude.{◌≡◌, ◌<◌, ◌+◌, ◌∷◌, [], ◌++◌, ℕ, List, length, OnOk, IfOk, IfErr, true, false};
 ghost use Rattle.lk_model.specs.Texts.Lines.{is_newline, is_blank};
 ghost use Rattle.dimacs_reader.specs.Faults.{ForFault};
@@ -11,21 +11,21 @@ use crate::stop::{Stop, fault_at};
 use crate::word::{WordSoFar, word_of, word_with};
 use lk_model::{Fault, FaultKind};
 
-/// Where in a line a text stands behind the problem line.
+/// Where in a line a text stands after the problem line.
 #[derive(Clone, Copy)]
 pub(crate) enum NumberLine {
     /// The line has only blanks so far.
     Start,
     Comment,
-    /// Behind a word and a blank.
+    /// After a word and a blank.
     Gap,
     /// Within a word.
     Word(WordSoFar),
-    /// Behind the end mark, where nothing counts.
+    /// After the end mark, where nothing counts.
     Ended,
 }
 
-/// Takes the next byte behind so many.
+/// Takes the next byte after so many.
 pub(crate) fn number_step(
     state: &mut ReadState,
     line: NumberLine,
@@ -47,7 +47,7 @@ pub(crate) fn number_step(
     }
 }
 
-/// Takes the end of the line, behind so many bytes.
+/// Takes the end of the line, after so many bytes.
 fn end_line(state: &mut ReadState, line: NumberLine, before: usize) -> Result<NumberLine, Stop>
     requires { Fits state.old }
     ensures fits { OnOk result (Fits state.new) }
@@ -66,7 +66,7 @@ fn end_line(state: &mut ReadState, line: NumberLine, before: usize) -> Result<Nu
     }
 }
 
-/// Takes a blank, behind so many bytes.
+/// Takes a blank, after so many bytes.
 fn with_blank(state: &mut ReadState, line: NumberLine, before: usize) -> Result<NumberLine, Stop>
     requires { Fits state.old }
     ensures fits { OnOk result (Fits state.new) }
@@ -86,7 +86,7 @@ fn with_blank(state: &mut ReadState, line: NumberLine, before: usize) -> Result<
     }
 }
 
-/// Takes a byte of a word, behind so many bytes.
+/// Takes a byte of a word, after so many bytes.
 fn with_byte(
     state: &ReadState,
     line: NumberLine,

@@ -9,7 +9,7 @@ ghost use Rattle.dimacs_reader.specs.ProblemLines.{IsLineSoFar, problem_line_kin
 use crate::bytes::{digit_of, with_digit};
 use lk_model::{FaultKind, MAX_CLAUSES, MAX_VARS};
 
-/// A problem line, as far as it was read: up to a byte within a word, or behind a word. A number is
+/// A problem line, as far as it was read: up to a byte within a word, or after a word. A number is
 /// kept as it stands, or as 2^32 - 1 where it is more.
 #[derive(Clone, Copy)]
 pub(crate) enum ProblemLine {
@@ -27,7 +27,7 @@ pub(crate) enum ProblemLine {
     Other,
 }
 
-/// The line with a blank behind it.
+/// The line with a blank after it.
 pub(crate) fn line_with_blank(line: ProblemLine) -> ProblemLine
     ensures { (bytes : List ℕ) → (blank : ℕ) → is_blank blank ≡ true → IsLineSoFar bytes line →
         IsLineSoFar (bytes ++ blank ∷ []) result }
@@ -42,7 +42,7 @@ pub(crate) fn line_with_blank(line: ProblemLine) -> ProblemLine
     }
 }
 
-/// The line with a byte of a word behind it.
+/// The line with a byte of a word after it.
 pub(crate) fn line_with(line: ProblemLine, byte: u8) -> ProblemLine
     requires { is_blank byte ≡ false }
     ensures { (bytes : List ℕ) → IsLineSoFar bytes line → IsLineSoFar (bytes ++ byte ∷ []) result }
@@ -58,7 +58,7 @@ pub(crate) fn line_with(line: ProblemLine, byte: u8) -> ProblemLine
     }
 }
 
-/// The line with a digit behind it.
+/// The line with a digit after it.
 fn line_with_digit(line: ProblemLine, digit: u32) -> ProblemLine
     requires { digit ≤ 9 }
     ensures { (bytes : List ℕ) → IsLineSoFar bytes line → IsLineSoFar (bytes ++ (digit + 48) ∷ []) result }

@@ -1,6 +1,6 @@
 //! Reading formulas, byte by byte.
 //!
-//! A text is before the end of its problem line, or behind it, and each byte moves it on. So it may come in any pieces,
+//! A text is before the end of its problem line, or after it, and each byte moves it on. So it may come in any pieces,
 //! of which nothing but a number that has not ended is kept, and a fault is known at its byte.
 ghost use Rattle.std.specs.Prelude.{◌≡◌, ◌<◌, ◌+◌, ◌∷◌, [], ◌++◌, ℕ, List, length, OnOk, IfOk, IfErr};
 ghost use Rattle.lk_model.specs.Limits.{max_bytes};
@@ -27,7 +27,7 @@ const MAX_BYTES: usize = 1 << 30;
 pub(crate) enum Stage {
     /// Before the end of the problem line.
     Head(HeadLine),
-    /// Behind it.
+    /// After it.
     Numbers(ReadState, NumberLine),
 }
 
@@ -48,7 +48,7 @@ pub(crate) enum Held {
     Stopped(Refused),
 }
 
-/// Takes the next byte behind so many.
+/// Takes the next byte after so many.
 fn step(stage: &mut Stage, alloc: Global, byte: u8, before: usize) -> Result<(), Stop>
     requires sound { IsSound stage.old }
     requires room { before < usize.MAX }
@@ -70,7 +70,7 @@ fn step(stage: &mut Stage, alloc: Global, byte: u8, before: usize) -> Result<(),
     Ok(())
 }
 
-/// The fault of a step behind so many bytes, or else the one that the bytes are too many.
+/// The fault of a step after so many bytes, or else the one that the bytes are too many.
 fn fault_of_step(taken: Result<(), Stop>, before: usize) -> Result<(), Stop>
     ensures ok { OnOk result ((taken ≡ Ok tt) × (before < max_bytes)) }
     ensures fault { IfErr result (λ s. ForFault s (IsFirstOf taken before)) }

@@ -7,7 +7,7 @@ use crate::stop::Stop;
 use lk_model::{FaultKind, OutOfMemory};
 use std::alloc::{AllocError, AllocFailed};
 
-/// Why a text is no formula, with the line of its first fault, counted from 1; or want of memory.
+/// Why a text is no formula, with the line of its first fault, counted from 1; or that memory ran out.
 #[derive(Clone, Copy, Debug)]
 pub enum Refused {
     /// The first line that is neither blank nor a comment does not begin with `p`, or there is none before
@@ -17,7 +17,7 @@ pub enum Refused {
     BadHeader { line: u64 },
     /// A further line begins with `p`.
     SecondHeader { line: u64 },
-    /// A word behind the problem line is no number.
+    /// A word after the problem line is no number.
     BadToken { line: u64 },
     /// The variable of a literal is past V.
     BeyondStated { line: u64 },

@@ -1,4 +1,4 @@
-//! Words behind the problem line.
+//! Words after the problem line.
 ghost use Rattle.std.specs.Prelude.{◌≡◌, ◌≤◌, ◌∷◌, [], ◌++◌, ℕ, List, IfSome, IsNone, None};
 ghost use Rattle.lk_model.specs.Texts.NumberWords.{number};
 ghost use Rattle.dimacs_reader.specs.Numbers.{IsNumber, IsOver};
@@ -7,12 +7,12 @@ ghost use Rattle.dimacs_reader.specs.Words.{IsWordSoFar};
 use crate::bytes::{digit_of, with_digit};
 use lk_model::Lit;
 
-/// A word behind the problem line, as far as it was read.
+/// A word after the problem line, as far as it was read.
 #[derive(Clone, Copy)]
 pub(crate) enum WordSoFar {
     /// A minus sign alone.
     Minus,
-    /// Digits, perhaps behind a minus sign, and their value, or 2^32 - 1 where that is more.
+    /// Digits, perhaps after a minus sign, and their value, or 2^32 - 1 where that is more.
     Digits { is_negative: bool, value: u32 },
     /// Nothing that a number may begin with.
     Other,
@@ -52,7 +52,7 @@ pub(crate) fn word_with(word: WordSoFar, byte: u8) -> WordSoFar
     }
 }
 
-/// What a number is behind the problem line.
+/// What a number is after the problem line.
 #[derive(Drop)]
 pub(crate) enum Number {
     /// The 0 that closes a clause.

@@ -118,7 +118,7 @@ not_closed n words literals r =
     let whole : words ≡ r.done = r.parts ∙ append-nil r.done in
     not_added n words (rw (whole, r.numbers, r.not_closed) refl)
 
--- a word behind the 0
+-- a word after the 0
 has_number : (n : ℕ) (word : Word) → is_model_number n word ≡ true → (x : ℤ) × (number word ≡ Some x)
 has_number n word h = of_number (number word) refl
   where

@@ -20,7 +20,7 @@ use Rattle.edit_text.specs.declared.edit.EditFault.{EditFault}
 use Rattle.edit_text.specs.declared.edit.EditFault.TheVariants.{NotAnEdit}
 use Rattle.edit_text.specs.declared.draft.Draft.{Draft}
 
--- NUMBERS BEHIND `d`
+-- NUMBERS AFTER `d`
 
 abbrev pub at_least_1 : Option ℕ → Option ℕ
 at_least_1 o = option_and_then (λ k. if k == 0 then None else Some k) o

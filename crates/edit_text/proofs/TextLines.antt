@@ -1,4 +1,4 @@
--- What is live behind the lines of a text of edits, and their faults.
+-- What is live after the lines of a text of edits, and their faults.
 use Rattle.std.proofs.Common.{◌≡◌, ◌∙◌, ℕ, ◌+◌, List, [], ◌∷◌, ◌++◌, length, refl, sym, ap, append_assoc, Option, Some, None}
 use Rattle.std.specs.Prelude.{filter_map}
 use Rattle.std.specs.Option.{option_to_list}
@@ -15,7 +15,7 @@ use Rattle.edit_text.specs.declared.edit.Edit.{Edit}
 use Rattle.edit_text.specs.declared.edit.Edit.TheVariants.{Add, Remove}
 use Rattle.edit_text.specs.declared.edit.EditFault.{EditFault}
 
--- WHAT IS LIVE BEHIND LINES
+-- WHAT IS LIVE AFTER LINES
 
 after_vars : (s : LiveClauses) (e : Edit) → (after s e).held.vars ≡ s.held.vars
 after_vars s (Add c) = refl
@@ -59,7 +59,7 @@ earlier_append {X} earlier (x ∷ xs) ys =
     ap (λ (l : List (List X × X)). (earlier, x) ∷ l) (earlier_append (earlier ++ x ∷ []) xs ys
     ∙ ap (λ (e : List X). with_earlier (earlier ++ x ∷ []) xs ++ with_earlier e ys) (append_assoc earlier (x ∷ []) xs))
 
--- the faults behind some lines
+-- the faults after some lines
 abbrev pub faults_behind : Cnf → List (List Word) → List (List Word) → List (ℕ × EditFault)
 faults_behind F earlier lines = filter_map (fault_behind F) (with_earlier earlier lines)
 

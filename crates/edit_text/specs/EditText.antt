@@ -10,7 +10,7 @@ use Rattle.lk_model.specs.Texts.Dimacs.{without_repeats}
 use Rattle.lk_model.specs.Texts.ModelText.{word_lines, is_model_number, ends_at_zero, literals_among}
 use Rattle.lk_model.specs.Texts.NumberWords.{number, natural}
 use Rattle.edit_text.specs.LiveClauses.{LiveClauses, live_of}
-use Rattle.edit_text.specs.Edits.{fault_of, after_all}
+use Rattle.edit_text.specs.Edits.{edit_fault, after_all}
 use Rattle.edit_text.specs.declared.edit.Edit.{Edit}
 use Rattle.edit_text.specs.declared.edit.Edit.TheVariants.{Add, Remove}
 use Rattle.edit_text.specs.declared.edit.EditFault.{EditFault}
@@ -24,11 +24,11 @@ is_closed n words =
     list_all (is_model_number n) words
     && (let numbers = filter_map number words in list_any is_zero numbers && ends_at_zero numbers)
 
--- the clause that the words behind `a` write; repeats are dropped
+-- the clause that the words after `a` write; repeats are dropped
 abbrev pub added : ℕ → List Word → Option (List ℤ)
 added n words = if is_closed n words then Some (without_repeats (literals_among (filter_map number words))) else None
 
--- the number, at least 1, that the one word behind `d` writes
+-- the number, at least 1, that the one word after `d` writes
 abbrev pub removed : List Word → Option ℕ
 removed (word ∷ []) = option_and_then (λ k. if k == 0 then None else Some k) (natural word)
 removed _ = None
@@ -57,20 +57,20 @@ edits_in n lines = filter_map (edit_in n) lines
 -- a line that is not passed over is an edit that can be made
 abbrev pub fault_by : LiveClauses → Option Edit → Option EditFault
 fault_by s None = Some NotAnEdit
-fault_by s (Some e) = fault_of s e
+fault_by s (Some e) = edit_fault s e
 
 abbrev pub line_fault : LiveClauses → List Word → Option EditFault
 line_fault s words = if is_passed words then None else fault_by s (edit_by s.held.vars words)
 
--- what is live behind lines
+-- what is live after lines
 abbrev pub live_behind : Cnf → List (List Word) → LiveClauses
 live_behind F lines = after_all (live_of F) (edits_in F.vars lines)
 
--- the fault of a line behind these, with its number
+-- the fault of a line after these, with its number
 abbrev pub fault_behind : Cnf → List (List Word) × List Word → Option (ℕ × EditFault)
 fault_behind F (earlier, words) = option_map (λ (fault : EditFault). (length earlier + 1, fault)) (line_fault (live_behind F earlier) words)
 
--- the faults of all lines, in their order; what stands behind the first one is not told
+-- the faults of all lines, in their order; what stands after the first one is not reported
 abbrev pub line_faults : Cnf → List (List Word) → List (ℕ × EditFault)
 line_faults F lines = filter_map (fault_behind F) (with_earlier [] lines)
 

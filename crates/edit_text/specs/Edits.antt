@@ -15,11 +15,11 @@ abbrev pub has_room : LiveClauses → List ℤ → Bool
 has_room s c = nat_lt (length s.held.clauses) max_clauses && nat_le (literal_count s.held + length c) max_literals
 
 -- why an edit cannot be made, if it cannot
-abbrev pub fault_of : LiveClauses → Edit → Option EditFault
-fault_of s (Add c) = if has_room s c then None else Some PastLimit
-fault_of s (Remove k) = if among s.live k then None else Some NoSuchClause
+abbrev pub edit_fault : LiveClauses → Edit → Option EditFault
+edit_fault s (Add c) = if has_room s c then None else Some PastLimit
+edit_fault s (Remove k) = if among s.live k then None else Some NoSuchClause
 
--- what is live behind it
+-- what is live after it
 abbrev pub after : LiveClauses → Edit → LiveClauses
 after s (Add c) = with_added s c
 after s (Remove k) = with_removed s k
@@ -40,4 +40,4 @@ is_edit_over n (Remove k) = nat_le 1 k
 -- the edits can be made, one after the other
 abbrev pub CanBeMade : LiveClauses → List Edit → Type 0
 CanBeMade s [] = Unit {0}
-CanBeMade s (e ∷ edits) = IsTrue (is_edit_over s.held.vars e) × (fault_of s e ≡ None) × CanBeMade (after s e) edits
+CanBeMade s (e ∷ edits) = IsTrue (is_edit_over s.held.vars e) × (edit_fault s e ≡ None) × CanBeMade (after s e) edits

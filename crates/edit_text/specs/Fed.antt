@@ -9,7 +9,7 @@ use Rattle.lk_model.specs.Texts.Lines.{Word, is_newline}
 use Rattle.lk_model.specs.Texts.ModelText.{word_lines}
 use Rattle.lk_text.specs.Cutting.{is_one_line}
 use Rattle.edit_text.specs.LiveClauses.{LiveClauses}
-use Rattle.edit_text.specs.Edits.{fault_of, after, after_all}
+use Rattle.edit_text.specs.Edits.{edit_fault, after, after_all}
 use Rattle.edit_text.specs.EditText.{IsFaultyAt, line_faults, line_fault, live_behind, edits_in, edit_in}
 use Rattle.edit_text.specs.declared.edit.Edit.{Edit}
 use Rattle.edit_text.specs.declared.edit.EditFault.{EditFault}
@@ -41,8 +41,8 @@ pub record IsSoundDraft (draft : Draft) : Type 0 where
 
 -- the edit was made, or has the fault
 abbrev pub Makes : LiveClauses → List Edit → Edit → Option EditFault → Draft → Type 0
-Makes s edits e None next = (fault_of s e ≡ None) × Tells (after s e) (edits ++ e ∷ []) next
-Makes s edits e (Some fault) next = fault_of s e ≡ Some fault
+Makes s edits e None next = (edit_fault s e ≡ None) × Tells (after s e) (edits ++ e ∷ []) next
+Makes s edits e (Some fault) next = edit_fault s e ≡ Some fault
 
 -- what words write was made, or has the fault, or is no edit
 abbrev pub MakesIfAny : LiveClauses → List Edit → Option Edit → Option EditFault → Draft → Type 0
@@ -76,7 +76,7 @@ abbrev pub Stands : Cnf → List ℕ → ℕ → Stage → Type 0
 Stands F fed line (Reading open_line) = StandsInLine F fed line open_line
 Stands F fed line (Faulty first fault) = IsFirstFault F fed first fault
 
--- the line of the byte behind this one
+-- the line of the byte after this one
 abbrev pub line_behind : ℕ → ℕ → ℕ
 line_behind line b = if is_newline b then line + 1 else line
 
@@ -117,7 +117,7 @@ fed_count (Stopped refused) = 0
 
 -- HOW A TEXT IS REFUSED
 
--- the refusal is that of the text, or want of memory, which is free
+-- the refusal is that of the text, or says that memory ran out, which is possible anywhere
 abbrev pub IsRefusalOf : Cnf → List ℕ → EditsRefused → Type 0
 IsRefusalOf F text (Line line fault) = IsFaultyAt F text line fault
 IsRefusalOf F text OutOfMemory = Unit {0}

@@ -10,6 +10,6 @@ abbrev pub entry_of : ℕ → Option ℤ → Entry
 entry_of n None = Other
 entry_of n (Some x) = if nat_le (variable x) n then (if is_zero x then Zero else Literal x) else Other
 
--- the clause with a literal, if it does not hold it yet
+-- the clause with a literal, if it does not contain it yet
 abbrev pub with_once : List ℤ → ℤ → List ℤ
 with_once c l = if contains c l then c else c ++ l ∷ []

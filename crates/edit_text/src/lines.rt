@@ -102,7 +102,7 @@ fn removed_number(line: &[u8], from: usize) -> Option<u128>
 }
 
 /// Reads the literals up to the 0 that is the last word into a clause without one; repeats are dropped.
-/// Answers whether the words are such a clause; where they are none, it may hold some.
+/// Answers whether the words are such a clause; where they are none, it may contain some.
 fn read_clause(clause: &mut OpenClause, line: &[u8], begin: usize) -> Result<bool, OutOfMemory>
     requires empty { clause.old.literals ≡ [] }
     requires within { begin ≤ length line.now }
@@ -151,7 +151,7 @@ fn entry_in(word: &[u8], n: u32) -> Entry
     }
 }
 
-/// Adds a literal that the clause does not hold.
+/// Adds a literal that the clause does not contain.
 fn add_once(clause: &mut OpenClause, literal: Lit) -> Result<(), OutOfMemory>
     requires { IsTrue (is_literal clause.old.vars literal) }
     ensures vars { clause.new.vars ≡ clause.old.vars }

@@ -20,7 +20,7 @@ use std::alloc::Global;
 /// How many bytes a text may have.
 const MAX_BYTES: usize = 1 << 30;
 
-/// The line that has not ended, behind lines without a fault.
+/// The line that has not ended, after lines without a fault.
 #[derive(Drop)]
 pub(crate) struct OpenLine {
     pub draft: Draft,

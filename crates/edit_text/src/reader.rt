@@ -17,7 +17,7 @@ use std::alloc::Global;
 use std::marker::Model;
 
 /// Reads edits of a formula's clauses whose text comes in pieces. It keeps what is live, the edits, and of
-/// the text no more than the line that has not ended. Behind a line with a fault it only counts bytes and
+/// the text no more than the line that has not ended. After a line with a fault it only counts bytes and
 /// lines. Contracts see what it holds; which bytes it was fed is said by `HasBeenFed`. How the bytes are cut
 /// into pieces makes no difference.
 #[derive(Drop)]
@@ -46,8 +46,8 @@ impl EditsReader {
         })
     }
 
-    /// Takes the next piece of the text. It is refused only for want of memory, or with byte number 2^30 + 1,
-    /// whatever stands before and behind it: other faults are told at the end. After a refusal the reader
+    /// Takes the next piece of the text. It is refused only if memory runs out, or with byte number 2^30 + 1,
+    /// whatever stands before and after it: other faults are reported at the end. After a refusal the reader
     /// holds nothing but the refusal, which each later call answers.
     pub fn feed(&mut self, piece: &[u8]) -> Result<(), EditsRefused>
         ensures ok { (F : Cnf) (fed : List ℕ) → HasBeenFed F fed self.old →
@@ -71,7 +71,7 @@ impl EditsReader {
         }
     }
 
-    /// The edits that the bytes write: they can be made one after the other. But for want of memory it is
+    /// The edits that the bytes write: they can be made one after the other. Unless memory runs out it is
     /// refused exactly where the bytes are no text of edits of the formula, with the first line that has a
     /// fault; a reader that has refused answers that refusal again.
     pub fn finish(self) -> Result<List<Edit>, EditsRefused>

@@ -2,7 +2,7 @@
 use crate::edit::EditFault;
 use lk_model::OutOfMemory;
 
-/// Why a text is none of edits, with the line of its first fault, counted from 1; or want of memory.
+/// Why a text is none of edits, with the line of its first fault, counted from 1; or that memory ran out.
 #[derive(Clone, Copy, Debug)]
 pub enum EditsRefused {
     Line { line: u64, fault: EditFault },

@@ -8,9 +8,9 @@ use Rattle.lk_model.specs.Chains.Chain.{chain_clause, states_its_clause}
 use Rattle.lk_model.specs.declared.document.Step.{Step}
 use Rattle.lk_model.specs.declared.document.Without.{Without}
 use Rattle.lk_model.proofs.Booleans.{or_left}
-use Rattle.kernel_laws.proofs.General.JoinLaws.{none_misstated}
-use Rattle.kernel_laws.proofs.General.Numbering.{premises_in}
-use Rattle.minimal_laws.specs.CoreLaw.{IsCore}
+use Rattle.general_laws.proofs.JoinLaws.{none_misstated}
+use Rattle.general_laws.proofs.Numbering.{premises_in}
+use Rattle.general_laws.specs.CoreLaw.{IsCore}
 use Rattle.empty_clauses.specs.EmptyAt.{IsEmptyAt}
 
 -- a step that names the position

@@ -2,7 +2,7 @@
 ghost use Rattle.std.specs.Prelude.{◌≡◌, ◌∷◌, [], find, IfOk, IsTrue};
 ghost use Rattle.lk_model.specs.Lists.{is_empty};
 ghost use Rattle.lk_model.specs.Formulas.Formula.{clause_at, is_formula, positions_of};
-ghost use Rattle.minimal_laws.specs.CoreLaw.{IsCore};
+ghost use Rattle.general_laws.specs.CoreLaw.{IsCore};
 ghost use Rattle.empty_clauses.specs.EmptyAt.{IsEmptyAt};
 
 use lk_model::{Formula, List, MusResult, OutOfMemory, Round, Step, Without};

@@ -47,7 +47,7 @@ pub content_of-more : (es : List Entry) (k i : ℕ) (d : Entry) (g : ℤ) → k 
 content_of-more es k i d g lt next so_far =
     ap (gcd_of (get_or es k d).value) (so_far ∙ ap (λ (j : ℕ). content_of (drop j es)) (sym next)) ∙ sym (ap content_of (drop_more es k d lt))
 
--- zeros play no part
+-- zeros do not matter
 content-pos : (xs : List ℤ) → pos (unsigned_abs (content xs)) ≡ content xs
 content-pos [] = refl
 content-pos (x ∷ xs) = refl

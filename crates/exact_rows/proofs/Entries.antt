@@ -18,7 +18,7 @@ use Rattle.exact_rows.specs.Sparse.{AreEntries, IsEntry, entries_of, value_in_co
 abbrev pub columns_of : List Entry → List ℕ
 columns_of es = map (λ (e : Entry). e.column) es
 
--- the numbers in n columns behind the first ones, and the entries of a row that begins there
+-- the numbers in n columns after the first ones, and the entries of a row that begins there
 abbrev pub row_behind : ℕ → ℕ → List Entry → List ℤ
 row_behind low n es = map (value_in_column es) (range_with_len (low + 1) n)
 
@@ -33,7 +33,7 @@ number_before low high (e ∷ es) k r h =
     let later = number_before e.column high es k s.more (omega (arith, h, s.above)) in
     grind (arith, nat_tests, s.above, later)
 
--- an entry plays no part behind its column
+-- an entry does not matter after its column
 pub without_first : (e : Entry) (es : List Entry) (low n : ℕ) → e.column ≤ low → row_behind low n (e ∷ es) ≡ row_behind low n es
 without_first e es low zero h = refl
 without_first e es low (suc n) h =
@@ -137,7 +137,7 @@ row_of_entries row = row_again 0 row
 pub are_entries : (row : List ℤ) → AreInRange row → AreEntries (length row) (entries_of row)
 are_entries row h = record { rise = subst (λ (m : ℕ). rises_within 0 m (columns_of (entries_of row)) ≡ true) (let e : 0 + length row ≡ length row = omega arith in e) (entries_rise 0 row); each = entries_each 0 row h }
 
--- behind the last column
+-- after the last column
 pub number_past : (low high : ℕ) (es : List Entry) (k : ℕ) → rises_within low high (columns_of es) ≡ true → high < k → value_in_column es k ≡ pos 0
 number_past low high [] k r h = refl
 number_past low high (e ∷ es) k r h =

@@ -79,7 +79,7 @@ past_same b (e ∷ es) k h = at_test (e.column == b + 1) refl
     at_test true t = rw t (grind (arith, nat_tests, h))
     at_test false t = rw t refl
 
--- the next column, and that behind which it stands
+-- the next column, and that after which it stands
 pub record NextAt (c n column : ℕ) (left right : List Entry) : Type 0 where
   pub before : ℕ
   pub next : column ≡ before + 1
@@ -123,7 +123,7 @@ none_left [] (y ∷ ys) e = absurd (let f : ⊥ = cc in f)
 none_left (x ∷ xs) [] e = absurd (let f : ⊥ = cc in f)
 none_left (x ∷ xs) (y ∷ ys) e = absurd (let f : ⊥ = cc in f)
 
--- fewer entries are left behind it
+-- fewer entries are left after it
 past_fewer : (es : List Entry) (k : ℕ) → length (past es k) ≤ length es
 past_fewer [] k = omega arith
 past_fewer (e ∷ es) k = at_test (e.column == k) refl

@@ -34,8 +34,8 @@ pub record AreEntries (n : ℕ) (es : List Entry) : Type 0 where
 abbrev pub turned : Entry → Entry
 turned e = record e { value = neg_ℤ e.value }
 
--- why a call stops that makes these results: the first one that is out of range, or want of memory, which may come at any
--- time
+-- why a call stops that makes these results: the first one that is out of range, or that memory ran out, which may
+-- happen at any time
 abbrev pub IsStop : List Operands → SparseStop → Type 0
 IsStop results (Wide w) = first_wide results ≡ Some w
 IsStop results OutOfMemory = ⊤

@@ -20,7 +20,7 @@ use std::alloc::Global;
 /// divided by its content: as `combine` does on whole rows, in the time of the entries of both rows that are not 0.
 ///
 /// The error is the first result past ±(2^127 - 1), with its operands: for each column from left to right the
-/// product of the row's entry, that of the other's, and their difference. Or there is no memory. The row is then as it
+/// product of the row's entry, that of the other's, and their difference. Or memory runs out. The row is then as it
 /// was.
 pub fn combine_sparse(
     alloc: Global,
@@ -96,7 +96,7 @@ fn first_number(entries: &[Entry], column: usize) -> i128
     }
 }
 
-// The entries behind that column.
+// The entries after that column.
 fn past(entries: &[Entry], column: usize) -> &[Entry]
     ensures { result.now ≡ past entries.now column }
 {

@@ -4,7 +4,7 @@
 //! greatest common divisor first, and the result by its content, so that numbers stay as small as this allows.
 //!
 //! Here all results are tried before the first entry changes. So a row is as it was where one of them does not fit,
-//! the first one is told with its operands, and no copy of the row is made.
+//! the first one is reported with its operands, and no copy of the row is made.
 ghost use Rattle.std.specs.Prelude.{◌≡◌, ◌≢◌, pos, ◌<ℤ◌, ◌*ℤ◌, ◌-ℤ◌, int_div, length, IsTrue, IfOk, OnOk, OnErr, None};
 ghost use Rattle.std.specs.Result.{result_err};
 ghost use Rattle.lk_model.specs.Limits.{is_in_range};

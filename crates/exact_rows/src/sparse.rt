@@ -24,7 +24,7 @@ pub struct Entry {
 pub enum SparseStop {
     /// The operands of the first result that lies outside ±(2^127 - 1).
     Wide(Wide),
-    /// There was no memory.
+    /// Memory ran out.
     OutOfMemory,
 }
 

@@ -30,8 +30,8 @@ pub fn is_problem(line: &[u8], vars: u32, clauses: usize) -> bool
 }
 
 /// Takes the line of a clause, where there are to be so many, by an open clause that has no literal before and
-/// after. The answer is whether the line was taken; nothing is used again otherwise. The error is want of
-/// memory.
+/// after. The answer is whether the line was taken; nothing is used again otherwise. Fails only if memory
+/// runs out.
 pub fn take_clause(
     texts: &mut Formula,
     growing: &mut OpenClause,

@@ -7,7 +7,7 @@ ghost use Rattle.lk_model.specs.Documents.Text.{comment};
 use line_text::{put, put_clause_line, put_number};
 use lk_model::{Formula, OutOfMemory};
 
-/// Appends the comment line of the numbers of variables and clauses. The error is want of memory.
+/// Appends the comment line of the numbers of variables and clauses. Fails only if memory runs out.
 pub fn put_size_line(out: &mut Vec<u8>, vars: u32, clauses: u32) -> Result<(), OutOfMemory>
     ensures { OnOk result (out.new.items
         ≡ out.old.items ++ line (comment (codes "formula") (number_words (vars ∷ clauses ∷ [])))) }
@@ -17,8 +17,8 @@ pub fn put_size_line(out: &mut Vec<u8>, vars: u32, clauses: u32) -> Result<(), O
     put_number(out, u64::from(clauses), b'\n')
 }
 
-/// Appends the plain text of a formula: its problem line, and a line for each clause. The error is
-/// want of memory.
+/// Appends the plain text of a formula: its problem line, and a line for each clause. Fails only
+/// if memory runs out.
 pub fn put_formula(out: &mut Vec<u8>, f: &Formula) -> Result<(), OutOfMemory>
     ensures { OnOk result (out.new.items ≡ out.old.items ++ plain_text f.now) }
 {

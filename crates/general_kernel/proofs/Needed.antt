@@ -17,7 +17,7 @@ use Rattle.general_kernel.specs.TrimmedRounds.{trimmed_rounds, IsRefuting, AreRe
 abbrev pub round_of : List Step → Round
 round_of steps = record { steps = steps }
 
--- one refutation more, behind those before it
+-- one refutation more, after those before it
 pub trimmed_rounds_more : (next : ℕ) (rounds : List Round) (r : Round)
     → trimmed_rounds next (rounds ++ r ∷ []) ≡ trimmed_rounds next rounds ++ round_of (trimmed (next + length (steps_of (trimmed_rounds next rounds))) r.steps) ∷ []
 trimmed_rounds_more next [] r = ap (λ (k : ℕ). round_of (trimmed k r.steps) ∷ []) (let e : next ≡ next + 0 = omega arith in e)

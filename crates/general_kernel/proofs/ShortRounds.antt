@@ -7,8 +7,8 @@ use Rattle.lk_model.specs.Formulas.Lean.{are_positions}
 use Rattle.lk_model.specs.Held.VariableSets.{is_in}
 use Rattle.lk_model.specs.declared.crossed.Crossed.{Crossed}
 use Rattle.lk_model.proofs.Booleans.{and_true}
-use Rattle.kernel_laws.specs.General.Found.{has_only, covered}
-use Rattle.kernel_laws.proofs.General.Unblocked.{unblocked}
+use Rattle.general_laws.specs.Found.{has_only, covered}
+use Rattle.general_laws.proofs.Unblocked.{unblocked}
 use Rattle.general_kernel.specs.declared.rounds.Rounds.{Rounds}
 use Rattle.general_kernel.specs.declared.short.ShortRefutation.{ShortRefutation}
 use Rattle.general_kernel.specs.ShortRounds.{IsShortRefutation, IsShortAnswer}

@@ -11,7 +11,7 @@ use Rattle.lk_model.specs.Formulas.Literal.{variable, is_literal, is_distinct}
 use Rattle.lk_model.specs.Formulas.Formula.{clause_at}
 use Rattle.lk_model.specs.Formulas.Crossed.{crossed_out}
 use Rattle.lk_model.specs.Formulas.Assignment.{Assignment, makes_true, satisfies}
-use Rattle.lk_model.specs.Formulas.Units.{is_false, is_unit, IsUndecided}
+use Rattle.lk_model.specs.Formulas.Units.{is_false, is_unit_under, IsUndecided}
 use Rattle.lk_model.specs.Held.VariableSets.{is_in}
 use Rattle.lk_model.specs.Chains.Searches.{crossed_clauses_of, searched}
 use Rattle.lk_model.specs.declared.crossed.Crossed.{Crossed}
@@ -33,7 +33,6 @@ use Rattle.learning_laws.proofs.Levels.{path_of, path_up_to}
 use Rattle.learning_laws.proofs.TrailLaws.{trail_law}
 use Rattle.cdcl_core.specs.Decision.{MeetsConflict}
 use Rattle.general_kernel.proofs.Needed.{round_of}
-use Rattle.general_kernel.proofs.States.{}
 
 -- THE CLAUSES
 
@@ -132,6 +131,6 @@ undecided over log m = at (clause_numbered p.clauses m.number) refl m.conflict
     at None found f = absurd (let z : ⊥ = cc in z)
     at (Some c) found f = subst (λ (cs : List (List ℤ)). IsUndecided cs) (lists_held over log.steps p m.solving.clauses) (record {
       φ = φ;
-      rests = all_lists (λ c. not (is_false φ c) && not (is_unit φ c)) p.clauses (m.solving.quiet.quiet 0 m.above);
+      rests = all_lists (λ c. not (is_false φ c) && not (is_unit_under φ c)) p.clauses (m.solving.quiet.quiet 0 m.above);
       unsatisfied = any_list (λ c. not (satisfies φ c)) p.clauses m.number c found (ap not (unsatisfied_below p m.number c m.solving.held found f));
     })

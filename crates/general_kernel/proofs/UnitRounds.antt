@@ -18,7 +18,7 @@ use Rattle.lk_model.proofs.Counting.{in_filter}
 use Rattle.lk_model.proofs.Rising.{bounded}
 use Rattle.lk_model.proofs.Variables.{occurs, position_with, in_variables}
 use Rattle.lk_model.proofs.ListTests.{one_number, each_number}
-use Rattle.kernel_laws.proofs.General.Unblocked.{unblocked}
+use Rattle.general_laws.proofs.Unblocked.{unblocked}
 use Rattle.refutation_log.specs.Derivation.{are_chains, names_lower}
 use Rattle.learning_laws.specs.ModelLaw.{clause_over}
 use Rattle.learning_laws.specs.SolveLaw.{all_learned}

@@ -15,9 +15,9 @@ use Rattle.lk_model.specs.declared.document.Turn.{Turn}
 use Rattle.lk_model.proofs.Booleans.{and_true, or_true, or_left, or_right}
 use Rattle.lk_model.proofs.Rising.{rises}
 use Rattle.lk_model.proofs.Rounds.{round_literals}
-use Rattle.kernel_laws.specs.General.CountLaw.{are_stated, are_learned}
-use Rattle.kernel_laws.proofs.General.Chains.{turned, chained, stated}
-use Rattle.kernel_laws.proofs.General.Numbering.{premises_in}
+use Rattle.general_laws.specs.CountLaw.{are_stated, are_learned}
+use Rattle.general_laws.proofs.Chains.{turned, chained, stated}
+use Rattle.general_laws.proofs.Numbering.{premises_in}
 use Rattle.refutation_log.specs.Derivation.{Derivation, IsDerivation, are_chains}
 use Rattle.refutation_log.proofs.ChainNames.{to_chains}
 use Rattle.refutation_log.proofs.InFormLaws.{form_law}

@@ -1,7 +1,7 @@
 -- How the rounds of a search begin, and how they end.
 use Rattle.std.specs.Prelude.{◌≡◌, ℕ, ◌+◌, false, List, [], ◌∷◌, ◌++◌, length, replicate, IsTrue}
 use Rattle.lk_model.specs.Formulas.Formula.{Cnf, is_formula, IsWithinLimits}
-use Rattle.kernel_laws.specs.General.Found.{IsDone, IsUnfinished}
+use Rattle.general_laws.specs.Found.{IsDone, IsUnfinished}
 use Rattle.general_kernel.specs.TrimmedRounds.{AreRefuting, trimmed_rounds}
 use Rattle.general_kernel.specs.declared.general.End.{End}
 use Rattle.general_kernel.specs.declared.general.End.TheVariants.{Kernel, Open}

@@ -2,8 +2,8 @@
 //!
 //! A clause that a refutation uses has no variable that an autarky sets, and a model of the clauses without the
 //! variables of such clauses is an autarky that satisfies the rest (Kullmann, "Investigations on Autark Assignments",
-//! 2000). So refutations in turn, each over the clauses without the variables of those before, end at the largest lean
-//! part.
+//! 2000). So refutations one by one, each over the clauses without the variables of those before, end at the largest
+//! lean set.
 //!
 //! What unit propagation alone refutes comes first in each round, and then what short clauses refute. Only where
 //! neither does, all clauses of the part are searched, by two orders of the variables that take turns; the one that
@@ -13,7 +13,7 @@ ghost use Rattle.std.specs.Prelude.{◌≡◌, ◌<◌, ◌^◌, length, IfOk, I
 ghost use Rattle.lk_model.specs.Formulas.Lean.{are_positions};
 ghost use Rattle.lk_model.specs.Formulas.Formula.{variable_occurs};
 ghost use Rattle.lk_model.specs.Held.PartialValues.{assignment_by};
-ghost use Rattle.kernel_laws.specs.General.Found.{IsFound};
+ghost use Rattle.general_laws.specs.Found.{IsFound};
 ghost use Rattle.general_kernel.specs.Ends.{IsBegun, EndsRounds};
 ghost use Rattle.general_kernel.specs.SetLiterals.{literals_on};
 ghost use Rattle.unit_refutations.specs.Standing.{IsKept, IsWithin};
@@ -58,7 +58,7 @@ pub fn general_kernel(
 pub(crate) enum End {
     /// With what is covered of the part, and literals that satisfy the rest.
     Kernel { kept: List<u32>, set: List<Lit> },
-    /// With an open round behind them.
+    /// With an open round after them.
     Open(Round),
 }
 

@@ -17,7 +17,7 @@ use lk_model::{Crossed, List, OutOfMemory, Round, Step};
 use std::alloc::Global;
 use unit_refutations::Units;
 
-/// The short clauses are searched where they are at most this part of all.
+/// The short clauses are searched where they are at most this share of all.
 const SHARE: usize = 8;
 
 /// How many clauses are learned from them at most.

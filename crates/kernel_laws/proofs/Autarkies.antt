@@ -11,7 +11,7 @@ HasEarlier-within : (F : Cnf) (S T : Positions) → Within T S → (earlier orde
 HasEarlier-within F S T w earlier [] h = tt
 HasEarlier-within F S T w earlier (l ∷ order) h = (λ p t k. h.0 p (w p t) k, HasEarlier-within F S T w (l ∷ earlier) order h.1)
 
--- an autarky of a class on a set is one on every part of it
+-- an autarky of a class on a set is one on every subset of it
 pub autarky-within : (class : Class) (F : Cnf) (S T : Positions) (φ : Assignment) → Within T S → IsClassAutarky class F S φ → IsClassAutarky class F T φ
 autarky-within Pure F S T φ w a = record {
   order = a.order;
@@ -31,7 +31,7 @@ autarky-within Linear F S T φ w a = record {
 }
 autarky-within General F S T φ w a = λ p t. a p (w p t)
 
--- so an autarky on a set that touches a position forbids a lean part with it
+-- so an autarky on a set that touches a position forbids a lean subset with it
 pub untouched_by : (class : Class) (F : Cnf) (S T : Positions) (φ : Assignment) → Within T S → IsClassAutarky class F S φ → IsLean class F T
     → (p : ℕ) → IsTrue (T p) → IsTrue (touches φ (clause_at F p)) → ⊥
 untouched_by class F S T φ w a lean = lean φ (autarky-within class F S T φ w a)

@@ -4,10 +4,9 @@ use Rattle.std.specs.List.{list_all}
 use Rattle.lk_model.specs.Lists.{among, is_between}
 use Rattle.lk_model.specs.Formulas.Literal.{variable, is_literal}
 use Rattle.lk_model.specs.Formulas.Formula.{Cnf, clause_at, is_formula}
-use Rattle.lk_model.specs.Formulas.Assignment.{Assignment, makes_true, touches, satisfies, extended}
+use Rattle.lk_model.specs.Formulas.Assignment.{Assignment, makes_true, touches, satisfies, extended, IsModel}
 use Rattle.lk_model.specs.Formulas.Autarky.{IsAutarky}
 use Rattle.lk_model.specs.Formulas.Lean.{all_of}
-use Rattle.lk_model.specs.Reduction.{IsModel}
 use Rattle.lk_model.proofs.Booleans.{and_true, or_false, or_right, or_true}
 use Rattle.lk_model.proofs.Clauses.{literals_of}
 

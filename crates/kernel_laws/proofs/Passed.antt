@@ -44,7 +44,7 @@ none_fails (c ∷ cs) e = let both = at_place c.kind c.place (first_of cs) e in 
 passed : (c : Check) (xs : List Check) → c.place ≡ None → first_of (c ∷ xs) ≡ first_of xs
 passed c xs e = ap (λ (o : Option ℕ). option_map_or (λ place. Some (let w : Why = record { kind = c.kind; place = place } in w)) o (first_of xs)) e
 
--- the checks of a finished document behind those of its numbers, its clause lines and its protected variables
+-- the checks of a finished document after those of its numbers, its clause lines and its protected variables
 abbrev pub behind : Variables → Cnf → DoneDocument → List Check
 behind P F d = not_autarky F d ∷ not_exactly_removed F d ∷ class_checks P F d d.body
 

@@ -9,16 +9,16 @@ use Rattle.lk_model.specs.Formulas.Crossed.{no_variable}
 use Rattle.lk_model.specs.Formulas.Assignment.{Assignment, assignment_of, makes_true, touches}
 use Rattle.lk_model.specs.Formulas.Autarky.{Positions, IsAutarky, IsClassAutarky}
 use Rattle.lk_model.specs.Formulas.Lean.{IsLean, Kernel, are_positions, all_of}
-use Rattle.lk_model.specs.Formulas.Protected.{SetsNone, IsLeanUnder, KernelUnder}
+use Rattle.lk_model.specs.Formulas.Protected.{SetsNone, IsLeanUnder, KernelUnder, ReducesBy}
 use Rattle.lk_model.specs.Documents.Documents.{class_of}
-use Rattle.lk_model.specs.Reduction.{ReducesBy, IsReductionUnder}
+use Rattle.lk_model.specs.Reduction.{IsReductionUnder}
 use Rattle.lk_model.specs.declared.document.DoneDocument.{DoneDocument}
 use Rattle.lk_model.proofs.Booleans.{and_true}
 use Rattle.lk_model.proofs.Variables.{any_mono}
 use Rattle.kernel_laws.proofs.Kernels.{kernel_by}
 use Rattle.kernel_laws.proofs.Extensions.{models_by}
-use Rattle.kernel_laws.proofs.Pure.PureAutarkies.{pure_satisfies}
-use Rattle.kernel_laws.proofs.Linear.Signs.{linear_is_autarky}
+use Rattle.kernel_laws.proofs.PureAutarkies.{pure_satisfies}
+use Rattle.kernel_laws.proofs.LinearAutarkies.{linear_is_autarky}
 
 -- an autarky of each class satisfies what it touches
 pub class_satisfies : (class : Class) (F : Cnf) (S : Positions) (φ : Assignment) → is_formula F ≡ true → IsClassAutarky class F S φ → IsAutarky F S φ

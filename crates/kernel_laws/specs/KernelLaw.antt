@@ -1,8 +1,7 @@
 -- Lean sets together, and that there is a largest one.
 use Rattle.std.specs.Prelude.{ℕ, ◌||◌, ◌⊎◌, List, IsTrue}
 use Rattle.lk_model.specs.declared.class.Class.{Class}
-use Rattle.lk_model.specs.declared.class.Class.TheVariants as class
-use Rattle.lk_model.specs.Formulas.Formula.{Cnf, is_formula}
+use Rattle.lk_model.specs.Formulas.Formula.{Cnf}
 use Rattle.lk_model.specs.Formulas.Crossed.{Variables}
 use Rattle.lk_model.specs.Formulas.Autarky.{Positions, Within}
 use Rattle.lk_model.specs.Formulas.Lean.{all_of}
@@ -28,9 +27,3 @@ pub record KernelLaw : Type 0 where
   pub decided : (P : Variables) (class : Class) (F : Cnf)
       → ((p : ℕ) → IsTrue (all_of F p) → IsInLean P class F p ⊎ (IsInLean P class F p → ⊥)) → HasKernel P class F
   pub not_none : (P : Variables) (class : Class) (F : Cnf) → (HasKernel P class F → ⊥) → ⊥
-
--- A formula has a kernel of each of the classes pure, matching and general.
-pub record ExistenceLaw : Type 0 where
-  pub pure : (P : Variables) (F : Cnf) → IsTrue (is_formula F) → HasKernel P class.Pure F
-  pub matching : (P : Variables) (F : Cnf) → IsTrue (is_formula F) → HasKernel P class.Matching F
-  pub general : (P : Variables) (F : Cnf) → IsTrue (is_formula F) → HasKernel P class.General F

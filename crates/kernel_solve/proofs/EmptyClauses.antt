@@ -4,24 +4,23 @@ use Rattle.std.specs.Prelude.{find}
 use Rattle.std.specs.List.{range_with_len}
 use Rattle.std.proofs.lemmas.Bool.{and_from, cases_Bool, cond-true, cond-false, eq-eqb, eqb-true, eqb-false, le-leb, lt-ltb, not_from_false}
 use Rattle.lk_model.specs.Lists.{among, is_between, is_empty}
-use Rattle.lk_model.specs.Formulas.Formula.{Cnf, IsWithinLimits, clause_at, positions_of}
+use Rattle.lk_model.specs.Formulas.Formula.{Cnf, IsWithinLimits, clause_at, positions_of, first_empty}
 use Rattle.lk_model.specs.Formulas.Crossed.{no_variable}
 use Rattle.lk_model.specs.Formulas.Lean.{are_positions}
 use Rattle.lk_model.specs.Chains.Chain.{states_its_clause}
-use Rattle.lk_model.specs.Chains.Rounds.{is_trimmed, reached}
+use Rattle.lk_model.specs.Chains.Rounds.{is_trimmed, reached, empty_round}
 use Rattle.lk_model.specs.declared.document.Step.{Step}
 use Rattle.lk_model.proofs.Founds.{none_at, none_found, up_to_bounds}
 use Rattle.lk_model.proofs.Lists.{among_here}
 use Rattle.lk_model.proofs.ListTests.{all_weaker}
 use Rattle.lk_model.proofs.Literals.{empty_is}
-use Rattle.kernel_laws.specs.General.RefutationLaw.{IsRefutation}
+use Rattle.lk_model.specs.Checks.RoundChecks.{IsRefutation}
 use Rattle.kernel_laws.proofs.Lines.{found_any, found_passes}
-use Rattle.kernel_laws.proofs.General.JoinLaws.{none_misstated}
-use Rattle.kernel_laws.proofs.General.Numbering.{premises_in}
+use Rattle.general_laws.proofs.JoinLaws.{none_misstated}
+use Rattle.general_laws.proofs.Numbering.{premises_in}
 use Rattle.part_formula.specs.Decisions.{are_filled}
 use Rattle.renaming_laws.proofs.Mapped.{rising_all}
-use Rattle.kernel_solve.specs.EmptyClause.{first_empty, empty_round}
-use Rattle.kernel_solve.specs.Solutions.{IsRefuted}
+use Rattle.kernel_solve.specs.Solutions.{IsRefutedWithin}
 
 -- THE FIRST ONE
 
@@ -76,7 +75,7 @@ trimmed : (F : Cnf) (p : ℕ) → is_trimmed (empty_round F p) ≡ true
 unfolding reached
 trimmed F p = and_from _ true (among_here (length F.clauses + 1) (p ∷ [])) refl
 
-pub by_empty : (F : Cnf) (p conflicts : ℕ) → IsWithinLimits F → first_empty F ≡ Some p → IsRefuted F conflicts (empty_round F p)
+pub by_empty : (F : Cnf) (p conflicts : ℕ) → IsWithinLimits F → first_empty F ≡ Some p → IsRefutedWithin F conflicts (empty_round F p)
 by_empty F p conflicts limits found = record {
   refutation = refutes F p limits found;
   needed = trimmed F p;

@@ -61,7 +61,7 @@ not_refuted answers sets (Some r) h = subst AreNotRefuted (sym h.answers_are) (w
     with_stop [] = h.others
     with_stop (set ∷ sets) = with_stop sets
 
--- so a refutation behind it is the first one
+-- so a refutation after it is the first one
 pub first_refutation : (answers gathered rest : List Answer) (sets : List (List ℤ)) (stopped : Option Round) (a : Answer) (r : Round) → a ≡ Ok (Refuted r)
     → gathered ++ a ∷ [] ++ rest ≡ answers → IsGatheredSoFar gathered sets stopped → IsFirstRefutation answers r
 first_refutation answers gathered rest sets stopped a r is all h = record {

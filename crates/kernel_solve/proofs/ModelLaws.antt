@@ -6,11 +6,10 @@ use Rattle.std.proofs.lemmas.List.{length-map}
 use Rattle.lk_model.specs.Lists.{among, is_empty, rises_within}
 use Rattle.lk_model.specs.Formulas.Literal.{variable, literal_of, mentions}
 use Rattle.lk_model.specs.Formulas.Formula.{Cnf, IsWithinLimits, is_formula, clause_at, clauses_at, positions_of, variable_occurs}
-use Rattle.lk_model.specs.Formulas.Assignment.{Assignment, assignment_of, satisfies, extended_value, extended}
+use Rattle.lk_model.specs.Formulas.Assignment.{Assignment, assignment_of, satisfies, extended_value, extended, IsModel}
 use Rattle.lk_model.specs.Formulas.Crossed.{no_variable, crossed_out}
 use Rattle.lk_model.specs.Formulas.Lean.{are_positions, all_of, Kernel}
 use Rattle.lk_model.specs.Formulas.Parts.{IsPart}
-use Rattle.lk_model.specs.Reduction.{IsModel}
 use Rattle.lk_model.specs.declared.class.Class.TheVariants.{Matching}
 use Rattle.lk_model.specs.declared.document.Own.{Own}
 use Rattle.lk_model.specs.declared.result.GeneralResult.{GeneralResult}
@@ -22,13 +21,13 @@ use Rattle.lk_model.proofs.Lists.{among_at, place_of, in_mapped, from_mapped}
 use Rattle.lk_model.proofs.Literals.{variable_negative}
 use Rattle.lk_model.proofs.Rising.{bounded, part_rises as is_rising}
 use Rattle.lk_model.proofs.Variables.{occurs, position_with}
-use Rattle.kernel_laws.specs.General.ForeignLaw.{HasForeign, IsAmongForeign}
-use Rattle.kernel_laws.specs.General.GeneralResults.{IsGeneralResult}
-use Rattle.kernel_laws.specs.Matching.MatchingResults.{IsMatchingResult, removed_of, set_line}
 use Rattle.kernel_laws.proofs.Occurrences.{in_positions}
-use Rattle.kernel_laws.proofs.General.PartLaws.{part_law}
-use Rattle.kernel_laws.proofs.General.PartResults.{no_rounds}
-use Rattle.kernel_laws.proofs.Matching.MatchingReductions.{matching_result_law}
+use Rattle.matching_laws.specs.MatchingResults.{IsMatchingResult, removed_of, set_line}
+use Rattle.matching_laws.proofs.MatchingReductions.{matching_result_law}
+use Rattle.general_laws.specs.ForeignLaw.{HasForeign, IsAmongForeign}
+use Rattle.general_laws.specs.GeneralResults.{IsGeneralResult}
+use Rattle.general_laws.proofs.PartLaws.{part_law}
+use Rattle.general_laws.proofs.PartResults.{no_rounds}
 use Rattle.part_formula.specs.Decisions.{IsPartModel, sets_only}
 use Rattle.renaming_laws.specs.Renaming.{nth}
 use Rattle.renaming_laws.proofs.Mapped.{rises_mapped}

@@ -7,11 +7,11 @@ use Rattle.lk_model.specs.Checks.RoundChecks.{learned_steps}
 use Rattle.lk_model.specs.Checks.Checks.{IsSound}
 use Rattle.lk_model.specs.declared.document.Round.{Round}
 use Rattle.lk_model.proofs.Rising.{range_rises}
-use Rattle.kernel_laws.specs.General.JoinLaw.{IsApart}
-use Rattle.kernel_laws.specs.General.OpenResults.{IsOpenResult, open_document}
 use Rattle.kernel_laws.proofs.Occurrences.{in_positions}
-use Rattle.kernel_laws.proofs.General.OpenResults.{open_result_law}
-use Rattle.kernel_laws.proofs.General.PartLaws.{is_position}
+use Rattle.general_laws.specs.JoinLaw.{IsApart}
+use Rattle.general_laws.specs.OpenResults.{IsOpenResult, open_document}
+use Rattle.general_laws.proofs.OpenResults.{open_result_law}
+use Rattle.general_laws.proofs.PartLaws.{is_position}
 
 -- there is no other position
 no_other : (F : Cnf) → IsApart F (positions_of F)

@@ -8,13 +8,13 @@ use Rattle.lk_model.specs.Formulas.Lean.{are_positions}
 use Rattle.lk_model.specs.Checks.RoundChecks.{learned_steps}
 use Rattle.lk_model.specs.declared.document.Step.{Step}
 use Rattle.lk_model.specs.declared.document.Round.{Round}
-use Rattle.kernel_laws.specs.General.ForeignLaw.{IsAmongForeign}
-use Rattle.kernel_laws.specs.General.OpenResults.{IsOpenResult}
-use Rattle.kernel_laws.proofs.General.Foreign.{foreign_law}
-use Rattle.kernel_laws.proofs.General.JoinLaws.{misstated_none, unlearned_none}
-use Rattle.kernel_laws.proofs.General.Learning.{round_learns}
-use Rattle.kernel_laws.proofs.General.Refuting.{refutation_law as refuted_law}
-use Rattle.refutation_laws.proofs.UsedLaws.{used_law}
+use Rattle.general_laws.specs.ForeignLaw.{IsAmongForeign}
+use Rattle.general_laws.specs.OpenResults.{IsOpenResult}
+use Rattle.general_laws.proofs.Foreign.{foreign_law}
+use Rattle.general_laws.proofs.JoinLaws.{misstated_none, unlearned_none}
+use Rattle.general_laws.proofs.Learning.{round_learns}
+use Rattle.general_laws.proofs.Refuting.{refutation_law as refuted_law}
+use Rattle.general_laws.proofs.UsedLaws.{used_law}
 use Rattle.kernel_solve.specs.RefutationLaw.{SolveRefutationLaw}
 
 whole : (F : Cnf) (part : List ℕ) (rounds : List Round) → are_positions F part ≡ true → IsAmongForeign no_variable F part

@@ -5,15 +5,14 @@ use Rattle.std.proofs.lemmas.List.{append-nil, length-map}
 use Rattle.std.proofs.lemmas.Result.{IfOk-at_ok}
 use Rattle.lk_model.specs.Lists.{among, rises_within}
 use Rattle.lk_model.specs.Formulas.Literal.{variable}
-use Rattle.lk_model.specs.Formulas.Formula.{Cnf, IsWithinLimits, is_formula, clause_at, clauses_at, positions_of}
-use Rattle.lk_model.specs.Formulas.Assignment.{Assignment, assignment_of, extended, extended_literals}
+use Rattle.lk_model.specs.Formulas.Formula.{Cnf, IsWithinLimits, is_formula, clause_at, clauses_at, positions_of, first_empty}
+use Rattle.lk_model.specs.Formulas.Assignment.{Assignment, assignment_of, extended, extended_literals, IsModel}
 use Rattle.lk_model.specs.Formulas.Crossed.{no_variable}
 use Rattle.lk_model.specs.Formulas.Lean.{are_positions, all_of}
 use Rattle.lk_model.specs.Formulas.Minimal.{IsSatisfiable}
 use Rattle.lk_model.specs.Formulas.Parts.{IsPart}
 use Rattle.lk_model.specs.Chains.Rounds.{is_trimmed}
 use Rattle.lk_model.specs.Documents.Documents.{steps_of}
-use Rattle.lk_model.specs.Reduction.{IsModel}
 use Rattle.lk_model.specs.declared.document.Round.{Round}
 use Rattle.lk_model.specs.declared.list.OutOfMemory.{OutOfMemory}
 use Rattle.lk_model.specs.declared.result.GeneralResult.{GeneralResult}
@@ -21,20 +20,19 @@ use Rattle.lk_model.specs.declared.result.MatchingResult.{MatchingResult}
 use Rattle.lk_model.proofs.Booleans.{and_true}
 use Rattle.lk_model.proofs.Counting.{among-range}
 use Rattle.lk_model.proofs.Rising.{bounded, rising_count, part_rises as is_rising}
-use Rattle.kernel_laws.specs.General.ForeignLaw.{IsAmongForeign}
-use Rattle.kernel_laws.specs.General.Found as found
-use Rattle.kernel_laws.specs.General.GeneralResults.{IsGeneralResult, AreGeneralResults}
-use Rattle.kernel_laws.specs.Matching.MatchingResults.{IsMatchingResult, set_line}
-use Rattle.kernel_laws.proofs.General.OpenResults.{open_result_law}
+use Rattle.general_laws.specs.ForeignLaw.{IsAmongForeign}
+use Rattle.general_laws.specs.Found as found
+use Rattle.matching_laws.specs.MatchingResults.{IsMatchingResult, set_line}
+use Rattle.general_laws.specs.GeneralResults.{IsGeneralResult, AreGeneralResults}
+use Rattle.general_laws.proofs.OpenResults.{open_result_law}
 use Rattle.autarky_compose.specs.JoinedGeneral.{AreJoinable, AreJoined, all_kept, rounds_behind}
 use Rattle.autarky_compose.proofs.GeneralLaws.{joined_general_law}
 use Rattle.part_formula.specs.Decisions.{IsDecision, IsPartModel, IsPartRefuted, sets_only}
 use Rattle.part_formula.specs.declared.deciding.Decision.{Decision}
 use Rattle.part_formula.specs.declared.deciding.Decision.TheVariants.{Model, Refuted, Stopped}
-use Rattle.kernel_solve.specs.EmptyClause.{first_empty}
 use Rattle.kernel_solve.specs.KernelParts.{IsFilledPart, IsKernelPart, told, AreKernelParts, AreMatchingParts, AreKernelModels, IsJoinedModel}
 use Rattle.kernel_solve.specs.Answers.{Answer, AreAnswers, AreNotRefuted, IsFirstRefutation, IsFirstStop, IsAmongAnswers, models}
-use Rattle.kernel_solve.specs.Solutions.{IsTotalModel, IsNotRefuted, IsRefuted, IsUnfinished, IsSolved}
+use Rattle.kernel_solve.specs.Solutions.{IsTotalModel, IsNotRefuted, IsRefutedWithin, IsUndecidedWithin, IsSolved}
 use Rattle.kernel_solve.specs.declared.solving.Solved.{Solved}
 use Rattle.kernel_solve.specs.declared.solving.Solved.TheVariants as solved
 use Rattle.kernel_solve.proofs.EmptyClauses.{filled_at}
@@ -178,7 +176,7 @@ matching_parts F r list spelled h same =
 
 -- a refuted part refutes the formula
 refuted : (F : Cnf) (r : MatchingResult) (list : List (List ℕ)) (conflicts : ℕ) (answers : List Answer) (round : Round) → IsSearched F r list
-    → AreAnswers F conflicts list answers → IsFirstRefutation answers round → IsRefuted F conflicts round
+    → AreAnswers F conflicts list answers → IsFirstRefutation answers round → IsRefutedWithin F conflicts round
 refuted F r list conflicts answers round h all c =
     let d = divided F conflicts (Refuted round) list c.before c.behind (as_divided F conflicts list answers _ c.answers_are all) in
     let k = known F r list d.before d.behind d.part h d.list_is in
@@ -205,7 +203,7 @@ refuted F r list conflicts answers round h all c =
 
 -- what is learned over a part makes an unfinished round of the formula
 stopped : (F : Cnf) (r : MatchingResult) (list : List (List ℕ)) (conflicts : ℕ) (answers : List Answer) (round : Round) → conflicts < 2 ^ 63 → IsSearched F r list
-    → AreAnswers F conflicts list answers → IsFirstStop answers round → IsUnfinished F conflicts round
+    → AreAnswers F conflicts list answers → IsFirstStop answers round → IsUndecidedWithin F conflicts round
 stopped F r list conflicts answers round most h all c =
     let d = divided F conflicts (Stopped round) list (models c.before) c.behind (as_divided F conflicts list answers _ c.answers_are all) in
     let k = known F r list d.before d.behind d.part h d.list_is in

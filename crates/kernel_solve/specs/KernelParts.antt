@@ -1,11 +1,11 @@
--- The parts of the matching kernel of a formula, told by their positions in the formula.
+-- The parts of the matching kernel of a formula, given by their positions in the formula.
 use Rattle.std.specs.Prelude.{◌≡◌, ℕ, ℤ, List, map, IsTrue}
 use Rattle.lk_model.specs.declared.class.Class.TheVariants.{Matching}
 use Rattle.lk_model.specs.Formulas.Formula.{Cnf, clauses_at}
 use Rattle.lk_model.specs.Formulas.Lean.{are_positions, Kernel}
 use Rattle.lk_model.specs.Formulas.Parts.{IsPart, AreParts}
 use Rattle.lk_model.specs.declared.result.GeneralResult.{GeneralResult}
-use Rattle.kernel_laws.specs.General.GeneralResults.{AreGeneralResults}
+use Rattle.general_laws.specs.GeneralResults.{AreGeneralResults}
 use Rattle.autarky_compose.specs.JoinedGeneral.{AreJoined}
 use Rattle.renaming_laws.specs.Renaming.{nth}
 use Rattle.part_formula.specs.Decisions.{are_filled, sets_only}
@@ -14,7 +14,7 @@ use Rattle.part_formula.specs.Decisions.{are_filled, sets_only}
 abbrev pub told : List ℕ → List ℕ → List ℕ
 told kept part = map (nth kept) part
 
--- a part of the formula that has the clauses of the matching kernel alone, told so
+-- a part of the formula that has the clauses of the matching kernel alone, given so
 pub record IsKernelPart (F : Cnf) (part : List ℕ) : Type 0 where
   pub kept : List ℕ
   pub kernel : Kernel Matching F kept
@@ -22,7 +22,7 @@ pub record IsKernelPart (F : Cnf) (part : List ℕ) : Type 0 where
   pub is_part : IsPart (clauses_at F kept) places
   pub told_is : part ≡ told kept places
 
--- the parts of the formula that has the kept clauses alone, told so
+-- the parts of the formula that has the kept clauses alone, given so
 pub record AreKernelParts (F : Cnf) (kept : List ℕ) (list : List (List ℕ)) : Type 0 where
   pub parts : List (List ℕ)
   pub are : AreParts (clauses_at F kept) parts

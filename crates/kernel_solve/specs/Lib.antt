@@ -1,4 +1,3 @@
-pub mod EmptyClause
 pub mod KernelParts
 pub mod Answers
 pub mod Solutions

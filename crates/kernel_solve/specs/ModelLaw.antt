@@ -3,16 +3,15 @@ use Rattle.std.specs.Prelude.{◌≡◌, ℕ, List, [], ℤ, IsTrue, map}
 use Rattle.lk_model.specs.Lists.{among}
 use Rattle.lk_model.specs.Formulas.Literal.{variable}
 use Rattle.lk_model.specs.Formulas.Formula.{Cnf, is_formula, IsWithinLimits, positions_of, clauses_at, variables_to}
-use Rattle.lk_model.specs.Formulas.Assignment.{Assignment, assignment_of, extended, extended_literals}
+use Rattle.lk_model.specs.Formulas.Assignment.{Assignment, assignment_of, extended, extended_literals, IsModel}
 use Rattle.lk_model.specs.Formulas.Crossed.{no_variable}
 use Rattle.lk_model.specs.Formulas.Lean.{are_positions, all_of}
 use Rattle.lk_model.specs.Formulas.Parts.{IsPart}
-use Rattle.lk_model.specs.Reduction.{IsModel}
 use Rattle.lk_model.specs.declared.result.GeneralResult.{GeneralResult}
 use Rattle.lk_model.specs.declared.result.MatchingResult.{MatchingResult}
-use Rattle.kernel_laws.specs.Matching.MatchingResults.{IsMatchingResult, set_line}
-use Rattle.kernel_laws.specs.General.ForeignLaw.{IsAmongForeign}
-use Rattle.kernel_laws.specs.General.GeneralResults.{IsGeneralResult}
+use Rattle.matching_laws.specs.MatchingResults.{IsMatchingResult, set_line}
+use Rattle.general_laws.specs.ForeignLaw.{IsAmongForeign}
+use Rattle.general_laws.specs.GeneralResults.{IsGeneralResult}
 use Rattle.part_formula.specs.Decisions.{IsPartModel, sets_only}
 use Rattle.kernel_solve.specs.KernelParts.{IsKernelPart, told}
 

@@ -8,11 +8,10 @@ use Rattle.lk_model.specs.Formulas.Crossed.{no_variable}
 use Rattle.lk_model.specs.Formulas.Lean.{Kernel, are_positions}
 use Rattle.lk_model.specs.Formulas.Minimal.{IsUnsatisfiable}
 use Rattle.lk_model.specs.Chains.Rounds.{used_positions}
-use Rattle.lk_model.specs.Checks.RoundChecks.{learned_steps}
+use Rattle.lk_model.specs.Checks.RoundChecks.{learned_steps, IsRefutation}
 use Rattle.lk_model.specs.declared.document.Round.{Round}
-use Rattle.kernel_laws.specs.General.ForeignLaw.{IsAmongForeign}
-use Rattle.kernel_laws.specs.General.OpenResults.{IsOpenResult}
-use Rattle.kernel_laws.specs.General.RefutationLaw.{IsRefutation}
+use Rattle.general_laws.specs.ForeignLaw.{IsAmongForeign}
+use Rattle.general_laws.specs.OpenResults.{IsOpenResult}
 
 -- Clauses that a round refutes have no model, and it refutes any more clauses too. Where it refutes a formula, the positions
 -- that it uses are in the general kernel. What open rounds learn over a part they learn over the whole formula, if each other

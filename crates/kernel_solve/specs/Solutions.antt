@@ -3,21 +3,18 @@ use Rattle.std.specs.Prelude.{◌≡◌, ◌⊎◌, ℕ, ◌^◌, ◌<◌, ◌�
 use Rattle.std.specs.List.{AllByRecursion}
 use Rattle.lk_model.specs.Lists.{among}
 use Rattle.lk_model.specs.Formulas.Literal.{variable}
-use Rattle.lk_model.specs.Formulas.Formula.{Cnf, positions_of, variables_to}
-use Rattle.lk_model.specs.Formulas.Assignment.{assignment_of}
+use Rattle.lk_model.specs.Formulas.Formula.{Cnf, positions_of, variables_to, first_empty}
+use Rattle.lk_model.specs.Formulas.Assignment.{assignment_of, IsModel}
 use Rattle.lk_model.specs.Formulas.Crossed.{no_variable}
 use Rattle.lk_model.specs.Formulas.Lean.{all_of}
 use Rattle.lk_model.specs.Formulas.Minimal.{IsSatisfiable}
-use Rattle.lk_model.specs.Chains.Rounds.{is_trimmed, names_within}
+use Rattle.lk_model.specs.Chains.Rounds.{is_trimmed, names_within, empty_round}
 use Rattle.lk_model.specs.Chains.Searches.{WantsMore}
-use Rattle.lk_model.specs.Checks.RoundChecks.{learned_steps}
+use Rattle.lk_model.specs.Checks.RoundChecks.{learned_steps, IsRefutation}
 use Rattle.lk_model.specs.Checks.Checks.{IsSound, HasProgress}
-use Rattle.lk_model.specs.Reduction.{IsModel}
 use Rattle.lk_model.specs.declared.document.Round.{Round}
-use Rattle.kernel_laws.specs.General.Found as found
-use Rattle.kernel_laws.specs.General.OpenResults.{IsOpenResult, open_document}
-use Rattle.kernel_laws.specs.General.RefutationLaw.{IsRefutation}
-use Rattle.kernel_solve.specs.EmptyClause.{first_empty, empty_round}
+use Rattle.general_laws.specs.Found as found
+use Rattle.general_laws.specs.OpenResults.{IsOpenResult, open_document}
 use Rattle.kernel_solve.specs.KernelParts.{IsKernelPart, AreMatchingParts}
 use Rattle.kernel_solve.specs.declared.solving.Solved.{Solved}
 use Rattle.kernel_solve.specs.declared.solving.Solved.TheVariants.{Model, Refuted, Unfinished}
@@ -41,7 +38,7 @@ pub record RefutesIn (F : Cnf) (conflicts : ℕ) (part : List ℕ) (r : Round) :
 
 -- A refutation of the formula, with at most so many learned clauses. Each step is reached backwards from the last one. Where
 -- a clause is empty, it is the one step of the first such clause, and else it is that of the first refuted part.
-pub record IsRefuted (F : Cnf) (conflicts : ℕ) (r : Round) : Type 0 where
+pub record IsRefutedWithin (F : Cnf) (conflicts : ℕ) (r : Round) : Type 0 where
   pub refutation : IsRefutation F (positions_of F) r
   pub needed : IsTrue (is_trimmed r)
   pub most : length (learned_steps (r ∷ [])) ≤ conflicts
@@ -49,7 +46,7 @@ pub record IsRefuted (F : Cnf) (conflicts : ℕ) (r : Round) : Type 0 where
   pub first : first_empty F ≡ None → (part : List ℕ) × RefutesIn F conflicts part r
 
 -- The chains of the round name positions of one part of the matching kernel, and the search there is not at its end. The parts
--- before that one have models, and of those behind it none is refuted.
+-- before that one have models, and of those after it none is refuted.
 pub record StopsIn (F : Cnf) (conflicts : ℕ) (part : List ℕ) (r : Round) : Type 0 where
   pub is_part : IsKernelPart F part
   pub before : List (List ℕ)
@@ -62,7 +59,7 @@ pub record StopsIn (F : Cnf) (conflicts : ℕ) (part : List ℕ) (r : Round) : T
 
 -- No clause is empty. The round learned exactly so many clauses, over the whole formula, which are fewer than all that can
 -- be learned. The document that tells them is sound for the formula, and has progress.
-pub record IsUnfinished (F : Cnf) (conflicts : ℕ) (r : Round) : Type 0 where
+pub record IsUndecidedWithin (F : Cnf) (conflicts : ℕ) (r : Round) : Type 0 where
   pub filled : first_empty F ≡ None
   pub learning : IsOpenResult F (positions_of F) (r ∷ [])
   pub all : length (learned_steps (r ∷ [])) ≡ conflicts
@@ -74,5 +71,5 @@ pub record IsUnfinished (F : Cnf) (conflicts : ℕ) (r : Round) : Type 0 where
 
 abbrev pub IsSolved : Cnf → ℕ → Solved → Type 0
 IsSolved F conflicts (Model lits) = IsTotalModel F lits
-IsSolved F conflicts (Refuted r) = IsRefuted F conflicts r
-IsSolved F conflicts (Unfinished r) = IsUnfinished F conflicts r
+IsSolved F conflicts (Refuted r) = IsRefutedWithin F conflicts r
+IsSolved F conflicts (Unfinished r) = IsUndecidedWithin F conflicts r

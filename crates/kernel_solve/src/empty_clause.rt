@@ -1,7 +1,7 @@
 //! Empty clauses, which refute by themselves.
 ghost use Rattle.std.specs.Prelude.{◌≡◌, ◌<◌, IfOk, IsTrue};
-ghost use Rattle.lk_model.specs.Formulas.Formula.{IsWithinLimits, is_formula};
-ghost use Rattle.kernel_solve.specs.EmptyClause.{first_empty, empty_round};
+ghost use Rattle.lk_model.specs.Formulas.Formula.{IsWithinLimits, is_formula, first_empty};
+ghost use Rattle.lk_model.specs.Chains.Rounds.{empty_round};
 
 use lk_model::{Formula, List, OutOfMemory, Round, Step};
 use std::alloc::Global;

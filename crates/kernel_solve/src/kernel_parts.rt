@@ -8,7 +8,7 @@ use lk_model::{Formula, List, OutOfMemory};
 use par_parts::parts;
 use std::alloc::Global;
 
-/// The parts of the formula that has the clauses at the kept positions alone, told by these positions.
+/// The parts of the formula that has the clauses at the kept positions alone, given by these positions.
 pub(crate) fn kernel_parts(
     alloc: Global,
     f: &Formula,
@@ -22,7 +22,7 @@ pub(crate) fn kernel_parts(
     all_told(alloc, kept, found)
 }
 
-// Each part, told.
+// Each part, by the positions in the formula.
 fn all_told(
     alloc: Global,
     kept: &[u32],

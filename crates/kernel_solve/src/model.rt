@@ -1,7 +1,7 @@
 //! A model of a formula from models of the parts of its matching kernel.
 ghost use Rattle.std.specs.Prelude.{map, IfOk};
 ghost use Rattle.lk_model.specs.Formulas.Formula.{positions_of};
-ghost use Rattle.kernel_laws.specs.Matching.MatchingResults.{IsMatchingResult};
+ghost use Rattle.matching_laws.specs.MatchingResults.{IsMatchingResult};
 ghost use Rattle.part_formula.specs.Decisions.{sets_only};
 ghost use Rattle.autarky_compose.specs.JoinedGeneral.{AreJoinable};
 ghost use Rattle.kernel_solve.specs.KernelParts.{AreKernelModels, IsJoinedModel};

@@ -14,9 +14,9 @@ use Rattle.lk_model.specs.declared.verdict.Kind.{Kind}
 use Rattle.lk_model.specs.declared.verdict.Kind.TheVariants.{ModelFails}
 use Rattle.lk_model.specs.declared.verdict.Why.{Why}
 use Rattle.kernel_laws.proofs.Passed.{in_form, none_fails}
-use Rattle.kernel_laws.proofs.Protected.Commons.{set_unset}
-use Rattle.kernel_laws.proofs.Protected.CheckLaws.{line_within}
-use Rattle.kernel_laws.proofs.Protected.ModelLaws.{model_law}
+use Rattle.document_laws.proofs.Commons.{set_unset}
+use Rattle.document_laws.proofs.ProtectedCheckLaws.{line_within}
+use Rattle.document_laws.proofs.ExtensionLaws.{extension_law}
 use Rattle.lean_checker.proofs.FirstFailures.{failure, fails_first, passes_first, first_of-append}
 
 model_kind : (F : Cnf) (d : DoneDocument) (ψ : Assignment) → (model_fails F d ψ).kind ≡ ModelFails
@@ -58,4 +58,4 @@ unfolding first_failure_to_extend_under
 protected_keep F d ψ vars form e v within =
     let h = none_fails (first_five (protected_by d.protect) F d ++ model_fails F d ψ ∷ []) e in
     let line = subst (λ (n : ℕ). is_protect_line n d.protect ≡ true) vars (in_form d form).protect in
-    model_law.protected (protected_by d.protect) (assignment_of d.set) ψ (set_unset (protected_by d.protect) F d (line_within F d.protect line) h.1.1.0) v within
+    extension_law.protected (protected_by d.protect) (assignment_of d.set) ψ (set_unset (protected_by d.protect) F d (line_within F d.protect line) h.1.1.0) v within

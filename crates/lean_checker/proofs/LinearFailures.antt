@@ -4,7 +4,7 @@ use Rattle.std.specs.List.{list_all}
 use Rattle.lk_model.specs.Lists.{rises_within}
 use Rattle.lk_model.specs.Formulas.Formula.{Cnf}
 use Rattle.lk_model.specs.Formulas.Crossed.{no_variable}
-use Rattle.lk_model.specs.Documents.Form.{is_done_in_form, is_body, is_stage, are_duals, is_unit}
+use Rattle.lk_model.specs.Documents.Form.{is_done_in_form, is_body, is_stage, are_duals, is_linear_unit}
 use Rattle.lk_model.specs.Checks.Check.{first_of}
 use Rattle.lk_model.specs.Checks.Checks.{class_checks}
 use Rattle.lk_model.specs.Checks.LinearChecks.{bad_sign, bad_stage, bad_dual, bad_balance, bad_unit}
@@ -58,12 +58,12 @@ pub record AreLinearParts (n m : ℕ) (stages : List Stage) (dual : List Dual) (
   pub stages_are : list_all (is_stage n) stages ≡ true
   pub duals_are : are_duals m dual ≡ true
   pub units_rise : rises_within 0 n (map (λ (u : Unit). u.var) units) ≡ true
-  pub units_are : list_all (is_unit m) units ≡ true
+  pub units_are : list_all (is_linear_unit m) units ≡ true
 
 parts_of : (n m : ℕ) (stages : List Stage) (dual : List Dual) (units : List Unit) → is_body n m (Linear stages dual units) ≡ true → AreLinearParts n m stages dual units
 unfolding is_body
 parts_of n m stages dual units form =
-    let a = and_true _ (list_all (is_unit m) units) form in
+    let a = and_true _ (list_all (is_linear_unit m) units) form in
     let b = and_true _ (rises_within 0 n (map (λ (u : Unit). u.var) units)) a.0 in
     let c = and_true (list_all (is_stage n) stages) (are_duals m dual) b.0 in
     record { stages_are = c.0; duals_are = c.1; units_rise = b.1; units_are = a.1 }

@@ -24,8 +24,8 @@ use Rattle.lk_model.specs.declared.verdict.Kind.TheVariants.{OtherFormula, KeptC
 use Rattle.lk_model.specs.declared.verdict.Why.{Why}
 use Rattle.lk_model.proofs.Booleans.{and_true}
 use Rattle.check_rounds.specs.Learned.{are_open_but_last}
-use Rattle.kernel_laws.proofs.Protected.Crossing.{same_count, same_positions}
-use Rattle.kernel_laws.proofs.Protected.Rounds.{bad_step_same, not_learned_same}
+use Rattle.kernel_laws.proofs.Crossing.{same_count, same_positions}
+use Rattle.document_laws.proofs.Rounds.{bad_step_same, not_learned_same}
 use Rattle.lean_checker.specs.Unfinished.{HasOpenSizes, text_checks, step_checks}
 use Rattle.lean_checker.proofs.FirstFailures.{failure, fails_first, passes_first, first_of-append}
 

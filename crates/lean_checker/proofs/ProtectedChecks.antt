@@ -16,12 +16,12 @@ use Rattle.lk_model.specs.declared.document.Body.TheVariants.{Pure, Matching, Li
 use Rattle.lk_model.specs.declared.document.Document.TheVariants.{Done}
 use Rattle.lk_model.specs.declared.document.DoneDocument.{DoneDocument}
 use Rattle.lk_model.specs.declared.verdict.Why.{Why}
-use Rattle.kernel_laws.specs.Protected.Without.{document_without}
 use Rattle.kernel_laws.proofs.FirstChecks.{none_protected}
 use Rattle.kernel_laws.proofs.Passed.{none_fails, first_behind, in_form}
-use Rattle.kernel_laws.proofs.Protected.CheckLaws.{check_law}
-use Rattle.kernel_laws.proofs.Protected.EmptyLaws.{empty_law}
-use Rattle.kernel_laws.proofs.Protected.Commons.{set_unset, other_same, autarky_same, removal_same, kept_passes}
+use Rattle.kernel_laws.proofs.EmptyLaws.{empty_law}
+use Rattle.document_laws.specs.Without.{document_without}
+use Rattle.document_laws.proofs.ProtectedCheckLaws.{protected_check_law}
+use Rattle.document_laws.proofs.Commons.{set_unset, other_same, autarky_same, removal_same, kept_passes}
 use Rattle.lean_checker.specs.Accepted.{HasSizes}
 use Rattle.lean_checker.proofs.FirstFailures.{passes_first}
 
@@ -42,7 +42,7 @@ texts_unread P F d (General rounds) = refl
 
 -- the protected variables are variables of the formula
 protected_within : (F : Cnf) (d : DoneDocument) → is_done_in_form d ≡ true → HasSizes F d → AreVariables F (protected_by d.protect)
-protected_within F d form sizes = check_law.line F d.protect (subst (λ (n : ℕ). is_protect_line n d.protect ≡ true) sizes.vars (in_form d form).protect)
+protected_within F d form sizes = protected_check_law.line F d.protect (subst (λ (n : ℕ). is_protect_line n d.protect ≡ true) sizes.vars (in_form d form).protect)
 
 -- so what the class finds there is the first failure, where the other checks find none
 pub found_without : (F : Cnf) (d : DoneDocument) (o : Option Why) → is_done_in_form d ≡ true → HasSizes F d → None ≡ first_of (first_five (protected_by d.protect) F d)
@@ -62,4 +62,4 @@ found_without F d o form sizes none found =
     ∙ passes_first (not_exactly_removed G e) (class_checks no_variable G e d.body) removal
     ∙ passes_first (not_autarky G e) (not_exactly_removed G e ∷ class_checks no_variable G e d.body) autarky
     ∙ sym (first_behind no_variable G e other (kept_passes P F d h.1.0) (none_protected G e))
-    ∙ sym (check_law.done P F d vars h.0 h.1.0 h.1.1.0)
+    ∙ sym (protected_check_law.done P F d vars h.0 h.1.0 h.1.1.0)

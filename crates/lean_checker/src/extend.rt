@@ -1,6 +1,6 @@
 //! The check of a model that is to be extended.
 ghost use Rattle.std.specs.Prelude.{◌≡◌, ℕ, None, false, length, unwrap_or, IfOk, IsTrue};
-ghost use Rattle.lk_model.specs.Formulas.Assignment.{assignment_of, extended, extended_value};
+ghost use Rattle.lk_model.specs.Formulas.Assignment.{assignment_of, extended, extended_value, IsModel};
 ghost use Rattle.lk_model.specs.Formulas.Crossed.{protected_by};
 ghost use Rattle.lk_model.specs.Formulas.Formula.{is_formula};
 ghost use Rattle.lk_model.specs.Formulas.Lean.{all_of, are_positions};
@@ -9,7 +9,6 @@ ghost use Rattle.lk_model.specs.Documents.Form.{is_done_in_form};
 ghost use Rattle.lk_model.specs.Checks.CommonChecks.{model_fails};
 ghost use Rattle.lk_model.specs.Checks.Check.{first_of};
 ghost use Rattle.lk_model.specs.Checks.Checks.{first_failure_to_extend, first_five};
-ghost use Rattle.lk_model.specs.Reduction.{IsModel};
 ghost use Rattle.lean_checker.specs.Accepted.{HasSizes};
 
 use crate::common::{

@@ -10,7 +10,7 @@ use std::process::ExitCode;
 /// The status where a word of the command line is no text. No line tells of it.
 const WORDS: u8 = 1;
 
-/// The status where there is no memory for the words. No line tells of it.
+/// The status if memory runs out for the words. No line says so.
 const MEMORY: u8 = 9;
 
 fn main(rt: HostRuntime) -> ExitCode {

@@ -23,7 +23,7 @@ pub none_left : (c : List ℤ) → are_false_in [] c ≡ true → c ≡ []
 none_left [] f = refl
 none_left (l ∷ c) f = absurd (let z : ⊥ = cc in z)
 
--- what is false in the first part of a trail is false
+-- what is false in the front of a trail is false
 pub false_more : (before after : List Entry) (c : List ℤ) → are_false_in before c ≡ true → are_false_in (before ++ after) c ≡ true
 false_more before after c f = all_literals (false_in (before ++ after)) c
     (λ k m. longer before (complement k) (passes_each (false_in before) c k f m))

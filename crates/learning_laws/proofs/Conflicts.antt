@@ -1,4 +1,4 @@
--- What a false clause holds of the present level, and the level that a learned one is learned for.
+-- What a false clause contains of the present level, and the level that a learned one is learned for.
 use Rattle.std.proofs.Common.{◌≡◌, ◌≢◌, ◌∙◌, ℕ, ◌-◌, ◌<◌, ◌≤◌, ◌==◌, ◌∷◌, [], Bool, true, false, not, ◌&&◌, List, ℤ, Option, Some, None, nat_le, refl, sym, ap, subst, arith, inl, inr}
 use Rattle.std.specs.Option.{option_map_or}
 use Rattle.std.specs.List.{list_all, list_any}

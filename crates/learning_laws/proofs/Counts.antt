@@ -1,4 +1,4 @@
--- How many literals of a level a clause holds, counted along the trail.
+-- How many literals of a level a clause contains, counted along the trail.
 use Rattle.std.proofs.Common.{nat_le, None, ◌≡◌, ◌≢◌, ◌∙◌, ℕ, ◌+◌, ◌<◌, ◌==◌, ◌++◌, ◌∷◌, [], Bool, true, false, cond, not, ◌&&◌, ◌||◌, List, ℤ, Some, option_map, length, filter, refl, sym, ap, subst, arith, inl, inr, append_assoc}
 use Rattle.std.specs.Prelude.{nat_lt}
 use Rattle.std.specs.List.{list_all}
@@ -124,7 +124,7 @@ count_on_path : (vars : ℕ) (trail : List Entry) (level : ℕ) (c : List ℤ) (
 unfolding is_path
 count_on_path vars trail level c l h = count_literal vars [] trail level c l h
 
--- along the first part of a trail
+-- along the front of a trail
 count_one : (p : Propagation) (before after : List Entry) (level : ℕ) (c : List ℤ) (l : ℤ) → IsPropagation p → p.trail ≡ before ++ after
     → count_at before level (l ∷ c) ≡ count_at before level c + one_if (stands_at before level l && not (mentions c (variable l)))
 count_one p before after level c l h split =
@@ -186,7 +186,7 @@ count_alone p before e after c k h split f zero_count m apart =
     let some = count_found before (present_level p.trail) c (variable k) x.entry x.is level (mentions_of c k m) in
     omega (arith, some, zero_count))))
 
--- what two parts count
+-- what two pieces count
 count_both : (before after : List Entry) (level : ℕ) (c : List ℤ) → count_at (before ++ after) level c ≡ count_at before level c + count_at after level c
 count_both [] after level c = omega arith
 count_both (e ∷ before) after level c =
@@ -195,7 +195,7 @@ count_both (e ∷ before) after level c =
     let first' = count_first e before level c in
     omega (arith, rest, first, first')
 
--- behind the entries by which a clause is false nothing is counted
+-- after the entries by which a clause is false nothing is counted
 count_behind : (p : Propagation) (before after : List Entry) (level : ℕ) (c : List ℤ) → IsPropagation p → p.trail ≡ before ++ after → are_false_in before c ≡ true
     → count_at after level c ≡ 0
 count_behind p before [] level c h split f = refl

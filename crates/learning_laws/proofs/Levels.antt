@@ -6,7 +6,7 @@ use Rattle.std.proofs.lemmas.Bool.{eqb-true, leb-true, le-leb}
 use Rattle.lk_model.specs.Lists.{is_between}
 use Rattle.lk_model.specs.Formulas.Literal.{variable, complement, is_literal}
 use Rattle.lk_model.proofs.Ranks.{literal_bounds}
-use Rattle.kernel_laws.proofs.General.Numbering.{found_before}
+use Rattle.general_laws.proofs.Numbering.{found_before}
 use Rattle.watch_prop.specs.declared.entry.Entry.{Entry}
 use Rattle.watch_prop.specs.Trail.{false_in, entry_of, level_of, present_level, up_to_level, is_path, is_trail}
 use Rattle.watch_prop.specs.Propagation.{Propagation, IsPropagation}

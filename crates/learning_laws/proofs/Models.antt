@@ -23,7 +23,7 @@ use Rattle.watch_prop.specs.declared.entry.Entry.{Entry}
 use Rattle.watch_prop.specs.declared.entry.NumberedClause.{NumberedClause}
 use Rattle.watch_prop.specs.Trail.{literals_of, false_in, entry_of, present_level}
 use Rattle.watch_prop.specs.Propagation.{Propagation, IsPropagation, GoesOn, assigned, is_quiet, crossed_clauses, with_held, with_assigned, back_at}
-use Rattle.lk_model.specs.Formulas.Units.{is_false, is_unit}
+use Rattle.lk_model.specs.Formulas.Units.{is_false, is_unit_under}
 use Rattle.watch_prop.proofs.Trails.{entry_there}
 use Rattle.watch_prop.proofs.Along.{literal_on_path}
 use Rattle.watch_prop.proofs.Units.{each_numbered}
@@ -49,7 +49,7 @@ all_filtered {X} t q (x ∷ xs) h = let both = and_true (t x) (list_all t xs) h 
     at_test true here rest = and_from (t x) (list_all t (filter q xs)) here rest
     at_test false here rest = rest
 
--- crossed clauses hold no literal of a blocked variable
+-- crossed clauses contain no literal of a blocked variable
 crossed_open : (over : Crossed) (ps : List ℕ)
     → list_all (λ (d : NumberedClause). list_all (is_open over) d.lits)
     (map (λ p. record { number = p; lits = crossed_out (is_in over.blocked.now) (clause_at over.formula.now p) }) ps) ≡ true
@@ -225,7 +225,7 @@ crossed_satisfied over p (k ∷ ps) f set =
         let both = and_true (is_fine p (record { number = k; lits = l ∷ c })) (list_all (is_fine p) rest_of) f in
         let parts = and_true (not (is_empty (l ∷ c)) && is_clause p.vars (l ∷ c)) (is_quiet_clause (assigned p) (l ∷ c)) both.0 in
         let lits = (and_true (list_all (is_literal p.vars) (l ∷ c)) (is_distinct (l ∷ c)) parts.0).0 in
-        let not_false = not-true (is_false (assigned p) (l ∷ c)) (and_true (not (is_false (assigned p) (l ∷ c))) (not (is_unit (assigned p) (l ∷ c))) parts.1).0 in
+        let not_false = not-true (is_false (assigned p) (l ∷ c)) (and_true (not (is_false (assigned p) (l ∷ c))) (not (is_unit_under (assigned p) (l ∷ c))) parts.1).0 in
         and_from (satisfies (assigned p) (l ∷ c)) later
         (set_satisfied (assigned p) (l ∷ c) (λ x m. (
           (let bounds = literal_bounds p.vars x (passes_each (is_literal p.vars) (l ∷ c) x lits m) in let low : 0 < variable x = omega (arith, bounds.0) in low),

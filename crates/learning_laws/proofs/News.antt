@@ -15,7 +15,7 @@ use Rattle.watch_prop.specs.declared.entry.Entry.{Entry}
 use Rattle.watch_prop.specs.declared.entry.NumberedClause.{NumberedClause}
 use Rattle.watch_prop.specs.Trail.{literals_of, true_in, false_in, entry_of, assignment_along, level_of, present_level, up_to_level, forces}
 use Rattle.watch_prop.specs.Propagation.{Propagation, IsPropagation, is_quiet, may_be_held}
-use Rattle.lk_model.specs.Formulas.Units.{is_false, is_unset, is_unit}
+use Rattle.lk_model.specs.Formulas.Units.{is_false, is_unset, is_unit_under}
 use Rattle.watch_prop.proofs.Truths.{same_true, no_sign_twice}
 use Rattle.watch_prop.proofs.Along.{false_along}
 use Rattle.watch_prop.proofs.Units.{two_pass, forces_unit, unset_by_entry, not_true_unset}
@@ -25,7 +25,7 @@ use Rattle.learning_laws.proofs.Tests.{never_both}
 
 -- a clause that is neither false nor has just one unset literal and no true one
 abbrev pub is_quiet_clause : Assignment → List ℤ → Bool
-is_quiet_clause φ c = not (is_false φ c) && not (is_unit φ c)
+is_quiet_clause φ c = not (is_false φ c) && not (is_unit_under φ c)
 
 -- CLAUSES INSIDE A LEARNED ONE
 
@@ -36,7 +36,7 @@ inside_false p level d h clause f quiet =
     let parts = and_true (list_all (is_literal p.vars) d) (is_distinct d) clause in
     let falsified = false_along p.vars (up_to_level level p.trail) d (path_up_to p level h) parts.0 (all_literals (false_in (up_to_level level p.trail)) d f) in
     let φ = assignment_along (up_to_level level p.trail) in
-    never_both (is_false φ d) falsified (not-true (is_false φ d) (and_true (not (is_false φ d)) (not (is_unit φ d)) quiet).0)
+    never_both (is_false φ d) falsified (not-true (is_false φ d) (and_true (not (is_false φ d)) (not (is_unit_under φ d)) quiet).0)
 
 -- and one with one literal that is unset there, and no other one that is not false, has just one unset literal
 pub inside_unit : (p : Propagation) (level : ℕ) (d : List ℤ) (u : ℤ) → IsPropagation p → is_clause p.vars d ≡ true → contains d u ≡ true
@@ -51,7 +51,7 @@ inside_unit p level d u h clause there unset f quiet =
     let force : forces d up u ≡ true = and_from (contains d u) _ there (all_literals (λ k. int_eq k u || contains (literals_of up) (complement k)) d each) in
     let unit = forces_unit p.vars up d u (path_up_to p level h) clause force unset in
     let φ = assignment_along up in
-    never_both (is_unit φ d) unit (not-true (is_unit φ d) (and_true (not (is_false φ d)) (not (is_unit φ d)) quiet).1)
+    never_both (is_unit_under φ d) unit (not-true (is_unit_under φ d) (and_true (not (is_false φ d)) (not (is_unit_under φ d)) quiet).1)
 
 -- the literal of the present level is unset below it
 pub learned_unset : (p : Propagation) (c : List ℤ) (u : ℤ) (level low : ℕ) → IsPropagation p → IsLearnedFor p.trail c u level → low < present_level p.trail

@@ -115,7 +115,7 @@ few_entries p h =
 
 -- VARIABLES OF A FALSE CLAUSE
 
--- a false clause holds the literal of a variable that is false
+-- a false clause contains the literal of a variable that is false
 by_variable : (p : Propagation) (c : List ℤ) (l : ℤ) → IsPropagation p → are_false_in p.trail c ≡ true → mentions c (variable l) ≡ true → false_in p.trail l ≡ true
     → contains c l ≡ true
 by_variable p c l h f m false_l =

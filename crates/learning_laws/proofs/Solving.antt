@@ -15,8 +15,8 @@ use Rattle.lk_model.specs.declared.document.Turn.{Turn}
 use Rattle.lk_model.proofs.Booleans.{and_true, or_left, or_right}
 use Rattle.lk_model.proofs.ListTests.{passes_each, all_more}
 use Rattle.lk_model.proofs.Literals.{filled}
-use Rattle.kernel_laws.proofs.General.Chains.{stated}
-use Rattle.kernel_laws.proofs.General.Learning.{few_steps}
+use Rattle.general_laws.proofs.Chains.{stated}
+use Rattle.general_laws.proofs.Learning.{few_steps}
 use Rattle.refutation_log.specs.Derivation.{Derivation, next_number, are_numbered, are_chains, is_ascending, IsDerivation, step_of, Extends}
 use Rattle.refutation_log.proofs.Chains.{names_below, derivation_more}
 use Rattle.refutation_log.proofs.ChainNames.{pushed_law}

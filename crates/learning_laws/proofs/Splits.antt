@@ -11,7 +11,7 @@ use Rattle.lk_model.proofs.Booleans.{and_true, or_true}
 use Rattle.lk_model.proofs.ListTests.{passes_each}
 use Rattle.lk_model.proofs.Founds.{all_literals}
 use Rattle.kernel_laws.proofs.Clauses.{from_filtered, in_either}
-use Rattle.kernel_laws.proofs.General.Numbering.{found_before}
+use Rattle.general_laws.proofs.Numbering.{found_before}
 use Rattle.watch_prop.specs.declared.entry.Entry.{Entry}
 use Rattle.watch_prop.specs.Trail.{literals_of, false_in, entry_of, level_of, present_level, clause_numbered, forces, has_reason, may_come, may_follow, is_trail}
 use Rattle.watch_prop.specs.Propagation.{Propagation, IsPropagation}
@@ -25,7 +25,7 @@ use Rattle.learning_laws.specs.TrailLaw.{IsForced}
 use Rattle.learning_laws.proofs.Levels.{level_there, false_low}
 use Rattle.learning_laws.proofs.Tests.{not_both}
 
--- the propagation with the first part of its trail
+-- the propagation with the front of its trail
 pub first_part : (p : Propagation) (before after : List Entry) → IsPropagation p → p.trail ≡ before ++ after → IsPropagation (record p { trail = before })
 first_part p before after h split = record {
   vars = h.vars;
@@ -82,7 +82,7 @@ false_before before e k f apart =
       ]
     ]
 
--- a clause that doesn't hold the complement is false before the entry
+-- a clause that doesn't contain the complement is false before the entry
 pub passed_by : (before : List Entry) (e : Entry) (c : List ℤ) → are_false_in (before ++ e ∷ []) c ≡ true → not (contains c (complement e.lit)) ≡ true
     → are_false_in before c ≡ true
 passed_by before e c f absent =
@@ -129,7 +129,7 @@ step_back p before e after k c h split some f =
 
 -- LEVELS BEFORE AN ENTRY
 
--- a literal that is false in the first part has an entry there
+-- a literal that is false in the front has an entry there
 pub record HasEntry (trail : List Entry) (l : ℤ) : Type 0 where
   pub entry : Entry
   pub is : entry_of trail (variable l) ≡ Some entry
@@ -144,7 +144,7 @@ entry_of_false p l h f = at_entry (entry_of p.trail (variable l)) refl
     at_entry None g t = absurd (let z : ⊥ = cc in z)
     at_entry (Some e) g t = record { entry = e; is = g }
 
--- an entry of the first part is one of the whole trail
+-- an entry of the front is one of the whole trail
 pub found_first : (p : Propagation) (before after : List Entry) (v : ℕ) (e : Entry) → p.trail ≡ before ++ after → entry_of before v ≡ Some e → entry_of p.trail v ≡ Some e
 found_first p before after v e split f =
     subst (λ (t : List Entry). entry_of t v ≡ Some e) (sym split) (found_before (λ (e : Entry). variable e.lit == v) before after e f)
@@ -155,7 +155,7 @@ pub record HasLevel (trail : List Entry) (l : ℤ) (most : ℕ) : Type 0 where
   pub is : level_of trail (variable l) ≡ Some level
   pub within : level ≤ most
 
--- of the first part, as of the whole trail
+-- of the front, as of the whole trail
 pub level_before : (p : Propagation) (before after : List Entry) (l : ℤ) → IsPropagation p → p.trail ≡ before ++ after → false_in before l ≡ true
     → HasLevel p.trail l (present_level before)
 level_before p before after l h split f =

@@ -36,7 +36,7 @@ levels_rise p before d between e after h split =
     let high = level_not_below (present_level (before ++ d ∷ between)) e (comes_there p (before ++ d ∷ between) e after h split).level in
     omega (arith, low, high)
 
--- the trail up to a level is its first part
+-- the trail up to a level is a front of it
 up_to_first : (p : Propagation) (level : ℕ) → IsPropagation p → IsUpTo p.trail level
 up_to_first p level h =
     let pre = prefix_of p.vars p.clauses level (length p.trail) p.trail refl h.trail in
@@ -66,14 +66,14 @@ complement_absent p l h there =
 
 -- THE FIRST LITERAL OF A LEVEL
 
--- with what stands before each entry, in two parts
+-- with what stands before each entry, in two pieces
 earlier_append : (earlier xs ys : List Entry) → with_earlier earlier (xs ++ ys) ≡ with_earlier earlier xs ++ with_earlier (earlier ++ xs) ys
 earlier_append earlier [] ys = ap (λ (e : List Entry). with_earlier e ys) (sym (append-nil earlier))
 earlier_append earlier (x ∷ xs) ys =
     ap (λ (l : List (List Entry × Entry)). (earlier, x) ∷ l) (earlier_append (earlier ++ x ∷ []) xs ys
     ∙ ap (λ (e : List Entry). with_earlier (earlier ++ x ∷ []) xs ++ with_earlier e ys) (append_assoc earlier (x ∷ []) xs))
 
--- the second part of a path comes after the first
+-- the second piece of a path comes after the first
 second_part : (vars : ℕ) (before after : List Entry) → is_path vars (before ++ after) ≡ true → ComeAfter vars before after
 unfolding is_path
 second_part vars before after h =
@@ -99,7 +99,7 @@ later_higher vars low earlier (e ∷ rest) h le =
     at_reason None f = let same = eqb-true e.level (present_level earlier + 1) f in lt-ltb low e.level (omega (arith, same, le))
     at_reason (Some k) f = refl
 
--- what stands up to a level, in two parts
+-- what stands up to a level, in two pieces
 up_to_append : (level : ℕ) (xs ys : List Entry) → up_to_level level (xs ++ ys) ≡ up_to_level level xs ++ up_to_level level ys
 up_to_append level [] ys = refl
 up_to_append level (x ∷ xs) ys = at_test (nat_le x.level level) (up_to_append level xs ys)
@@ -109,7 +109,7 @@ up_to_append level (x ∷ xs) ys = at_test (nat_le x.level level) (up_to_append 
     at_test true e = ap (λ (t : List Entry). x ∷ t) e
     at_test false e = e
 
--- the entry behind the trail up to a level is above it
+-- the entry after the trail up to a level is above it
 entry_above : (level : ℕ) (trail : List Entry) (e : Entry) (after : List Entry) → trail ≡ up_to_level level trail ++ e ∷ after → nat_le e.level level ≡ false
 entry_above level trail e after split = false_from_ne_true (nat_le e.level level) (λ y.
     (let up = up_to_level level trail in

@@ -37,13 +37,13 @@ pub record IsLearned (trail : List Entry) (c : List ℤ) : Type 0 where
   pub level : ℕ
   pub learned : IsLearnedFor trail c literal level
 
--- A chain begins with a clause, and one more turn is one more resolvent. The numbers of the clauses that are held stand for
--- them, and none names an empty crossed clause; the next number is new. A clause that is false up to a literal of the trail,
--- and holds its complement, is resolved with the literal's reason, and what stands is false before it; one that doesn't hold
--- it is false before it as it stands. Where the literal was assigned, no other one of the clause is of the present level. A
--- conflict is a held clause that is false. Above level 0 such a clause has a literal of the present level; at level 0 each
--- literal has a reason, and what is false before all of them is empty. A false clause with just one literal of the present
--- level is learned for a level.
+-- A chain begins with a clause, and one more turn is one more resolvent. The numbers of the clauses that are held stand
+-- for them, and none names an empty crossed clause; the next number is new. A clause is false up to a literal of the
+-- trail. If it contains the complement, it is resolved with the literal's reason, and what stands is false before the
+-- literal; else it is false before the literal as it stands. If the literal was assigned, no other one of the clause is
+-- of the present level. A conflict is a held clause that is false. Above level 0 such a clause has a literal of the
+-- present level; at level 0 each literal has a reason, and what is false before all of them is empty. A false clause
+-- with just one literal of the present level is learned for a level.
 pub record ChainLaw : Type 0 where
   pub begins : (from : Premises) (k : ℕ) (c : List ℤ) → clause_named from k ≡ Some c → chain_clause from k [] ≡ Some c
   pub more : (from : Premises) (first : ℕ) (turns : List Turn) (t : Turn) (c d : List ℤ) → chain_clause from first turns ≡ Some c

@@ -16,16 +16,17 @@ pub record IsPlace (trail : List Entry) (i : ℕ) : Type 0 where
   pub level : level_of trail (variable entry.lit) ≡ Some entry.level
   pub reason : reason_of trail (variable entry.lit) ≡ entry.reason
 
--- how many entries of a level have a variable that the clause holds
+-- how many entries of a level have a variable that the clause contains
 abbrev pub count_at : List Entry → ℕ → List ℤ → ℕ
 count_at trail level c = length (filter (λ (e : Entry). e.level == level && mentions c (variable e.lit)) trail)
 
 -- The trail has a place for each literal, the last of which is of the present level, and at most one literal of each
--- variable. What is counted along two parts is counted along the whole; behind the entries by which a clause is false nothing
--- of it is. Where a literal of the present level is counted up to an entry, the entry is of that level. A false clause is known by its variables. Its resolvent with the reason of an entry has the variables of both but
--- the entry's. One literal more counts where its variable is new to the clause and of the level; only the variables of the
--- entries matter. Before an assigned literal none of the present level is counted. Where none is, no literal but the entry's
--- complement is of the present level.
+-- variable. What is counted along two pieces is counted along the whole; after the entries by which a clause is false
+-- nothing of it is. Where a literal of the present level is counted up to an entry, the entry is of that level. A false
+-- clause is known by its variables. Its resolvent with the reason of an entry has the variables of both but the
+-- entry's. One literal more counts where its variable is new to the clause and of the level; only the variables of the
+-- entries matter. Before an assigned literal none of the present level is counted. Where none is, no literal but the
+-- entry's complement is of the present level.
 pub record PlaceLaw : Type 0 where
   pub place : (p : Propagation) (i : ℕ) → IsPropagation p → i < length p.trail → IsPlace p.trail i
   pub last : (before : List Entry) (e : Entry) → present_level (before ++ e ∷ []) ≡ e.level

@@ -14,7 +14,7 @@ use Rattle.learning_laws.specs.Learned.{are_false_in, IsQuietBelow, IsLearnedFor
 
 -- An empty trail has nothing below. A literal that is assigned where all is quiet keeps it so, and so does what clauses force
 -- at the present level, a return to a level, and a learned clause that is held after the return to the level that it is
--- learned for. So a learned clause contains no clause that is held. It holds no literal with its complement, may be held, and
+-- learned for. So a learned clause contains no clause that is held. It contains no complementary pair, may be held, and
 -- is learned for the round. Clauses with the same literals are learned together.
 pub record QuietLaw : Type 0 where
   pub start : (p : Propagation) → p.trail ≡ [] → IsQuietBelow p

@@ -9,12 +9,12 @@ use Rattle.watch_prop.specs.Propagation.{Propagation, IsPropagation, GoesOn, ass
 use Rattle.lk_model.specs.Formulas.Units.{is_false}
 use Rattle.learning_laws.specs.Learned.{are_false_in}
 
--- the trail up to a level is its first part
+-- the trail up to a level is a front of it
 pub record IsUpTo (trail : List Entry) (level : ℕ) : Type 0 where
   pub rest : List Entry
   pub whole : trail ≡ up_to_level level trail ++ rest
 
--- the clause that forced a literal: it holds it, and each other one is the complement of an earlier literal
+-- the clause that forced a literal: it contains this one, and each other one is the complement of an earlier literal
 pub record IsForced (p : Propagation) (before : List Entry) (e : Entry) (reason : ℕ) : Type 0 where
   pub clause : List ℤ
   pub named : clause_numbered p.clauses reason ≡ Some clause
@@ -29,12 +29,12 @@ pub record IsOpened (trail : List Entry) (level : ℕ) : Type 0 where
   pub assigned : entry.reason ≡ None
   pub only : IsTrue (list_all (λ (d : Entry). is_some d.reason || nat_lt (level + 1) d.level) after)
 
--- Each first part of a trail is one. No level is above the present one, and levels never fall. The trail up to a level is its
--- first part, which ends at that level; it is the whole one from the present level on; and what is kept of it up to a lower
--- level is the trail up to that one. No literal stands twice or with its complement, and an entry is that of its variable. A
--- forced literal has its clause. Each level from 1 on begins with its only assigned literal. The true literals are those of the
--- assignment. A literal that is assigned opens a level and leaves what stands up to the ones below, and so
--- does what is forced.
+-- Each front of a trail is one. No level is above the present one, and levels never fall. The trail up to a level is
+-- its front, which ends at that level; it is the whole one from the present level on; and what is kept of it up to a
+-- lower level is the trail up to that one. No literal stands twice or with its complement, and an entry is that of its
+-- variable. A forced literal has its clause. Each level from 1 on begins with its only assigned literal. The true
+-- literals are those of the assignment. A literal that is assigned opens a level and leaves what stands up to the ones
+-- below, and so does what is forced.
 pub record TrailLaw : Type 0 where
   pub first_part : (p : Propagation) (before after : List Entry) → IsPropagation p → p.trail ≡ before ++ after → IsPropagation (record p { trail = before })
   pub most : (p : Propagation) (before : List Entry) (e : Entry) (after : List Entry) → IsPropagation p → p.trail ≡ before ++ e ∷ after

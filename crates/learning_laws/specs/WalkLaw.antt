@@ -23,10 +23,10 @@ pub record IsWalk (p : Propagation) (from : Premises) (first : ℕ) (turns : Lis
 abbrev pub turn_on : ℤ → ℕ → Turn
 turn_on l reason = record { lit = complement l; with = reason }
 
--- A walk starts behind the trail with the clause of a conflict. It passes a literal whose variable the clause does not hold, and
--- resolves on one that it holds where another one of the present level is left before it, or the present level is 0: such a literal
--- was forced. Where no other one is left it stops at a clause that is learned, and at the beginning of the trail with the empty
--- clause, at level 0.
+-- A walk starts after the trail with the clause of a conflict. It passes a literal whose variable the clause does not
+-- contain. It resolves on one that the clause contains, if another one of the present level is left before it, or the
+-- present level is 0: such a literal was forced. If no other one is left it stops at a clause that is learned, and at
+-- the beginning of the trail with the empty clause, at level 0.
 pub record WalkLaw : Type 0 where
   pub start : (p : Propagation) (from : Premises) (k : ℕ) (c : List ℤ) → IsPropagation p → IsQuietBelow p → AreNamed p from → IsAnswered p (Conflict k)
       → clause_numbered p.clauses k ≡ Some c → IsWalk p from k [] c (length p.trail)

@@ -67,11 +67,11 @@ next_unended before line h = record {
 
 -- WHERE A READER STANDS
 
--- what was fed and whatever goes on behind it
+-- what was fed and whatever goes on after it
 fed_and : {V : Type 0} (Start Now : Grammar V) (fed unended more : List ℕ) (lines : ℕ) (h : StandsAt Start Now fed unended lines) → fed ++ more ≡ concat h.taken ++ (unended ++ more)
 fed_and Start Now fed unended more lines h = ap (λ (bs : List ℕ). bs ++ more) h.bytes ∙ append_assoc (concat h.taken) unended more
 
--- behind the lines that were taken, in any text that goes on like this
+-- after the lines that were taken, in any text that goes on like this
 at_open : {V : Type 0} (Start Now : Grammar V) (fed unended more : List ℕ) (lines : ℕ) (h : StandsAt Start Now fed unended lines)
     → IsAt Start Now (concat h.taken ++ (unended ++ more)) (length (concat h.taken)) lines
 at_open Start Now fed unended more lines h = record {
@@ -202,7 +202,7 @@ extends_line completes start now next piece at cut before c lt one on none count
 
 -- WHERE A TEXT STOPS
 
--- the open line may not come, whatever stands behind it
+-- the open line may not come, whatever stands after it
 pub stops_at : {V : Type 0} (Start Now : Grammar V) (fed unended rest behind : List ℕ) (lines : ℕ) → StandsAt Start Now fed unended lines → is_one_line (unended ++ rest) ≡ true
     → LeadsNowhere Now ((unended ++ rest) ++ 10 ∷ []) → StopsAs (IsAdmitted Start) (fed ++ (rest ++ 10 ∷ behind)) (lines + 1)
 stops_at Start Now fed unended rest behind lines h one nowhere =

@@ -54,7 +54,7 @@ fed_count (Stopped stop) = 0
 
 -- ONE PIECE
 
--- whatever was read before, these bytes were read behind it
+-- whatever was read before, these bytes were read after it
 abbrev pub Extends : {R V : Type 0} → (R → Grammar V) → Progress R → Progress R → List ℕ → Type 0
 Extends {R} completes before after piece = (first : R) (fed : List ℕ) → Stands completes first fed before → Stands completes first (fed ++ piece) after
 
@@ -72,7 +72,7 @@ Refuses {R} completes before piece stop = (first : R) (fed : List ℕ) → Stand
 abbrev pub EndsLine : {R V : Type 0} → (R → Grammar V) → Progress R → Progress R → List ℕ → Type 0
 EndsLine completes before after rest = LeadsOn (completes before.reader) (completes after.reader) ((before.unended.items ++ rest) ++ 10 ∷ [])
 
--- it leads nowhere, and the stop is at its number; want of memory is free
+-- it leads nowhere, and the stop is at its number; memory may run out anywhere
 abbrev pub RefusesLine : {R V : Type 0} → (R → Grammar V) → Progress R → List ℕ → ReadStop → Type 0
 RefusesLine completes before rest (read.Line line) =
     (line ≡ before.lines + 1) × LeadsNowhere (completes before.reader) ((before.unended.items ++ rest) ++ 10 ∷ [])

@@ -52,7 +52,7 @@ pub(crate) fn take_piece<R: LineReader + Drop>(
     take_lines(alloc, progress, piece)
 }
 
-/// Takes the lines that end in the piece, and keeps what stands behind them.
+/// Takes the lines that end in the piece, and keeps what stands after them.
 fn take_lines<R: LineReader + Drop>(
     alloc: Global,
     progress: &mut Progress<R>,

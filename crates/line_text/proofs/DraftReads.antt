@@ -101,7 +101,7 @@ reads_on r IsDraft i d next raw h leads =
 
 -- WHAT COMPLETES A DRAFT
 
--- the lines that were read are clean, and those of some value that are behind them
+-- the lines that were read are clean, and those of some value that are after them
 clean_parts : {D V : Type 0} (r : DraftReader D V) (IsDraft : D → Type 0) → IsDrafting r IsDraft → (d : D) (g : GoesOn r d) → (are_clean (r.lines d) ≡ true) × (are_clean g.more ≡ true)
 clean_parts r IsDraft i d g =
     and_true (are_clean (r.lines d)) (are_clean g.more) (sym (list_all-append is_clean_line (r.lines d) g.more) ∙ ap are_clean (sym g.lines) ∙ i.clean g.value)

@@ -11,11 +11,11 @@ use Rattle.line_text.specs.Fields.{has_no_space}
 pub one_field : (line : List ℕ) → has_no_space line ≡ true → fields line ≡ line ∷ []
 one_field line h = slice_split_none (λ b. b == 32) line (none_pass (λ b. b == 32) line h)
 
--- a word, and what stands behind its space
+-- a word, and what stands after its space
 pub field_then : (word rest : List ℕ) → has_no_space word ≡ true → fields (word ++ 32 ∷ rest) ≡ word ∷ fields rest
 field_then word rest h = slice_split_at (λ b. b == 32) word 32 rest (none_pass (λ b. b == 32) word h) refl
 
--- the line up to a space, and behind it
+-- the line up to a space, and after it
 pub field_at : (line : List ℕ) (end : ℕ) → end < length line → get_or line end 0 ≡ 32 → has_no_space (take (end - 0) line) ≡ true
     → fields line ≡ take end line ∷ fields (drop (end + 1) line)
 field_at line end h space none =

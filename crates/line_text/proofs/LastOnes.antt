@@ -1,4 +1,4 @@
--- The last of some items, and items behind others.
+-- The last of some items, and items after others.
 use Rattle.std.proofs.Common.{◌≡◌, ℕ, zero, suc, ◌-◌, ◌<◌, ◌≤◌, ◌∙◌, true, ◌&&◌, Bool, List, [], ◌∷◌, ◌++◌, length, map, refl, sym, ap, arith, Some}
 use Rattle.std.specs.Prelude.{slice_get}
 use Rattle.std.specs.List.{list_all}
@@ -29,7 +29,7 @@ last_or_more low n (k ∷ ns) = last_or_more k n ns
 pub last_more : {X : Type 0} (key : X → ℕ) (low : ℕ) (xs : List X) (x : X) → last_or low (map key (xs ++ x ∷ [])) ≡ key x
 last_more key low xs x = ap (last_or low) (map-append key xs (x ∷ [])) ∙ last_or_more low (key x) (map key xs)
 
--- one more number behind numbers that rise
+-- one more number after numbers that rise
 pub rises_last : (low high n : ℕ) (ns : List ℕ) → rises_within low high (ns ++ n ∷ []) ≡ true → (last_or low ns < n) × (n ≤ high)
 rises_last low high n [] h = let r = rises low high n [] h in (r.above, r.within)
 rises_last low high n (k ∷ ns) h = let r = rises low high k (ns ++ n ∷ []) h in rises_last k high n ns r.more

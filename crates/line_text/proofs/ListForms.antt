@@ -187,7 +187,7 @@ literals_rising n last (l ∷ ls) h =
 
 -- CLAUSES
 
--- a literal that the clause does not hold
+-- a literal that the clause does not contain
 new_literal : (clause : List ℤ) (l : ℤ) (o : Option ℤ) → if_new clause o ≡ Some l → (o ≡ Some l) × (contains clause l ≡ false)
 new_literal clause l None e = absurd (let f : ⊥ = cc in f)
 new_literal clause l (Some x) e = by_test (contains clause x) refl e

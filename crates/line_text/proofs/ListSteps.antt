@@ -28,7 +28,7 @@ has_word (b ∷ bs) = by_test (b == 32)
     by_test true = ([], fields bs, refl)
     by_test false = onto_word b (fields bs)
 
--- an item behind those that were read
+-- an item after those that were read
 one_more : {X : Type 0} (xs : List X) (x : X) (rest : Option (List X)) → option_map (λ ys. xs ++ ys) (option_map (λ ys. x ∷ ys) rest) ≡ option_map (λ ys. (xs ++ x ∷ []) ++ ys) rest
 one_more xs x None = refl
 one_more xs x (Some ys) = ap Some (sym (append_assoc xs (x ∷ []) ys))

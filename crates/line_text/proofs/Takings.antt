@@ -21,7 +21,7 @@ pub not_taken : {X : Type 0} (o : Option X) (taken : Bool) (now : X) → IsTaken
 not_taken None taken now h t = refl
 not_taken (Some next) taken now h t = absurd (let one = h.0 in let f : ⊥ = cc in f)
 
--- what is read of the words behind two others
+-- what is read of the words after two others
 pub behind_is : {Y : Type 0} (read : List Word → Option Y) (found : Option (List Word)) (result : Option (Bor (List ℕ))) (rest : Bor (List ℕ)) → result ≡ Some rest
     → option_map (λ (r : Bor (List ℕ)). fields r.now) result ≡ found → read (fields rest.now) ≡ option_and_then read found
 behind_is read found result rest is e =

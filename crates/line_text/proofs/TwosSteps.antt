@@ -26,7 +26,7 @@ twos_short read whole xs words word other told e = sym (told ∙ ap (twos read x
 
 -- WHOLE LISTS
 
--- how such items are spelled, and which of them may stand behind others
+-- how such items are spelled, and which of them may stand after others
 pub record AreTwos {X : Type 0} (read : List X → Word → Word → Option X) (spell : X → List Word) (ok : List X → Bool) : Type 0 where
   pub form : (xs : List X) (word other : Word) (x : X) → ok xs ≡ true → read xs word other ≡ Some x → (word ∷ other ∷ [] ≡ spell x) × (ok (xs ++ x ∷ []) ≡ true)
   pub first : X → Word
@@ -35,7 +35,7 @@ pub record AreTwos {X : Type 0} (read : List X → Word → Word → Option X) (
   pub back : (xs : List X) (x : X) → ok (xs ++ x ∷ []) ≡ true → read xs (first x) (second x) ≡ Some x
   pub front : (xs ys : List X) → ok (xs ++ ys) ≡ true → ok xs ≡ true
 
--- the items that were read behind some
+-- the items that were read after some
 pub record TwosForm {X : Type 0} (spell : X → List Word) (ok : List X → Bool) (xs ys : List X) (words : List Word) : Type 0 where
   pub more : List X
   pub whole : ys ≡ xs ++ more

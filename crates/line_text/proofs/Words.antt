@@ -10,7 +10,7 @@ use Rattle.line_text.proofs.ListSteps.{has_word}
 use Rattle.lk_model.specs.Texts.PlainText.{ended}
 use Rattle.lk_model.specs.Documents.Text.{comment}
 
--- what stands behind a space has a word
+-- what stands after a space has a word
 rest_has : (o : Option (Bor (List ℕ))) → is_some o ≡ true → (word : Word) × (more : List Word) × (rest_fields o ≡ word ∷ more)
 rest_has None e = absurd (let f : ⊥ = cc in f)
 rest_has (Some rest) e = has_word rest.now
@@ -25,7 +25,7 @@ many f front words o e t none =
 pub two_many : (first second : ℕ) (x y : Word) (words : List Word) (o : Option (Bor (List ℕ))) → words ≡ x ∷ y ∷ rest_fields o → is_some o ≡ true → None ≡ two_within first second words
 two_many first second x y words o e t = many (two_within first second) (x ∷ y ∷ []) words o e t (λ word more. refl)
 
--- WORDS BEHIND TWO OTHERS
+-- WORDS AFTER TWO OTHERS
 
 pub after_some : (a b first second : Word) (behind : List ℕ) → bytes_eq a first ≡ true → bytes_eq b second ≡ true → after first second (a ∷ b ∷ fields behind) ≡ Some (fields behind)
 after_some a b first second behind e f =
@@ -56,7 +56,7 @@ after_form first second (a ∷ b ∷ word ∷ words) rest e = by_tests (bytes_eq
         let same : word ∷ words ≡ rest = cc in
         record { whole = cc }
 
--- words behind a keyword that are closed by 0
+-- words after a keyword that are closed by 0
 pub after_ended : (keyword : Word) (words : List Word) → bytes_eq keyword keyword ≡ true → after (codes "c") keyword (comment keyword (ended words)) ≡ Some (ended words)
 after_ended keyword [] e = rw e refl
 after_ended keyword (word ∷ words) e = rw e refl

@@ -34,7 +34,7 @@ abbrev pub if_new : List ℤ → Option ℤ → Option ℤ
 if_new clause None = None
 if_new clause (Some l) = if contains clause l then None else Some l
 
--- literals of a clause behind those that it has
+-- literals of a clause after those that it has
 abbrev pub clause_from : ℕ → List ℤ → List Word → Option (List ℤ)
 clause_from n clause [] = None
 clause_from n clause (word ∷ []) = if bytes_eq word (codes "0") then Some [] else None
@@ -46,7 +46,7 @@ abbrev pub IsClauseOf : Option (List ℤ) → Bool → List ℤ → Type 0
 IsClauseOf found true literals = found ≡ Some literals
 IsClauseOf found false literals = found ≡ None
 
--- items of two words each, behind those that were read
+-- items of two words each, after those that were read
 abbrev pub twos : {X : Type 0} → (List X → Word → Word → Option X) → List X → List Word → Option (List X)
 twos read xs [] = None
 twos read xs (word ∷ []) = if bytes_eq word (codes "0") then Some xs else None

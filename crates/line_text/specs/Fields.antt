@@ -18,12 +18,12 @@ fields bytes = slice_split (λ b. b == 32) bytes
 abbrev pub has_no_space : List ℕ → Bool
 has_no_space bytes = list_all (λ b. not (b == 32)) bytes
 
--- the words behind a space, where there was one
+-- the words after a space, where there was one
 abbrev pub rest_fields : Option (Bor (List ℕ)) → List Word
 rest_fields None = []
 rest_fields (Some rest) = fields rest.now
 
--- the words behind these two, where at least one is
+-- the words after these two, where at least one is
 abbrev pub after : Word → Word → List Word → Option (List Word)
 after first second (a ∷ b ∷ word ∷ words) = if bytes_eq a first && bytes_eq b second then Some (word ∷ words) else None
 after first second _ = None

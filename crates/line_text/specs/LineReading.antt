@@ -16,8 +16,8 @@ is_whole_line (b ∷ bs) = if b == 10 then is_empty bs else is_whole_line bs
 abbrev pub are_whole_lines : List (List ℕ) → Bool
 are_whole_lines lines = list_all is_whole_line lines
 
--- What may complete the lines that were read: for a value, the lines behind them in a text of that value. Each line has its
--- byte 10.
+-- What may complete the lines that were read: for a value, the lines after them in a text of that value. Each line has
+-- its byte 10.
 abbrev pub Grammar : Type 0 → Type 1
 Grammar V = V → List (List ℕ) → Type 0
 
@@ -36,7 +36,7 @@ CanComplete Completes = (bytes : List ℕ) × IsAdmitted Completes bytes
 
 -- ONE LINE MORE
 
--- What completes the lines behind this one, after it completes what was read, and something does.
+-- What completes the lines after this one, after it completes what was read, and something does.
 pub record LeadsOn {V : Type 0} (Before After : Grammar V) (line : List ℕ) : Type 0 where
   pub same : (value : V) (more : List (List ℕ)) → After value more ↔ Before value (line ∷ more)
   pub completed : CanComplete After
@@ -57,7 +57,7 @@ abbrev pub EndsWith : {V : Type 0} → Grammar V → Option V → Type 0
 EndsWith Completes (Some value) = Completes value []
 EndsWith {V} Completes None = (value : V) → Completes value [] → ⊥
 
--- the stop is at the first line with which no such text begins; want of memory is free
+-- the stop is at the first line with which no such text begins; memory may run out anywhere
 abbrev pub IsStopOf : (List ℕ → Type 0) → List ℕ → ReadStop → Type 0
 IsStopOf Texts bytes (Line line) = StopsAs Texts bytes line
 IsStopOf Texts bytes OutOfMemory = Unit {0}

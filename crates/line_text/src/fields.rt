@@ -9,7 +9,7 @@ ghost use Rattle.line_text.specs.Fields.{two_within, one_within};
 use lk_model::Lit;
 use lk_text::read_plain;
 
-/// The bytes up to the first space, and those behind it where there is one.
+/// The bytes up to the first space, and those after it where there is one.
 pub fn first_field(line: &[u8]) -> (&[u8], Option<&[u8]>)
     ensures words { fields line.now ≡ result.0.now ∷ rest_fields result.1 }
     ensures shorter { IfSome result.1 (λ rest. length rest.now < length line.now) }
@@ -36,7 +36,7 @@ fn field_end(line: &[u8]) -> usize
     line.len()
 }
 
-/// What stands behind these two words, where at least one word does.
+/// What stands after these two words, where at least one word does.
 pub fn behind<'a>(line: &'a [u8], first: &[u8], second: &[u8]) -> Option<&'a [u8]>
     ensures { option_map (λ (r : Bor (List ℕ)). fields r.now) result ≡ after first.now second.now (fields line.now) }
 {

@@ -22,7 +22,7 @@ pub trait LineReader {
     ghost completes: { Self → Self.Value → List (List ℕ) → Type 0 };
 
     /// Takes the next line, which is passed without its byte 10, or answers that no text goes on with it:
-    /// then the reader is spent. The error is want of memory.
+    /// then the reader is spent. Fails only if memory runs out.
     fn take(&mut self, alloc: Global, line: &[u8]) -> Result<bool, OutOfMemory>
         requires fits { fits self.old }
         requires few { count self.old + 1 < 2 ^ 63 }
@@ -31,7 +31,7 @@ pub trait LineReader {
         ensures fits { IfOk result (λ taken. IsTrue taken → fits self.new) }
         ensures count { IfOk result (λ taken. IsTrue taken → count self.new ≡ count self.old + 1) };
 
-    /// The value of the text that ends here, or none where no text does. The error is want of memory.
+    /// The value of the text that ends here, or none where no text does. Fails only if memory runs out.
     fn finish(self) -> Result<Option<Self::Value>, OutOfMemory>
         requires fits { fits self }
         requires few { count self < 2 ^ 63 }
@@ -40,8 +40,8 @@ pub trait LineReader {
 
 /// The value of a text, by a reader that has read nothing yet. Bytes that are no text of this reader are
 /// refused with the first line with which none goes on, counted from 1. A last line without its byte 10 is
-/// such a line; where the text ends too early, so is the line after its last one. The other error is want of
-/// memory.
+/// such a line; where the text ends too early, so is the line after its last one. The other error says
+/// that memory ran out.
 pub fn read_lines<R: LineReader + Drop>(
     alloc: Global,
     reader: R,

@@ -12,7 +12,7 @@ use std::alloc::Global;
 pub const CLOSING: &[u8] = b"0";
 
 /// The numbers of a line, which ascend from at least 1 to at most the greatest. There are none where
-/// the line is no such list. The error is want of memory.
+/// the line is no such list. Fails only if memory runs out.
 pub fn numbers_in(alloc: Global, line: &[u8], high: u32) -> Result<Option<List<u32>>, OutOfMemory>
     requires { high ≤ 4000000 }
     ensures { IfOk result (λ numbers. numbers ≡ rising_from 0 high (fields line.now)) }
@@ -35,7 +35,7 @@ pub fn numbers_in(alloc: Global, line: &[u8], high: u32) -> Result<Option<List<u
 }
 
 /// The literals of a line, over the variables from 1 to n, whose variables ascend where they are to
-/// rise. There are none where the line is no such list. The error is want of memory.
+/// rise. There are none where the line is no such list. Fails only if memory runs out.
 pub fn literals_in(
     alloc: Global,
     line: &[u8],
@@ -65,7 +65,7 @@ pub fn literals_in(
     }
 }
 
-/// Whether the literal may stand behind one of the last variable.
+/// Whether the literal may stand after one of the last variable.
 fn may_follow(literal: Lit, last: u32, rising: bool) -> bool
     ensures { result ≡ (not rising || nat_lt last (variable literal)) }
 {
@@ -73,7 +73,7 @@ fn may_follow(literal: Lit, last: u32, rising: bool) -> bool
 }
 
 /// Reads the literals of a line into a clause without one, and answers whether the line is a clause:
-/// no literal stands twice. Where it is none, the clause may hold some. The error is want of memory.
+/// no literal stands twice. Where it is none, the clause may contain some. Fails only if memory runs out.
 pub fn read_clause(clause: &mut OpenClause, line: &[u8]) -> Result<bool, OutOfMemory>
     requires { clause.old.literals ≡ [] }
     ensures read { IfOk result

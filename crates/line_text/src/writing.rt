@@ -8,7 +8,7 @@ ghost use Rattle.line_text.specs.Spaced.{spaced};
 use lk_model::{Lit, OutOfMemory};
 use lk_text::put_i128;
 
-/// Appends these bytes. The error is want of memory.
+/// Appends these bytes. Fails only if memory runs out.
 pub fn put(out: &mut Vec<u8>, text: &[u8]) -> Result<(), OutOfMemory>
     ensures { OnOk result (out.new.items ≡ out.old.items ++ text.now) }
 {
@@ -16,7 +16,7 @@ pub fn put(out: &mut Vec<u8>, text: &[u8]) -> Result<(), OutOfMemory>
     Ok(())
 }
 
-/// Appends a word, and the byte that follows it. The error is want of memory.
+/// Appends a word, and the byte that follows it. Fails only if memory runs out.
 pub fn put_word(out: &mut Vec<u8>, word: &[u8], after: u8) -> Result<(), OutOfMemory>
     ensures { OnOk result (out.new.items ≡ out.old.items ++ (word.now ++ after ∷ [])) }
 {
@@ -25,7 +25,7 @@ pub fn put_word(out: &mut Vec<u8>, word: &[u8], after: u8) -> Result<(), OutOfMe
     Ok(())
 }
 
-/// Appends a signed number, and the byte that follows it. The error is want of memory.
+/// Appends a signed number, and the byte that follows it. Fails only if memory runs out.
 pub fn put_signed(out: &mut Vec<u8>, x: i128, after: u8) -> Result<(), OutOfMemory>
     ensures { OnOk result (out.new.items ≡ out.old.items ++ (signed_decimal x ++ after ∷ [])) }
 {
@@ -34,21 +34,21 @@ pub fn put_signed(out: &mut Vec<u8>, x: i128, after: u8) -> Result<(), OutOfMemo
     Ok(())
 }
 
-/// Appends a number, and the byte that follows it. The error is want of memory.
+/// Appends a number, and the byte that follows it. Fails only if memory runs out.
 pub fn put_number(out: &mut Vec<u8>, n: u64, after: u8) -> Result<(), OutOfMemory>
     ensures { OnOk result (out.new.items ≡ out.old.items ++ (decimal n ++ after ∷ [])) }
 {
     put_signed(out, i128::from(n), after)
 }
 
-/// Appends a literal, and the byte that follows it. The error is want of memory.
+/// Appends a literal, and the byte that follows it. Fails only if memory runs out.
 pub fn put_literal(out: &mut Vec<u8>, l: Lit, after: u8) -> Result<(), OutOfMemory>
     ensures { OnOk result (out.new.items ≡ out.old.items ++ (signed_decimal l ++ after ∷ [])) }
 {
     put_signed(out, i128::from(l.get()), after)
 }
 
-/// Appends numbers, each with a space behind it.
+/// Appends numbers, each with a space after it.
 fn put_numbers(out: &mut Vec<u8>, numbers: &[u32]) -> Result<(), OutOfMemory>
     ensures { OnOk result (out.new.items ≡ out.old.items ++ spaced (number_words numbers.now)) }
 {
@@ -58,7 +58,7 @@ fn put_numbers(out: &mut Vec<u8>, numbers: &[u32]) -> Result<(), OutOfMemory>
     Ok(())
 }
 
-/// Appends literals, each with a space behind it. The error is want of memory.
+/// Appends literals, each with a space after it. Fails only if memory runs out.
 pub fn put_literals(out: &mut Vec<u8>, literals: &[Lit]) -> Result<(), OutOfMemory>
     ensures { OnOk result (out.new.items
         ≡ out.old.items ++ spaced (map signed_decimal literals.now)) }
@@ -69,7 +69,7 @@ pub fn put_literals(out: &mut Vec<u8>, literals: &[Lit]) -> Result<(), OutOfMemo
     Ok(())
 }
 
-/// Appends a number and a signed one, each with a space behind it. The error is want of memory.
+/// Appends a number and a signed one, each with a space after it. Fails only if memory runs out.
 pub fn put_entry(out: &mut Vec<u8>, n: u32, x: i128) -> Result<(), OutOfMemory>
     ensures { OnOk result (out.new.items
         ≡ out.old.items ++ spaced (decimal n ∷ signed_decimal x ∷ [])) }
@@ -78,7 +78,7 @@ pub fn put_entry(out: &mut Vec<u8>, n: u32, x: i128) -> Result<(), OutOfMemory>
     put_signed(out, x, b' ')
 }
 
-/// Appends the first two words of a comment line, each with a space behind it. The error is want of memory.
+/// Appends the first two words of a comment line, each with a space after it. Fails only if memory runs out.
 pub fn put_keyword(out: &mut Vec<u8>, keyword: &[u8]) -> Result<(), OutOfMemory>
     ensures { OnOk result (out.new.items ≡ out.old.items ++ spaced (codes "c" ∷ keyword.now ∷ [])) }
 {
@@ -87,7 +87,7 @@ pub fn put_keyword(out: &mut Vec<u8>, keyword: &[u8]) -> Result<(), OutOfMemory>
     put(out, b" ")
 }
 
-/// Appends a comment line of numbers, closed by 0. The error is want of memory.
+/// Appends a comment line of numbers, closed by 0. Fails only if memory runs out.
 pub fn put_number_line(
     out: &mut Vec<u8>,
     keyword: &[u8],
@@ -101,7 +101,7 @@ pub fn put_number_line(
     put_closing_zero(out)
 }
 
-/// Appends a comment line of literals, closed by 0. The error is want of memory.
+/// Appends a comment line of literals, closed by 0. Fails only if memory runs out.
 pub fn put_literal_line(
     out: &mut Vec<u8>,
     keyword: &[u8],
@@ -114,7 +114,7 @@ pub fn put_literal_line(
     put_clause_line(out, literals)
 }
 
-/// Appends a line of literals alone, closed by 0. The error is want of memory.
+/// Appends a line of literals alone, closed by 0. Fails only if memory runs out.
 pub fn put_clause_line(out: &mut Vec<u8>, literals: &[Lit]) -> Result<(), OutOfMemory>
     ensures { OnOk result (out.new.items ≡ out.old.items ++ line (literal_words literals.now)) }
 {
@@ -122,7 +122,7 @@ pub fn put_clause_line(out: &mut Vec<u8>, literals: &[Lit]) -> Result<(), OutOfM
     put_closing_zero(out)
 }
 
-/// Appends the word 0, which closes a list, and the end of its line. The error is want of memory.
+/// Appends the word 0, which closes a list, and the end of its line. Fails only if memory runs out.
 pub fn put_closing_zero(out: &mut Vec<u8>) -> Result<(), OutOfMemory>
     ensures { OnOk result (out.new.items ≡ out.old.items ++ codes "0\n") }
 {

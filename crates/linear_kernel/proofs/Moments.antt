@@ -13,8 +13,8 @@ use Rattle.lk_model.specs.Linear.LinearRun.{LinearEnd, RunDone, RunWide, RunBudg
 use Rattle.lk_model.specs.declared.wide.Wide.{Wide}
 use Rattle.lk_model.proofs.Rising.{all_rise}
 use Rattle.exact_pivot.specs.Reached.{AtStart}
-use Rattle.linear_laws.specs.MovesLaw.{room, first_moment, IsWithin}
-use Rattle.linear_laws.proofs.RunRoom.{moves_law}
+use Rattle.linear_run_laws.specs.MovesLaw.{room, first_moment, IsWithin}
+use Rattle.linear_run_laws.proofs.RunRoom.{moves_law}
 use Rattle.linear_kernel.proofs.Weightings.{left_rises}
 
 module _ (F : Cnf) (budget : ℕ) where

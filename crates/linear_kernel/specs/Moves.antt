@@ -1,4 +1,4 @@
--- What the calls of a run answer. Each may want memory at any time.
+-- What the calls of a run answer. Each may run out of memory at any time.
 use Rattle.std.specs.Prelude.{◌≡◌, ⊤, ℕ, List, Some, None, Result, Ok, Err}
 use Rattle.lk_model.specs.Linear.Arithmetic.{first_wide}
 use Rattle.lk_model.specs.Linear.LinearRun.{RunDone, RunWide, RunBudget, Moment, Moved, Later, Ended}
@@ -25,7 +25,7 @@ GivesAfter made results there (Err (TooLarge vars clauses)) = ⊥
 GivesAfter made results there (Err (Budget n)) = ⊥
 GivesAfter made results there (Err MemoryOut) = ⊤
 
--- a call that makes a move which is neither the end nor a want of pivots
+-- a call that makes a move which is not the end, and for which a pivot is left
 abbrev pub LeadsOn : Moved → Result Moment LinearStop → Type 0
 LeadsOn there (Ok m) = there ≡ Later m
 LeadsOn there (Err (TooWide made w)) = there ≡ Ended (RunWide made w)

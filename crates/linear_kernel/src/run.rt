@@ -6,7 +6,7 @@ ghost use Rattle.lk_model.specs.Linear.Phases.{next, PivotOn, StageStands, EndsL
 ghost use Rattle.lk_model.specs.Linear.Phases.{unweighted};
 ghost use Rattle.lk_model.specs.Linear.LinearRun.{moved, after_pivot, after_stage, at_end};
 ghost use Rattle.exact_pivot.specs.Reached.{IsReached};
-ghost use Rattle.linear_laws.specs.MovesLaw.{first_moment, IsWithin};
+ghost use Rattle.linear_run_laws.specs.MovesLaw.{first_moment, IsWithin};
 ghost use Rattle.linear_kernel.specs.Moves.{GivesAfter, LeadsTo, LeadsOn, LeadsOut};
 
 use crate::counted::{end_of, pivoted, stage_of};

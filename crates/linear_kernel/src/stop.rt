@@ -17,7 +17,7 @@ pub enum LinearStop {
     TooWide { pivots: u64, wide: Wide },
     /// The run wants one more pivot than the stated number.
     Budget { pivots: u64 },
-    /// There was no memory.
+    /// Memory ran out.
     OutOfMemory,
 }
 

@@ -1,6 +1,6 @@
-//! Laws of the linear run: its stages, its moves, and the document of a run that ends done.
+//! The law of the class linear: what the checks of a linear document show.
 #![tactic(auto)]
 
 mod laws;
 
-pub use laws::{linear_run_law, moves_law, stage_law};
+pub use laws::linear_law;

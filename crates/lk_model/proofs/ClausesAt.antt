@@ -15,7 +15,7 @@ rest_le (suc low) zero cs h = absurd (omega (arith, h))
 rest_le (suc low) (suc k) [] h = omega arith
 rest_le (suc low) (suc k) (c ∷ cs) h = rest_le low k cs (omega (arith, h))
 
--- the literals of the clauses at rising positions are among those that lie behind the first bound
+-- the literals of the clauses at rising positions are among those that lie after the first bound
 pub kept_le : (F : Cnf) (low : ℕ) (ps : List ℕ) → rises_within low (length F.clauses) ps ≡ true → sum_by length (map (clause_at F) ps) ≤ sum_by length (drop low F.clauses)
 kept_le F low [] h = omega arith
 kept_le F low (zero ∷ ps) h = let r = rises low (length F.clauses) zero ps h in absurd (omega (arith, r.above))

@@ -115,7 +115,7 @@ filtered_rise n t = rising 0 n 1 n t (omega arith) (omega arith)
 pub find-none_more : {X : Type 0} (test : X → Bool) (xs : List X) (i : ℕ) (d : X) → i < length xs → find test (take i xs) ≡ None → test (get_or xs i d) ≡ false → find test (take (i + 1) xs) ≡ None
 find-none_more test xs i d lt none e = ap (find test) (take_more xs i d lt) ∙ find-append test (take i xs) (get_or xs i d ∷ []) ∙ rw (none, e) refl
 
--- the first, behind some that fail
+-- the first, after some that fail
 pub find-here : {X : Type 0} (test : X → Bool) (xs : List X) (i : ℕ) (d : X) → i < length xs → find test (take i xs) ≡ None → test (get_or xs i d) ≡ true → Some (get_or xs i d) ≡ find test xs
 find-here test [] i d lt none e = absurd (omega (arith, lt))
 find-here test (x ∷ xs) zero d lt none e = rw e refl

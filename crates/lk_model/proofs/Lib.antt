@@ -29,3 +29,5 @@ pub mod Pieces
 pub mod Spellings
 pub mod Rounds
 pub mod LongerChains
+pub mod TotalLists
+pub mod CoreForms

@@ -21,7 +21,7 @@ same_int a b e = (Decides-int_eq a b).0 e
 pub int_self : (a : ℤ) → int_eq a a ≡ true
 int_self a = (Decides-int_eq a a).1 refl
 
--- a list that is not empty holds a literal
+-- a list that is not empty contains a literal
 pub some_literal : (c : List ℤ) → is_empty c ≡ false → (l : ℤ) × (contains c l ≡ true)
 some_literal [] e = absurd (let f : ⊥ = cc in f)
 some_literal (l ∷ c) e = (l, or_left (int_eq l l) (contains c l) (int_self l))
@@ -64,7 +64,7 @@ sign_of zero b low = absurd (omega (arith, low))
 sign_of (suc k) true low = refl
 sign_of (suc k) false low = refl
 
--- a literal is told by its variable and its sign
+-- a literal is known by its variable and its sign
 pub literal_again : (l : ℤ) → literal_of (variable l) (is_positive l) ≡ l
 literal_again (pos v) = refl
 literal_again (negsuc k) = refl
@@ -80,7 +80,7 @@ pub empty_is : (c : List ℤ) → is_empty c ≡ true → c ≡ []
 empty_is [] e = refl
 empty_is (l ∷ c) e = absurd (let f : ⊥ = cc in f)
 
--- a clause that holds a literal is not empty
+-- a clause that contains a literal is not empty
 pub filled : (c : List ℤ) (l : ℤ) → contains c l ≡ true → not (is_empty c) ≡ true
 filled [] l m = absurd (let f : ⊥ = cc in f)
 filled (k ∷ c) l m = refl
@@ -100,7 +100,7 @@ or_true : (a b : Bool) → (a || (true || b)) ≡ true
 or_true true b = refl
 or_true false b = refl
 
--- a literal behind others of which it is one
+-- a literal after others of which it is one
 pub no_repeat : (xs : List ℤ) (t : ℤ) (ts : List ℤ) → is_distinct (xs ++ t ∷ ts) ≡ true → contains xs t ≡ true → ⊥
 no_repeat [] t ts d h = absurd cc
 no_repeat (x ∷ xs) t ts d h =

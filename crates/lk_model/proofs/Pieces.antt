@@ -6,7 +6,7 @@ use Rattle.std.proofs.lemmas.List.Splits.{slice_split-cons_yes}
 use Rattle.lk_model.specs.Lists.{is_empty}
 use Rattle.lk_model.specs.Texts.Lines.{is_blank, placed_after, words_of, texts, Piece}
 
--- parts that are placed
+-- the texts of pieces that are placed
 pub texts_placed : (n : ℕ) (parts : List (List ℕ)) → texts (placed_after n parts) ≡ parts
 texts_placed n [] = refl
 texts_placed n (part ∷ parts) = ap (λ ps. part ∷ ps) (texts_placed (n + length part + 1) parts)

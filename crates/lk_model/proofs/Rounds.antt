@@ -26,7 +26,7 @@ whole_refutes (s ∷ t ∷ later) e = at_test (is_empty s.clause) e (whole_refut
     at_test true e rest = absurd (let f : ⊥ = cc in f)
     at_test false e rest = rest e
 
--- whole rounds, with an open one behind them
+-- whole rounds, with an open one after them
 pub ends_more : (rounds : List Round) (r : Round) → list_all is_whole rounds ≡ true → is_open r ≡ true → end_open (rounds ++ r ∷ []) ≡ true
 ends_more [] r e f = f
 ends_more (q ∷ []) r e f = and_from (is_whole q) (is_open r) (and_true (is_whole q) true e).0 f

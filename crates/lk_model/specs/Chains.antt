@@ -2,3 +2,4 @@
 pub mod Chain
 pub mod Rounds
 pub mod Searches
+pub mod Budgets

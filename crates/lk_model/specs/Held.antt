@@ -1,4 +1,5 @@
--- How the code holds formulas, clauses, sets of variables, tables over literals and assignments. No part of the mathematics.
+-- How the code holds formulas, clauses, sets of variables, tables over literals and assignments. The mathematics does
+-- not use it.
 pub mod Flat
 pub mod Growing
 pub mod VariableSets

@@ -1,13 +1,10 @@
 -- What a reducer writes: a finished document of the largest lean set, or an unfinished one.
-use Rattle.std.specs.Prelude.{◌≡◌, ℕ, not, List, Option, option_map, IsTrue, ⊤}
+use Rattle.std.specs.Prelude.{◌≡◌, ℕ, List, Option, IsTrue, ⊤}
 use Rattle.lk_model.specs.declared.class.Class.{Class}
-use Rattle.lk_model.specs.Lists.{among}
-use Rattle.lk_model.specs.Formulas.Formula.{Cnf, clause_at}
-use Rattle.lk_model.specs.Formulas.Crossed.{Variables, protected_by, protected_of}
-use Rattle.lk_model.specs.Formulas.Assignment.{Assignment, assignment_of, touches, satisfies, extended}
-use Rattle.lk_model.specs.Formulas.Autarky.{Positions}
-use Rattle.lk_model.specs.Formulas.Lean.{all_of}
-use Rattle.lk_model.specs.Formulas.Protected.{IsClassAutarkyUnder, KernelUnder}
+use Rattle.lk_model.specs.Formulas.Formula.{Cnf}
+use Rattle.lk_model.specs.Formulas.Crossed.{Variables, protected_by, protect_line_of}
+use Rattle.lk_model.specs.Formulas.Assignment.{assignment_of}
+use Rattle.lk_model.specs.Formulas.Protected.{ReducesBy}
 use Rattle.lk_model.specs.Formulas.PureRun.{IsPureRunUnder, least_pairs_under}
 use Rattle.lk_model.specs.Formulas.Parts.{IsPartUnder}
 use Rattle.lk_model.specs.Texts.Dimacs.{Spells}
@@ -21,19 +18,6 @@ use Rattle.lk_model.specs.declared.document.Body.TheVariants as body
 use Rattle.lk_model.specs.declared.document.DoneDocument.{DoneDocument}
 use Rattle.lk_model.specs.declared.document.OpenDocument.{OpenDocument}
 use Rattle.lk_model.specs.declared.document.Document.TheVariants.{Done, Unfinished}
-
--- the assignment satisfies each clause of S
-abbrev pub IsModel : Cnf → Positions → Assignment → Type 0
-IsModel F S φ = (p : ℕ) → IsTrue (S p) → IsTrue (satisfies φ (clause_at F p))
-
--- The kept positions are the largest set that is lean for the class under P. The assignment is an autarky of the class
--- under P on the whole formula and touches exactly the removed clauses. Every model of the kept clauses, overridden by it,
--- is one of all clauses.
-pub record ReducesBy (P : Variables) (class : Class) (F : Cnf) (kept : List ℕ) (φ : Assignment) : Type 0 where
-  pub kernel : KernelUnder P class F kept
-  pub autarky : IsClassAutarkyUnder P class F (all_of F) φ
-  pub touched : (p : ℕ) → IsTrue (all_of F p) → touches φ (clause_at F p) ≡ not (among kept p)
-  pub models : (ψ : Assignment) → IsModel F (among kept) ψ → IsModel F (all_of F) (extended φ ψ F.vars)
 
 -- the document keeps the kernel of its class, and its set line removes the other clauses
 abbrev pub IsReductionUnder : Variables → Cnf → DoneDocument → Type 0
@@ -56,10 +40,6 @@ pub record Reduces (F : Cnf) (class : Class) (pivots : ℕ) (d : DoneDocument) :
   pub accepted : Accepts F d
   pub reduction : IsReduction F d
   pub stated : IsStatedBody (protected_by d.protect) F pivots d.kept d.body
-
--- the protected variables of a document are those of the formula that are listed, if there is a list
-abbrev pub protect_line_of : Cnf → Option (List ℕ) → Option (List ℕ)
-protect_line_of F listed = option_map (protected_of F) listed
 
 -- what is written is the text of such a document with these protected variables
 pub record WritesReduction (F : Cnf) (class : Class) (listed : Option (List ℕ)) (pivots : ℕ) (written : List ℕ) : Type 0 where

@@ -1,10 +1,10 @@
-//! The parts of documents. Positions and variables count from 1, and literals are DIMACS numbers.
+//! What documents consist of. Positions and variables count from 1, and literals are DIMACS numbers.
 use crate::formula::Formula;
 use crate::list::List;
 use crate::lit::Lit;
 
-/// Two kept clauses that show a variable in both signs: at position `with` one that holds the
-/// variable, at position `against` one that holds its complement.
+/// Two kept clauses that show a variable in both signs: at position `with` one that contains the
+/// variable, at position `against` one that contains its complement.
 #[derive(Clone, Copy, PartialEq, Eq, Debug)]
 pub struct Pair {
     pub var: u32,
@@ -67,7 +67,7 @@ pub struct Unit {
     pub shares: List<Share>,
 }
 
-/// A resolution on a literal: the clause so far holds it, and the clause of the number `with` holds
+/// A resolution on a literal: the clause so far contains it, and the clause of the number `with` contains
 /// its complement.
 #[derive(Clone, Copy, PartialEq, Eq, Debug)]
 pub struct Turn {

@@ -25,7 +25,7 @@ pub const MAX_CLAUSES: u32 = 4_000_000;
 /// How many literals a formula may have.
 pub const MAX_LITERALS: u32 = 20_000_000;
 
-/// Why a formula is not made, or a clause not taken: a limit would be passed, or there is no memory.
+/// Why a formula is not made, or a clause not taken: a limit would be passed, or memory ran out.
 #[derive(Clone, Copy, PartialEq, Eq, Debug)]
 pub enum FormulaError {
     Limit,

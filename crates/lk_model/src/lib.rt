@@ -1,6 +1,7 @@
 //! The types and the definitions that the other crates share.
 #![tactic(auto)]
 
+mod answer;
 mod budget;
 mod class;
 mod crossed;
@@ -17,6 +18,7 @@ mod text_fault;
 mod verdict;
 mod wide;
 
+pub use answer::Answer;
 pub use budget::Budget;
 pub use class::Class;
 pub use crossed::{Crossed, VarSet};

@@ -1,4 +1,4 @@
-//! Lists, and want of memory.
+//! Lists, and the error that memory ran out.
 ghost use Rattle.std.specs.Prelude.{◌≡◌, ◌<◌, ◌-◌, ◌↔◌, ◌++◌, ◌∷◌, [], length, take, slice_index_or, slice_set, IsSome};
 ghost use Rattle.std.specs.Prelude.{OnOk, OnErr};
 ghost use Rattle.std.specs.List.{remove};
@@ -9,7 +9,7 @@ use std::error::Error;
 use std::fmt;
 use std::marker::Model;
 
-/// Want of memory. No contract says when it comes.
+/// Memory ran out. No contract says when.
 #[derive(Clone, Copy, PartialEq, Eq, Debug)]
 pub struct OutOfMemory;
 
@@ -101,7 +101,7 @@ impl<T> List<T> {
         self.items.pop()
     }
 
-    /// Takes the item at an index out, from 0 on; those behind it move up.
+    /// Takes the item at an index out, from 0 on; those after it move up.
     pub fn remove(&mut self, k: usize) -> T
         requires { k < length self.old }
         ensures value { result ≡ slice_index_or self.old k result }

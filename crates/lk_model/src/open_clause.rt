@@ -16,7 +16,7 @@ const SEARCHED: usize = 16;
 
 /// A clause that grows by one literal after the other, over the variables from 1 to n. While it is
 /// short, a repeat is found by going through it; past that, a flag for each literal tells whether the
-/// clause holds it.
+/// clause contains it.
 #[derive(Drop)]
 pub struct OpenClause {
     vars: u32,
@@ -66,7 +66,7 @@ impl OpenClause {
         self.literals.as_slice()
     }
 
-    /// Whether the clause holds the literal.
+    /// Whether the clause contains the literal.
     pub fn holds(&self, l: Lit) -> bool
         requires { IsTrue (is_literal self.now.vars l) }
         ensures { result ≡ contains self.now.literals l }
@@ -77,7 +77,7 @@ impl OpenClause {
         self.flags[l] || stands_in(&self.literals[self.flagged..], l)
     }
 
-    /// Adds a literal that the clause does not hold. Without memory for it the clause stays as it is.
+    /// Adds a literal that the clause does not contain. Without memory for it the clause stays as it is.
     pub fn push(&mut self, l: Lit) -> Result<(), OutOfMemory>
         requires literal { IsTrue (is_literal self.old.vars l) }
         requires absent { contains self.old.literals l ≡ false }

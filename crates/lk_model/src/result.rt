@@ -1,4 +1,4 @@
-//! The results of the reducers, in the parts of documents. Positions ascend and count from 1.
+//! The results of the reducers, in the types that documents consist of. Positions ascend and count from 1.
 use crate::document::{Dual, MatchRow, Own, Pair, Round, Stage, Unit, Without};
 use crate::list::List;
 use crate::lit::Lit;

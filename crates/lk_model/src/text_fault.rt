@@ -9,7 +9,7 @@ pub enum FaultKind {
     BadHeader,
     /// A further line begins with `p`.
     SecondHeader,
-    /// A word behind the problem line is no number.
+    /// A word after the problem line is no number.
     BadToken,
     /// The variable of a literal is past V.
     BeyondStated,
@@ -28,6 +28,6 @@ pub enum FaultKind {
 pub struct Fault {
     pub kind: FaultKind,
     /// The number of the byte at which the fault shows, counted from 1; the end of the text counts as
-    /// the byte behind the last one.
+    /// the byte after the last one.
     pub place: usize,
 }

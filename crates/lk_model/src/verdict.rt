@@ -38,7 +38,7 @@ pub struct Why {
 }
 
 /// Why no document is read: the first line with which the text of none of the documents that are read
-/// goes on, counted from 1; or want of memory.
+/// goes on, counted from 1; or that memory ran out.
 #[derive(Clone, Copy, PartialEq, Eq, Debug)]
 pub enum ReadStop {
     Line(u64),

@@ -1,9 +1,9 @@
--- Numbered calls, some of which are told to fail.
+-- Numbered calls, some of which are set to fail.
 use Rattle.std.specs.Prelude.{ℕ, List, Bool, ◌==◌, if◌then◌else◌}
 use Rattle.std.specs.List.{list_any}
 use Rattle.lk_outside.specs.Causes.{one_more}
 
--- whether a call of that number is told to fail
+-- whether a call of that number is set to fail
 abbrev pub is_told_to_fail : List ℕ → ℕ → Bool
 is_told_to_fail fail number = list_any (λ told. told == number) fail
 

@@ -1,4 +1,4 @@
--- What a read takes, where the bytes that are left are told.
+-- What a read takes, where the bytes that are left are visible.
 use Rattle.std.specs.Prelude.{◌≡◌, ℕ, List, take}
 use Rattle.std.specs.declared.option.Option.{Option}
 use Rattle.std.specs.Io.KnownBytes.{Consumes, IsAtEnd}

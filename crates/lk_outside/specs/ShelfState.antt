@@ -9,7 +9,7 @@ pub record ShelfState : Type 0 where
   pub files : List (List ℕ × List ℕ)
   -- the most bytes that a read gives
   pub chunk : ℕ
-  -- the numbers of the calls that are told to fail
+  -- the numbers of the calls that are set to fail
   pub fail : List ℕ
   -- how many calls were made
   pub calls : ℕ
@@ -40,11 +40,11 @@ unread_shelf entries most told = record {
   faults = 0;
 }
 
--- whether the next call is told to fail, whatever it asks for; a read fails only so
+-- whether the next call is set to fail, whatever it asks for; a read fails only so
 abbrev pub read_fails : ShelfState → Bool
 read_fails s = is_told_to_fail s.fail (one_more s.calls)
 
--- whether the next call fails where it starts that name: it is told to, or no entry has the name
+-- whether the next call fails where it starts that name: it is set to fail, or no entry has the name
 abbrev pub start_fails : ShelfState → List ℕ → Bool
 start_fails s name = read_fails s || is_none (bytes_under s.files name)
 
@@ -79,7 +79,7 @@ after_read s room =
     let rest = if failed then s.unread else Some (drop (read_count s room) (bytes_left s)) in
     after_call s failed rest
 
--- the piece after a read: the bytes it gave, then what stood behind them; a failed one leaves it
+-- the piece after a read: the bytes it gave, then what stood after them; a failed one leaves it
 abbrev pub piece_after : ShelfState → List ℕ → List ℕ
 piece_after s piece =
     let count = read_count s (length piece) in

@@ -11,7 +11,7 @@ pub record SinkState : Type 0 where
   pub room : ℕ
   -- the most bytes that a write takes
   pub chunk : ℕ
-  -- the numbers of the writes that are told to fail
+  -- the numbers of the writes that are set to fail
   pub fail : List ℕ
   -- how many writes were made
   pub writes : ℕ
@@ -33,7 +33,7 @@ empty_sink all most told = record {
 abbrev pub room_left : SinkState → ℕ
 room_left s = s.room - length s.written
 
--- whether the next write fails: it is told to, or no room is left
+-- whether the next write fails: it is set to fail, or no room is left
 abbrev pub write_fails : SinkState → Bool
 write_fails s = is_told_to_fail s.fail (one_more s.writes) || room_left s == 0
 
@@ -41,7 +41,7 @@ write_fails s = is_told_to_fail s.fail (one_more s.writes) || room_left s == 0
 abbrev pub write_count : SinkState → ℕ → ℕ
 write_count s len = min (min s.chunk len) (room_left s)
 
--- after a write of that piece: the bytes it took are behind the others, and a failed one took none
+-- after a write of that piece: the bytes it took are after the others, and a failed one took none
 abbrev pub after_write : SinkState → List ℕ → SinkState
 after_write s piece =
     let failed = write_fails s in

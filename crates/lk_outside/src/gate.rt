@@ -2,7 +2,7 @@
 //!
 //! The program lets all halves through. A test may hold one back, so that halves on threads start in an order that it
 //! chooses.
-/// Is told when a half of the work starts. Halves on two threads share one gate.
+/// Is called when a half of the work starts. Halves on two threads share one gate.
 pub trait Gate: Sync {
     /// The half of that number is about to start, and does once this returns.
     fn enter(&self, half: u32);

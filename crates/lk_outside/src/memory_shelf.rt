@@ -17,8 +17,8 @@ use std::marker::Model;
 /// Texts in memory, of which a read gives at most `chunk` bytes.
 ///
 /// Where a name stands twice, its first entry counts. Calls of `start` and `read` are numbered
-/// together from 1. A call fails where its number is among those told to fail, or where it starts
-/// a name that no entry has; no other call does, but that a start may want memory for the name.
+/// together from 1. A call fails where its number is among those set to fail, or where it starts
+/// a name that no entry has; no other call does, but a start may run out of memory for the name.
 #[derive(Drop)]
 pub struct MemoryShelf {
     alloc: Global,
@@ -84,7 +84,7 @@ impl Shelf for MemoryShelf {
 
     ghost faults = { λ s. s.faults };
 
-    /// Fails where it is told to, or where no entry has the name; then nothing is started. Without
+    /// Fails where it is set to fail, or where no entry has the name; then nothing is started. Without
     /// memory for the name the shelf stays as it was, and the call has no number.
     fn start(&mut self, name: &str) -> Result<(), StartStop>
         ensures fails { result ≢ Err StartStop.OutOfMemory →
@@ -121,7 +121,7 @@ impl Shelf for MemoryShelf {
         }
     }
 
-    /// Fails where it is told to; then what is left, and the piece, stay as they were.
+    /// Fails where it is set to fail; then what is left, and the piece, stay as they were.
     fn read(&mut self, piece: &mut [u8]) -> Result<usize, Failed>
         requires started { IsTrue (is_some self.old.unread) }
         requires room { 0 < length piece.old }

@@ -13,7 +13,7 @@ use std::marker::Model;
 
 /// Takes bytes into memory, at most `chunk` at a time and `room` in all.
 ///
-/// Writes are numbered from 1. A write fails where its number is among those told to fail, or where
+/// Writes are numbered from 1. A write fails where its number is among those set to fail, or where
 /// no room is left; no other write does.
 #[derive(Drop)]
 pub struct MemorySink {
@@ -77,7 +77,7 @@ impl Sink for MemorySink {
 
     ghost faults = { λ s. s.faults };
 
-    /// Fails where it is told to, or where no room is left; then nothing was taken.
+    /// Fails where it is set to fail, or where no room is left; then nothing was taken.
     fn write(&mut self, piece: &[u8]) -> Result<usize, Failed>
         requires { 0 < length piece.now }
         ensures fails { IsErr result ↔ IsTrue (write_fails self.old) }

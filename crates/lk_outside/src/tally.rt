@@ -25,7 +25,7 @@ impl Tally {
         }
     }
 
-    /// Whether the next call is told to fail, where those numbers are.
+    /// Whether the next call is set to fail, where those numbers are.
     pub fn next_fails(&self, fail: &[u64]) -> bool
         ensures { result ≡ is_told_to_fail fail.now (one_more self.now.calls) }
     {

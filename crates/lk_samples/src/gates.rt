@@ -1,4 +1,4 @@
-//! Gates for tests, which hold a half for 200,000,000 turns at most.
+//! Gates for tests, which hold a half for 200,000,000 looks at most.
 
 use lk_outside::Gate;
 use std::sync::atomic::{AtomicBool, AtomicU32, Ordering};

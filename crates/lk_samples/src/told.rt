@@ -2,7 +2,7 @@
 use lk_model::{Lit, Round, Step, Turn};
 use std::alloc::AllocError;
 
-/// Writes the numbers of literals, each behind a blank.
+/// Writes the numbers of literals, each after a blank.
 pub fn put_literals(lits: &[Lit], out: &mut String) -> Result<(), AllocError> {
     for l in lits {
         write!(out, " {}", l.get())?;

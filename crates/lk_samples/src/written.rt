@@ -83,7 +83,7 @@ fn go_on(lits: &mut [Lit], by: i32) {
     }
 }
 
-/// Appends so many clauses, each over the variables behind those of the one before, or before them where the count
+/// Appends so many clauses, each over the variables after those of the one before, or before them where the count
 /// is negative.
 fn push_row(formula: &mut Formula, lits: &mut [Lit], count: i32) -> Result<(), Fail>
     ensures { formula.new.vars ≡ formula.old.vars }
@@ -120,7 +120,7 @@ fn append_texts(alloc: Global, formula: &mut Formula, text: &str) -> Result<(), 
 }
 
 /// The formula over the variables from 1 to n with the clauses that a text has, with commas between
-/// them. A blank text has no clause, and `CLAUSE * COUNT` has so many, each over the variables behind those of
+/// them. A blank text has no clause, and `CLAUSE * COUNT` has so many, each over the variables after those of
 /// the one before, or before them where the count is negative.
 pub fn formula_of_text(alloc: Global, n: u32, text: &str) -> Result<Formula, Fail>
     ensures { IfOk result (λ f. f.vars ≡ n) }

@@ -8,8 +8,8 @@ use Rattle.lk_text.specs.declared.cuts.Cut.{Cut}
 abbrev pub is_one_line : List ℕ → Bool
 is_one_line bytes = list_all (λ b. not (is_newline b)) bytes
 
--- The line begins where the search did and has no byte 10. It ends at a byte 10, behind which the next line begins, or at the
--- end of the text.
+-- The line begins where the search did and has no byte 10. It ends at a byte 10, after which the next line begins, or
+-- at the end of the text.
 pub record IsNextLine (bytes : List ℕ) (from : ℕ) (cut : Cut) : Type 0 where
   pub begins : cut.begin ≡ from
   pub order : cut.begin ≤ cut.end

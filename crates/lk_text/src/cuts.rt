@@ -32,7 +32,7 @@ pub fn next_line(bytes: &[u8], from: usize) -> Option<Cut>
     })
 }
 
-/// The first word at or behind `from`, or none where only blanks are left. Blanks are space, tab and
+/// The first word at or after `from`, or none where only blanks are left. Blanks are space, tab and
 /// carriage return. `next` is `end`.
 pub fn next_word(bytes: &[u8], from: usize) -> Option<Cut>
     requires within { from ≤ length bytes.now }

@@ -26,7 +26,7 @@ const PAST: u128 = 1 << 127;
 /// So many digits fit 64 bits.
 const SHORT: usize = 18;
 
-/// Appends the shortest decimal spelling of a number: digits without a leading zero, behind a
+/// Appends the shortest decimal spelling of a number: digits without a leading zero, after a
 /// `-` where the number is below 0. Without memory for it nothing is appended.
 pub fn put_i128(out: &mut Vec<u8>, x: i128) -> Result<(), OutOfMemory>
     ensures ok { OnOk result (out.new.items ≡ out.old.items ++ signed_decimal x) }

@@ -1,4 +1,4 @@
-//! The steps of an edit, over the parts of the live clauses.
+//! The steps of an edit, over the fields of the live clauses.
 ghost use Rattle.std.specs.Prelude.{◌≡◌, ◌≢◌, ◌+◌, ◌-◌, ◌<◌, ◌≤◌, ◌++◌, ◌∷◌, [], ℕ, List, length, slice_index, OnOk};
 ghost use Rattle.std.specs.Prelude.{OnErr, IfOk, IfSome, IfNone, IsTrue, IsFalse, true};
 ghost use Rattle.std.specs.Bool.{OnTrue};

@@ -1,7 +1,7 @@
 //! Why an edit is not made.
 use lk_model::OutOfMemory;
 
-/// Why an edit is not made: no live clause has the number, a limit would be passed, or there is no memory.
+/// Why an edit is not made: no live clause has the number, a limit would be passed, or memory ran out.
 #[derive(Clone, Copy, PartialEq, Eq, Debug)]
 pub enum EditStop {
     NoClause,

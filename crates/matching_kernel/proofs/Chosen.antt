@@ -14,7 +14,7 @@ chosen_first {X} {Y} g f x xs b e = at_test (g x) ∙ ap (λ c. cond c (f x ∷ 
     at_test true = refl
     at_test false = refl
 
--- one that is chosen comes behind those so far
+-- one that is chosen comes after those so far
 more_chosen : {X Y : Type 0} (g : X → Bool) (f : X → Y) (x : X) (xs from : List X) (ys after all : List Y) → from ≡ x ∷ xs → g x ≡ true → after ≡ ys ++ f x ∷ []
     → ys ++ map f (filter g from) ≡ all → after ++ map f (filter g xs) ≡ all
 more_chosen g f x xs from ys after all s t a e =

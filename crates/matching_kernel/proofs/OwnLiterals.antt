@@ -9,8 +9,8 @@ use Rattle.lk_model.specs.Formulas.Literal.{mentions}
 use Rattle.lk_model.specs.Formulas.Formula.{Cnf, is_formula, clause_at}
 use Rattle.lk_model.specs.declared.document.Own.{Own}
 use Rattle.lk_model.proofs.Variables.{variable_bound, position_bound}
-use Rattle.kernel_laws.specs.Matching.MatchingResults.{IsOwn, literal_on, own_literal, set_line}
 use Rattle.kernel_laws.specs.FirstTables.{IsFirstTable}
+use Rattle.matching_laws.specs.MatchingResults.{IsOwn, literal_on, own_literal, set_line}
 
 -- WHERE AN OWN LINE STANDS
 
@@ -31,7 +31,7 @@ own_placed F own i d form all lt =
 
 -- THE SET LINE
 
--- what a list holds place by place is chosen from these places
+-- what a list contains place by place is chosen from these places
 pub chosen : (h : ℕ → Option ℤ) (table : List (Option ℤ)) (a : ℕ) → ((i : ℕ) → i < length table → get_or table i None ≡ h (a + i)) → filter_map (λ o. o) table ≡ filter_map h (range_with_len a (length table))
 chosen h [] a told = refl
 chosen h (o ∷ table) a told =

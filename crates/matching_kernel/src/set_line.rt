@@ -2,8 +2,8 @@
 ghost use Rattle.std.specs.Prelude.{◌≡◌, None, IfOk, Contains};
 ghost use Rattle.lk_model.specs.Formulas.Formula.{clause_at};
 ghost use Rattle.lk_model.specs.declared.document.Own.{Own as AnOwn};
-ghost use Rattle.kernel_laws.specs.Matching.MatchingResults.{IsOwn, literal_on, set_line};
 ghost use Rattle.kernel_laws.specs.FirstTables.{IsFirstTable};
+ghost use Rattle.matching_laws.specs.MatchingResults.{IsOwn, literal_on, set_line};
 
 use lk_model::{Formula, List, Lit, OutOfMemory, Own};
 use std::alloc::Global;
@@ -11,7 +11,7 @@ use std::alloc::Global;
 /// The literals that own lines of a formula make true: for each variable of a line the first literal on it
 /// in the clause of the line, of two lines with one variable that of the first. They are on different
 /// variables, and ascend by these. Each line needs a position of the formula, counted from 1, whose clause
-/// has the variable of the line. The error is that there is no memory.
+/// has the variable of the line. Fails only if memory runs out.
 pub fn set_of_own(alloc: Global, f: &Formula, own: &[Own]) -> Result<List<Lit>, OutOfMemory>
     requires own { (o : AnOwn) → Contains own.now o → IsOwn f.now o }
     ensures { IfOk result (λ set. set ≡ set_line f.now own.now) }

@@ -41,7 +41,7 @@ word_last word some h =
 pub length-range : (xs : List ℕ) (a b : ℕ) → a ≤ b → b ≤ length xs → length (slice_range xs a b) ≡ b - a
 length-range xs a b low high = omega (arith, length-take (b - a) (drop a xs), length-drop a xs, low, high)
 
--- the next word, and the words behind it
+-- the next word, and the words after it
 pub words_next : (line : List ℕ) (at : ℕ) (cut : Cut) → IsNextWord line at cut → words_in (drop at line) ≡ slice_range line cut.begin cut.end ∷ words_in (drop cut.next line)
 words_next line at cut h =
     let word = slice_range line cut.begin cut.end in

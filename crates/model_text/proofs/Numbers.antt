@@ -33,7 +33,7 @@ ends_before (x ∷ xs) ys h = elim (cases_Bool (is_zero x)) [
   | inr e ↦ rw e (ends_before xs ys (sym (ap (λ (b : Bool). cond b (is_empty (xs ++ ys)) (ends_at_zero (xs ++ ys))) e) ∙ h))
 ]
 
--- behind numbers without a 0
+-- after numbers without a 0
 pub ends_open : (xs ys : List ℤ) → list_any is_zero xs ≡ false → ends_at_zero (xs ++ ys) ≡ ends_at_zero ys
 ends_open [] ys h = refl
 ends_open (x ∷ xs) ys h =
@@ -47,7 +47,7 @@ ends_more xs x h = ends_open xs (x ∷ []) h ∙ alone (is_zero x)
     alone true = refl
     alone false = refl
 
--- nothing may stand behind a 0
+-- nothing may stand after a 0
 not_empty_more : (xs : List ℤ) (x : ℤ) → is_empty (xs ++ x ∷ []) ≡ false
 not_empty_more [] x = refl
 not_empty_more (y ∷ ys) x = refl
@@ -128,7 +128,7 @@ may_before xs ys h =
     and_from (ends_at_zero xs) (is_consistent (literals_among xs)) (ends_before xs ys p.0)
     (consistent_before (literals_among xs) (literals_among ys) (sym (ap is_consistent (literals_more xs ys)) ∙ p.1))
 
--- nothing may stand behind a 0, and no literal behind its complement
+-- nothing may stand after a 0, and no literal after its complement
 pub closed_more : (xs : List ℤ) (x : ℤ) → list_any is_zero xs ≡ true → may_stand (xs ++ x ∷ []) ≡ false
 closed_more xs x h = rw (ends_closed xs x h) refl
 

@@ -24,7 +24,7 @@ stands_first n unended d none values open_still = record {
   goes_on = λ more. ap (λ (bs : List ℕ). word_lines (bs ++ more)) (sym none);
 }
 
--- one byte more, before what comes behind it
+-- one byte more, before what comes after it
 pub behind_byte : (fed more : List ℕ) (b : ℕ) → (fed ++ b ∷ []) ++ more ≡ fed ++ b ∷ more
 behind_byte fed more b = append_assoc fed (b ∷ []) more
 

@@ -1,4 +1,4 @@
--- One word more behind a `v`.
+-- One word more after a `v`.
 use Rattle.std.proofs.Common.{◌≡◌, ◌≤◌, ◌∙◌, ℕ, zero, suc, Bool, true, false, cond, ◌&&◌, List, [], ◌∷◌, ◌++◌, refl, sym, ap, subst, append_assoc, arith, to_z, of_z, w32, FitsSigned, ℤ, pos, negsuc, Option, Some, None, inl, inr}
 use Rattle.std.specs.Prelude.{nat_le, filter_map}
 use Rattle.std.specs.List.{list_all}
@@ -110,7 +110,7 @@ word_refused n numbers word x next e bad = fails (list_all (is_model_number n) (
     let p = and_true (list_all (is_model_number n) (word ∷ [])) (may_stand (numbers ++ filter_map number (word ∷ []))) h in
     let f : ⊥ = cc (sym (ap (λ (xs : List ℤ). may_stand (numbers ++ xs)) (one_number word x e) ∙ bad) ∙ p.1) in f)
 
--- a number behind the 0
+-- a number after the 0
 pub behind_zero : (n : ℕ) (numbers : List ℤ) (word : Word) (x : ℤ) (d next : ModelDraft) → Gives numbers d → d.closed ≡ true
     → Some x ≡ number_up_to n (number word) → TakesWords n numbers (word ∷ []) false next
 behind_zero n numbers word x d next g closed e =

@@ -25,7 +25,7 @@ numbers_more a b = flat_map-append line_numbers a b
 last_numbers : (lines : List (List Word)) (words : List Word) → flat_map line_numbers (lines ++ words ∷ []) ≡ flat_map line_numbers lines ++ line_numbers words
 last_numbers lines words = numbers_more lines (words ∷ []) ∙ ap (λ (xs : List ℤ). flat_map line_numbers lines ++ xs) (append-nil (line_numbers words))
 
--- A text that is none stays none, however it goes on: each part of a model text that it begins with is one.
+-- A text that is none stays none, however it goes on: whatever a model text begins with is one.
 pub text_before : (n : ℕ) (a b : List (List Word)) → is_model_text n (a ++ b) ≡ true → is_model_text n a ≡ true
 text_before n a b h =
     let p = and_true (list_all (is_model_line n) (a ++ b)) (may_stand (flat_map line_numbers (a ++ b))) h in
@@ -50,7 +50,7 @@ find_from t a (suc m) (suc i) lt none here =
     ∙ find_from t (a + 1) m i (omega (arith, lt)) (λ k low high. none k (omega (arith, low)) (omega (arith, high))) (ap t place ∙ here)
     ∙ ap (λ (k : ℕ). Some k) place
 
--- behind lines that are a model text, the line with which they are none
+-- after lines that are a model text, the line with which they are none
 first_fault : (n : ℕ) (lines rest : List (List Word)) (words : List Word) → is_model_text n lines ≡ true → is_model_text n (lines ++ words ∷ []) ≡ false
     → first_faulty_line n ((lines ++ words ∷ []) ++ rest) ≡ Some (length lines + 1)
 first_fault n lines rest words fine bad =

@@ -23,7 +23,7 @@ pub record IsModelRead (bytes : List ℕ) (n : ℕ) (partial : List (Option Bool
   pub vars : length partial ≡ n
   pub values : assignment_by partial ≡ assignment_of literals
 
--- the stop is at the first faulty line; want of memory is free
+-- the stop is at the first faulty line; memory may run out anywhere
 abbrev pub IsModelStop : List ℕ → ℕ → ReadStop → Type 0
 IsModelStop bytes n (Line line) = model_of bytes n ≡ Err line
 IsModelStop bytes n OutOfMemory = Unit {0}
@@ -39,7 +39,7 @@ abbrev pub number_up_to : ℕ → Option ℤ → Option ℤ
 number_up_to n None = None
 number_up_to n (Some x) = if nat_le (variable x) n then Some x else None
 
--- nothing stands behind a 0, and no literal beside its complement
+-- nothing stands after a 0, and no literal beside its complement
 abbrev pub may_stand : List ℤ → Bool
 may_stand numbers = ends_at_zero numbers && is_consistent (literals_among numbers)
 
@@ -62,12 +62,12 @@ abbrev pub TakesLiteral : Assignment → ℤ → Bool → Assignment → Type 0
 TakesLiteral φ l true ψ = MakesTrue φ l ψ
 TakesLiteral φ l false ψ = φ (variable l) ≡ Some (not (is_positive l))
 
--- the words behind a `v` were taken, or may not stand behind these numbers
+-- the words after a `v` were taken, or may not stand after these numbers
 abbrev pub TakesWords : ℕ → List ℤ → List Word → Bool → ModelDraft → Type 0
 TakesWords n numbers words true next = IsTrue (list_all (is_model_number n) words) × Gives (numbers ++ filter_map number words) next
 TakesWords n numbers words false next = (list_all (is_model_number n) words && may_stand (numbers ++ filter_map number words)) ≡ false
 
--- the line of these words was taken, or may not stand behind lines with these numbers
+-- the line of these words was taken, or may not stand after lines with these numbers
 abbrev pub TakesLine : ℕ → List ℤ → List Word → Bool → ModelDraft → Type 0
 TakesLine n numbers words true next = IsTrue (is_model_line n words) × Gives (numbers ++ line_numbers words) next
 TakesLine n numbers words false next = (is_model_line n words && may_stand (numbers ++ line_numbers words)) ≡ false

@@ -42,8 +42,8 @@ impl ModelReader {
     }
 
     /// Takes the next piece of the text. The text is refused as soon as a line has ended with which it is no
-    /// model text, with the number of this line, counted from 1, whatever stands behind it. The other error is
-    /// want of memory, as which a text of 2^63 bytes is refused too. After a refusal the reader holds nothing
+    /// model text, with the number of this line, counted from 1, whatever stands after it. The other error says
+    /// that memory ran out; with it a text of 2^63 bytes is refused too. After a refusal the reader holds nothing
     /// but the refusal, which each later call answers.
     pub fn feed(&mut self, piece: &[u8]) -> Result<(), ReadStop>
         ensures fed { (n : ℕ) (fed : List ℕ) → HasBeenFed n fed self.old →
@@ -68,8 +68,8 @@ impl ModelReader {
     }
 
     /// The values that the text gives that ends here. Its last line may lack its byte 10. Other bytes are
-    /// refused with the first line with which they are no model text, counted from 1. The other error is want
-    /// of memory. A reader that has refused answers that refusal again.
+    /// refused with the first line with which they are no model text, counted from 1. The other error says
+    /// that memory ran out. A reader that has refused answers that refusal again.
     pub fn finish(self) -> Result<Partial, ReadStop>
         ensures model { (n : ℕ) (fed : List ℕ) → HasBeenFed n fed self → IfOk result (IsModelRead fed n) }
         ensures stop { (n : ℕ) (fed : List ℕ) → HasBeenFed n fed self → IfErr result (IsModelStop fed n) }
@@ -83,9 +83,9 @@ impl ModelReader {
 }
 
 /// The values of the variables from 1 to n that a model text gives: `s SATISFIABLE`, and literals in
-/// lines behind `v` up to a 0, which may be missing. A literal may stand again, but not beside its
+/// lines after `v` up to a 0, which may be missing. A literal may stand again, but not beside its
 /// complement. Other bytes are refused with the first line with which they are no model text, counted
-/// from 1. The other error is want of memory.
+/// from 1. The other error says that memory ran out.
 pub fn read_model(alloc: Global, bytes: &[u8], n: u32) -> Result<Partial, ReadStop>
     requires { n ≤ 1000000 }
     ensures model { IfOk result (IsModelRead bytes.now n) }

@@ -74,7 +74,7 @@ fn take_words(draft: &mut ModelDraft, line: &[u8], begin: usize) -> bool
     true
 }
 
-/// Takes a word behind `v`, or answers that it is faulty: no number, one behind the 0, or a literal
+/// Takes a word after `v`, or answers that it is faulty: no number, one after the 0, or a literal
 /// whose complement was given.
 fn take_word(draft: &mut ModelDraft, word: &[u8]) -> bool
     ensures vars { length draft.new.values ≡ length draft.old.values }

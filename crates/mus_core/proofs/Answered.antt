@@ -13,7 +13,7 @@ use Rattle.lk_model.proofs.Literals.{variable_of, empty_is as is_nothing}
 use Rattle.lk_model.proofs.Founds.{up_to_bounds}
 use Rattle.lk_model.proofs.Ranks.{literal_bounds}
 use Rattle.kernel_laws.proofs.Assignments.{satisfying, satisfied_at}
-use Rattle.kernel_laws.proofs.Flips.{by_value, true_set, value_true, still_true}
+use Rattle.general_laws.proofs.Flips.{by_value, true_set, value_true, still_true}
 use Rattle.part_formula.specs.Decisions.{are_filled, IsPartModel}
 use Rattle.empty_clauses.specs.EmptyAt.{IsEmptyAt}
 use Rattle.mus_core.specs.Found.{IsWholeModel}

@@ -1,4 +1,4 @@
--- The copy of the first core.
+-- The copy of the first refuted set.
 use Rattle.std.proofs.Common.{◌≡◌, ℕ, ◌+◌, ◌-◌, true, not, List, sym, ◌∙◌, ap, subst, arith, map, length, get_or}
 use Rattle.lk_model.specs.Lists.{is_empty, up_to}
 use Rattle.lk_model.specs.Formulas.Formula.{Cnf, clause_at, positions_of}
@@ -7,7 +7,7 @@ use Rattle.lk_model.specs.declared.document.Round.{Round}
 use Rattle.lk_model.proofs.Counting.{among-range}
 use Rattle.lk_model.proofs.Rising.{bounded, all_rise}
 use Rattle.lk_model.proofs.ListTests.{one_number, each_number}
-use Rattle.kernel_laws.specs.General.RefutationLaw.{IsRefutation}
+use Rattle.lk_model.specs.Checks.RoundChecks.{IsRefutation}
 use Rattle.part_formula.specs.Decisions.{are_filled}
 use Rattle.renaming_laws.specs.Renaming.{IsDense, nth}
 use Rattle.renaming_laws.proofs.Mapped.{row_mapped}

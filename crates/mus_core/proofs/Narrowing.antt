@@ -16,8 +16,8 @@ use Rattle.lk_model.specs.declared.document.Round.{Round}
 use Rattle.lk_model.proofs.Booleans.{and_true, or_true, or_left, or_right}
 use Rattle.lk_model.proofs.ListTests.{all_weaker}
 use Rattle.lk_model.proofs.Lists.{in_mapped}
-use Rattle.kernel_laws.specs.General.RefutationLaw.{IsRefutation}
-use Rattle.kernel_laws.proofs.General.JoinLaws.{join_law}
+use Rattle.lk_model.specs.Checks.RoundChecks.{IsRefutation}
+use Rattle.general_laws.proofs.JoinLaws.{join_law}
 use Rattle.renaming_laws.specs.Renaming.{nth, number_in_whole, renamed_turn, renamed_step, renamed_round}
 use Rattle.renaming_laws.proofs.Mapped.{all_mapped}
 use Rattle.mus_core.specs.Named.{is_one, names_only}

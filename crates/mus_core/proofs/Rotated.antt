@@ -1,4 +1,4 @@
--- Witnesses that are put and turned.
+-- Witnesses that are put and flipped.
 use Rattle.std.specs.Prelude.{⊤}
 use Rattle.std.proofs.Common.{OnOk, Result, Ok, Err, IsTrue, ◌≡◌, ◌≢◌, ◌⊎◌, ℕ, ◌+◌, ◌<◌, ◌≤◌, Bool, true, false, not, ◌&&◌, ◌||◌, ◌==◌, List, refl, sym, ◌∙◌, ap, subst, arith, ℤ, Option, Some, None, IfSome, is_some, cond, inl, inr, filter, length, take, get_or}
 use Rattle.std.specs.List.{list_all}
@@ -6,18 +6,17 @@ use Rattle.std.proofs.lemmas.Bool.{both_ways, cases_Bool, eqb-true, eq-eqb}
 use Rattle.lk_model.specs.Lists.{among, is_nonzero}
 use Rattle.lk_model.specs.Formulas.Literal.{complement, contains}
 use Rattle.lk_model.specs.Formulas.Formula.{Cnf, clause_at, positions_of}
-use Rattle.lk_model.specs.Formulas.Assignment.{Assignment, composed, satisfies}
+use Rattle.lk_model.specs.Formulas.Assignment.{Assignment, composed, satisfies, IsModel}
 use Rattle.lk_model.specs.Formulas.Autarky.{Positions}
 use Rattle.lk_model.specs.Formulas.Lean.{are_positions}
 use Rattle.lk_model.specs.Formulas.Minimal.{all_but, with_made_true}
 use Rattle.lk_model.specs.Held.PartialValues.{assignment_by}
-use Rattle.lk_model.specs.Reduction.{IsModel}
 use Rattle.lk_model.proofs.Booleans.{and_true, or_true, or_left, or_right}
 use Rattle.lk_model.proofs.Counting.{in_filter, from_filter, among-range}
 use Rattle.lk_model.proofs.Founds.{up_to_bounds}
 use Rattle.lk_model.proofs.ListTests.{all_weaker, one_number}
 use Rattle.lk_model.proofs.Rising.{bounded}
-use Rattle.kernel_laws.proofs.WitnessLaws.{witness_law}
+use Rattle.general_laws.proofs.WitnessLaws.{witness_law}
 use Rattle.occurrence_lists.specs.Occurrences.{AreOccurrences}
 use Rattle.mus_core.specs.declared.rotation.Rotating.{Rotating}
 use Rattle.mus_core.specs.Named.{flag_at}
@@ -159,12 +158,12 @@ against_bounds G l ks k is m =
     let low = b.0 in
     (omega (arith, low), b.1)
 
--- TURNED
+-- FLIPPED
 
-pub turned : (c : Rotating) (p q : ℕ) (l : ℤ) (values copy new : List (Option Bool)) → IsWitnessOf c p values → is_nonzero l ≡ true
+pub flipped : (c : Rotating) (p q : ℕ) (l : ℤ) (values copy new : List (Option Bool)) → IsWitnessOf c p values → is_nonzero l ≡ true
     → contains (clause_at c.clauses.now p) l ≡ true → IsOnly c (assignment_by values) l q → assignment_by copy ≡ composed (assignment_by values) (assignment_by values)
     → ((v : ℕ) → assignment_by new v ≡ with_made_true (assignment_by copy) l v) → IsModel c.clauses.now (all_but (flag_at c.inside.now) q) (assignment_by new)
-turned c p q l values copy new w real there only_one copied made =
+flipped c p q l values copy new w real there only_one copied made =
     subst (λ (φ : Assignment). IsModel c.clauses.now (all_but (flag_at c.inside.now) q) φ) (sym same)
     (witness_law.rotates c.clauses.now (flag_at c.inside.now) p q l (assignment_by values) real w.satisfied there only_one.others)
   where

@@ -1,4 +1,4 @@
--- A refuted core with witnesses for some of its places, and what each decision makes of it.
+-- A refuted set with witnesses for some of its places, and what each decision makes of it.
 use Rattle.std.proofs.Common.{◌≡◌, ℕ, zero, suc, ◌-◌, ◌<◌, Bool, true, false, if◌then◌else◌, not, ◌&&◌, ◌==◌, List, [], ◌∷◌, refl, sym, ◌∙◌, ap, subst, ℤ, Option, Some, None, IfSome, is_some, map, filter, find, length, replicate, get_or, arith}
 use Rattle.std.specs.Prelude.{slice_index_or}
 use Rattle.std.specs.List.{list_all}
@@ -6,22 +6,21 @@ use Rattle.std.proofs.lemmas.Bool.{both_ways, eq-eqb, false_from_ne_true, not_fr
 use Rattle.std.proofs.lemmas.List.{length-map, get_or-map}
 use Rattle.lk_model.specs.Lists.{among, rises_within}
 use Rattle.lk_model.specs.Formulas.Formula.{Cnf, clause_at, clauses_at, positions_of}
-use Rattle.lk_model.specs.Formulas.Assignment.{Assignment, assignment_of, satisfies}
+use Rattle.lk_model.specs.Formulas.Assignment.{Assignment, assignment_of, satisfies, IsModel}
 use Rattle.lk_model.specs.Formulas.Lean.{are_positions}
 use Rattle.lk_model.specs.Held.PartialValues.{assignment_by}
 use Rattle.lk_model.proofs.Booleans.{and_true}
 use Rattle.lk_model.proofs.Counting.{Differ, Differ-filter, Differ-range, fewer, in_filter, from_filter, among-range}
 use Rattle.lk_model.proofs.Lists.{among_here, among_later, place_of}
 use Rattle.lk_model.proofs.Rising.{bounded, filter_rises}
-use Rattle.kernel_laws.specs.General.RefutationLaw.{IsRefutation}
-use Rattle.kernel_laws.proofs.WitnessLaws.{witness_law}
+use Rattle.lk_model.specs.Checks.RoundChecks.{IsRefutation}
+use Rattle.general_laws.proofs.WitnessLaws.{witness_law}
 use Rattle.part_formula.specs.Decisions.{IsPartModel}
 use Rattle.renaming_laws.specs.Renaming.{nth}
 use Rattle.mus_core.specs.declared.deciding.Copied.{Copied}
 use Rattle.mus_core.specs.declared.deciding.Refutation.{Refutation}
 use Rattle.mus_core.specs.Copies.{IsRefutedWithin}
 use Rattle.lk_model.specs.Formulas.Minimal.{all_but}
-use Rattle.lk_model.specs.Reduction.{IsModel}
 use Rattle.mus_core.specs.WitnessValues.{witness_at, is_open, IsRotated}
 use Rattle.mus_core.specs.Shrinking.{IsShrunk, left_open, IsNext}
 use Rattle.mus_core.proofs.Copying.{rising_told, told_twice, told_there}
@@ -131,7 +130,7 @@ fewer_open c r ws us p n rotated given =
         (not_from_false (is_some (witness_at ws q)) (false_from_ne_true (is_some (witness_at ws q)) (λ had.
         both_ways (is_some (witness_at us q)) (not-true (is_some (witness_at us q)) both.1) (rotated.kept q had))))
 
--- A SMALLER CORE
+-- A SMALLER SET
 
 pub smaller : (c s : Copied) (r q : Refutation) (ws : List (Option (List (Option Bool)))) (others places : List ℕ) (p : ℕ) → IsShrunk c r ws → IsNext c r ws p
     → others ≡ filter (λ q. not (q == p)) r.places → s.formula.now ≡ c.formula.now → s.part.now ≡ map (nth c.part.now) others

@@ -11,10 +11,10 @@ use Rattle.lk_model.specs.declared.document.Step.{Step}
 use Rattle.lk_model.specs.declared.document.Round.{Round}
 use Rattle.lk_model.proofs.Booleans.{and_true}
 use Rattle.lk_model.proofs.Rising.{all_rise}
-use Rattle.kernel_laws.specs.General.Found.{IsUnfinished}
-use Rattle.kernel_laws.specs.General.RefutationLaw.{IsRefutation}
-use Rattle.kernel_laws.proofs.General.JoinLaws.{misstated_none, unlearned_none}
-use Rattle.kernel_laws.proofs.General.Learning.{round_learns}
+use Rattle.general_laws.specs.Found.{IsUnfinished}
+use Rattle.lk_model.specs.Checks.RoundChecks.{IsRefutation}
+use Rattle.general_laws.proofs.JoinLaws.{misstated_none, unlearned_none}
+use Rattle.general_laws.proofs.Learning.{round_learns}
 use Rattle.renaming_laws.specs.Renaming.{IsDense, nth, renamed_round}
 use Rattle.renaming_laws.proofs.RenamingLaws.{renaming_law}
 use Rattle.renaming_laws.proofs.Copies.{part_length}

@@ -22,7 +22,7 @@ use Rattle.lk_model.proofs.ListTests.{one_number}
 use Rattle.kernel_laws.proofs.Clauses.{mentions_of}
 use Rattle.kernel_laws.proofs.Assignments.{satisfying, satisfied_at}
 use Rattle.general_kernel.proofs.SetLines.{set_rises, set_true}
-use Rattle.minimal_laws.specs.CoreLaw.{IsCore}
+use Rattle.general_laws.specs.CoreLaw.{IsCore}
 use Rattle.renaming_laws.specs.Renaming.{named, nth}
 use Rattle.renaming_laws.specs.Renaming.{IsDense}
 use Rattle.renaming_laws.proofs.Mapped.{rises_by, map_twice, rising_same}

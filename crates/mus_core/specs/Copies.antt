@@ -2,7 +2,7 @@
 use Rattle.std.specs.Prelude.{ℕ, map, IsTrue}
 use Rattle.lk_model.specs.Formulas.Formula.{positions_of}
 use Rattle.lk_model.specs.Formulas.Lean.{are_positions}
-use Rattle.kernel_laws.specs.General.RefutationLaw.{IsRefutation}
+use Rattle.lk_model.specs.Checks.RoundChecks.{IsRefutation}
 use Rattle.renaming_laws.specs.Renaming.{IsDense, nth}
 use Rattle.part_formula.specs.Decisions.{are_filled, IsPartModel}
 use Rattle.mus_core.specs.declared.deciding.Copied.{Copied}

@@ -3,12 +3,11 @@ use Rattle.std.specs.Prelude.{◌≡◌, ℕ, ◌^◌, ◌<◌, List, [], ◌∷
 use Rattle.lk_model.specs.Lists.{is_empty}
 use Rattle.lk_model.specs.Formulas.Literal.{variable}
 use Rattle.lk_model.specs.Formulas.Formula.{Cnf, clause_at, clauses_at, positions_of, variables_to}
-use Rattle.lk_model.specs.Formulas.Assignment.{assignment_of}
+use Rattle.lk_model.specs.Formulas.Assignment.{assignment_of, IsModel}
 use Rattle.lk_model.specs.Formulas.Lean.{are_positions, all_of}
-use Rattle.lk_model.specs.Reduction.{IsModel}
 use Rattle.lk_model.specs.declared.document.Round.{Round}
-use Rattle.kernel_laws.specs.General.Found.{IsUnfinished}
-use Rattle.minimal_laws.specs.CoreLaw.{IsCore}
+use Rattle.general_laws.specs.Found.{IsUnfinished}
+use Rattle.general_laws.specs.CoreLaw.{IsCore}
 use Rattle.mus_core.specs.declared.mus.Mus.{Mus}
 use Rattle.mus_core.specs.declared.mus.Mus.TheVariants.{Core, Model, Unfinished}
 

@@ -1,16 +1,16 @@
--- A refuted core with witnesses for some of its places, and a turn of the search.
+-- A refuted set with witnesses for some of its places, and what comes when a clause is left out.
 use Rattle.std.specs.Prelude.{◌≡◌, ℕ, ◌<◌, ◌≤◌, Bool, true, false, List, Option, filter, length, is_some}
 use Rattle.lk_model.specs.Lists.{among}
 use Rattle.lk_model.specs.Formulas.Formula.{Cnf, positions_of}
 use Rattle.mus_core.specs.declared.deciding.Copied.{Copied}
 use Rattle.mus_core.specs.declared.deciding.Refutation.{Refutation}
-use Rattle.mus_core.specs.declared.shrinking.Turned.{Turned}
-use Rattle.mus_core.specs.declared.shrinking.Turned.TheVariants.{Kept, On, Ended}
+use Rattle.mus_core.specs.declared.shrinking.LeftOut.{LeftOut}
+use Rattle.mus_core.specs.declared.shrinking.LeftOut.TheVariants.{Kept, On, Ended}
 use Rattle.mus_core.specs.Copies.{IsRefutedWithin}
 use Rattle.mus_core.specs.Found.{IsMus}
 use Rattle.mus_core.specs.WitnessValues.{witness_at, AreHeld, is_open}
 
--- the core has a refutation, and its witnesses are right
+-- the set has a refutation, and its witnesses are right
 pub record IsShrunk (c : Copied) (r : Refutation) (ws : List (Option (List (Option Bool)))) : Type 0 where
   pub refuted : IsRefutedWithin c r
   pub held : AreHeld c.clauses.now (among r.places) ws
@@ -27,7 +27,7 @@ pub record IsNext (c : Copied) (r : Refutation) (ws : List (Option (List (Option
   pub last : p ≤ length c.clauses.now.clauses
 
 -- The search goes on with fewer places that have no witness, or it ends.
-abbrev pub IsTurned : Copied → ℕ → Refutation → List (Option (List (Option Bool))) → List (Option (List (Option Bool))) → Turned → Type 0
-IsTurned c conflicts r ws us Kept = IsShrunk c r us × (left_open c.clauses.now r.places us < left_open c.clauses.now r.places ws)
-IsTurned c conflicts r ws us (On s) = IsShrunk c s us × (left_open c.clauses.now s.places us < left_open c.clauses.now r.places ws)
-IsTurned c conflicts r ws us (Ended m) = IsMus c.formula.now conflicts m
+abbrev pub IsLeftOut : Copied → ℕ → Refutation → List (Option (List (Option Bool))) → List (Option (List (Option Bool))) → LeftOut → Type 0
+IsLeftOut c conflicts r ws us Kept = IsShrunk c r us × (left_open c.clauses.now r.places us < left_open c.clauses.now r.places ws)
+IsLeftOut c conflicts r ws us (On s) = IsShrunk c s us × (left_open c.clauses.now s.places us < left_open c.clauses.now r.places ws)
+IsLeftOut c conflicts r ws us (Ended m) = IsMus c.formula.now conflicts m

@@ -1,4 +1,4 @@
--- Witnesses for places of a core.
+-- Witnesses for places of a refuted set.
 use Rattle.std.specs.Prelude.{length, ◌≡◌, ℕ, ◌-◌, Bool, not, ◌&&◌, List, [], map, ℤ, Option, Some, None, is_some, slice_index_or, ⊤, IfSome, IsTrue}
 use Rattle.std.specs.Option.{option_map_or}
 use Rattle.lk_model.specs.Lists.{among}
@@ -6,7 +6,7 @@ use Rattle.lk_model.specs.Formulas.Formula.{Cnf, variable_occurs}
 use Rattle.lk_model.specs.Formulas.Autarky.{Positions}
 use Rattle.lk_model.specs.Formulas.Minimal.{all_but}
 use Rattle.lk_model.specs.Held.PartialValues.{assignment_by}
-use Rattle.lk_model.specs.Reduction.{IsModel}
+use Rattle.lk_model.specs.Formulas.Assignment.{IsModel}
 use Rattle.lk_model.specs.declared.document.Without.{Without}
 use Rattle.general_kernel.specs.SetLiterals.{literals_on}
 use Rattle.renaming_laws.specs.Renaming.{named, nth}
@@ -49,6 +49,6 @@ IsCopyOf (Some old) (Some new) = (length new ≡ length old) × (assignment_by n
 IsCopyOf None (Some new) = ⊥
 IsCopyOf old None = ⊤
 
--- a place of the core without a witness
+-- a place of the set without a witness
 abbrev pub is_open : List ℕ → List (Option (List (Option Bool))) → ℕ → Bool
 is_open places ws p = among places p && not (is_some (witness_at ws p))

@@ -4,8 +4,8 @@
 ghost use Rattle.std.specs.Prelude.{ℕ, [], ◌∷◌, length, IfOk, IsTrue};
 ghost use Rattle.lk_model.specs.Formulas.Formula.{positions_of};
 ghost use Rattle.lk_model.specs.Documents.Form.{are_steps};
-ghost use Rattle.kernel_laws.specs.General.Found.{IsUnfinished};
-ghost use Rattle.kernel_laws.specs.General.RefutationLaw.{IsRefutation};
+ghost use Rattle.general_laws.specs.Found.{IsUnfinished};
+ghost use Rattle.lk_model.specs.Checks.RoundChecks.{IsRefutation};
 ghost use Rattle.mus_core.specs.Found.{IsStoppedAt};
 ghost use Rattle.mus_core.specs.Copies.{IsCopy, IsDecided, IsRefutedWithin};
 
@@ -66,7 +66,7 @@ pub(crate) fn decide_copy(
     }
 }
 
-// A refutation of the copy, told in the formula's numbers.
+// A refutation of the copy, translated to the formula's numbers.
 fn tell_refutation(alloc: Global, of: &Copied, round: Round) -> Result<Refutation, OutOfMemory>
     requires copy { IsCopy of.now }
     requires refuted { IsRefutation of.now.clauses.now (positions_of of.now.clauses.now) round }

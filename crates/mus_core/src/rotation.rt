@@ -1,10 +1,10 @@
 //! Model rotation.
 //!
-//! A witness leaves the clause at its place false and satisfies all others of the core. With a literal of that clause
-//! made true it satisfies it too, and where of the core just one other clause is false then, it is a witness for that
-//! one (Marques-Silva and Lynce, "On Improving MUS Extraction Algorithms", 2011; from there on again: Belov and
-//! Marques-Silva, "Accelerating MUS Extraction with Recursive Model Rotation", 2011; also through clauses that have a
-//! witness already: Wieringa, "Understanding, Improving and Parallelizing MUS Finding Using Model Rotation", 2012).
+//! A witness leaves the clause at its place false and satisfies all others of a refuted set. With a literal of that
+//! clause made true it satisfies this clause too. If just one other clause of the set is false then, it is a witness
+//! for that one (Marques-Silva and Lynce, "On Improving MUS Extraction Algorithms", 2011; from there on again: Belov
+//! and Marques-Silva, "Accelerating MUS Extraction with Recursive Model Rotation", 2011; also through clauses that have
+//! a witness already: Wieringa, "Understanding, Improving and Parallelizing MUS Finding Using Model Rotation", 2012).
 //!
 //! Here each place is visited at most once for each decision, whether or not it had a witness, and its witness is
 //! replaced: any witness is as good as another. Only clauses with the complement of the literal can become false, and
@@ -16,9 +16,8 @@ ghost use Rattle.lk_model.specs.Formulas.Literal.{contains, is_literal};
 ghost use Rattle.lk_model.specs.Formulas.Formula.{clause_at};
 ghost use Rattle.lk_model.specs.Formulas.Lean.{are_positions};
 ghost use Rattle.lk_model.specs.Formulas.Minimal.{all_but, with_made_true};
-ghost use Rattle.lk_model.specs.Formulas.Assignment.{makes_true, satisfies};
+ghost use Rattle.lk_model.specs.Formulas.Assignment.{makes_true, satisfies, IsModel};
 ghost use Rattle.lk_model.specs.Held.PartialValues.{assignment_by};
-ghost use Rattle.lk_model.specs.Reduction.{IsModel};
 ghost use Rattle.occurrence_lists.specs.Occurrences.{AreOccurrences};
 ghost use Rattle.mus_core.specs.Named.{flag_at};
 ghost use Rattle.mus_core.specs.WitnessValues.{AreHeld, IsRotated, witness_at};
@@ -31,12 +30,12 @@ use occurrence_lists::OccurrenceLists;
 use partial_assign::{Partial, compose};
 use std::alloc::Global;
 
-/// The clauses of a core among others, and where their literals occur.
+/// The clauses of a refuted set among others, and where their literals occur.
 #[derive(Drop)]
 pub(crate) struct Rotating<'a> {
     pub clauses: &'a Formula,
     pub lists: &'a OccurrenceLists,
-    /// Flags of the places of the core.
+    /// Flags of the places of the set.
     pub inside: &'a [bool],
 }
 
@@ -144,7 +143,7 @@ fn go_on(
     Ok(())
 }
 
-// Turns the witness of a place, if there is one, at each literal of the clause there.
+// Flips the witness of a place, if there is one, at each literal of the clause there.
 fn visit(
     alloc: Global,
     core: &Rotating,
@@ -159,13 +158,13 @@ fn visit(
     ensures { OnOk result (WentOn core.now witnesses.old witnesses.new walk.new.places.items) }
 {
     match witnesses.copy(alloc, p)? {
-        Some(values) => turn_at_each(alloc, core, &values, witnesses, walk, p),
+        Some(values) => flip_each(alloc, core, &values, witnesses, walk, p),
         None => Ok(()),
     }
 }
 
-// Turns values that satisfy all other clauses, at each literal of the clause at a place.
-fn turn_at_each(
+// Flips values that satisfy all other clauses, at each literal of the clause at a place.
+fn flip_each(
     alloc: Global,
     core: &Rotating,
     values: &Partial,
@@ -181,13 +180,13 @@ fn turn_at_each(
     ensures { OnOk result (WentOn core.now witnesses.old witnesses.new walk.new.places.items) }
 {
     for l in core.clauses.clause(p) {
-        turn_at(alloc, core, values, witnesses, walk, p, *l)?;
+        flip(alloc, core, values, witnesses, walk, p, *l)?;
     }
     Ok(())
 }
 
-// Turns them at one literal, where they become a witness for a place that is not known yet.
-fn turn_at(
+// Flips them at one literal, where they become a witness for a place that is not known yet.
+fn flip(
     alloc: Global,
     core: &Rotating,
     values: &Partial,
@@ -206,15 +205,15 @@ fn turn_at(
 {
     if let Some(q) = only_failing(core, values, l) {
         if walk.come_to(q)? {
-            let mut turned = compose(alloc, values, values)?;
-            turned.make_true(l);
-            witnesses.put(q, turned);
+            let mut flipped = compose(alloc, values, values)?;
+            flipped.make_true(l);
+            witnesses.put(q, flipped);
         }
     }
     Ok(())
 }
 
-// The place of the core whose clause alone is false once the literal is true.
+// The place of the set whose clause alone is false once the literal is true.
 fn only_failing(core: &Rotating, values: &Partial, l: Lit) -> Option<u32>
     requires core { IsRotating core.now }
     requires vars { length values.now ≡ core.now.clauses.now.vars }
@@ -233,7 +232,7 @@ fn only_failing(core: &Rotating, values: &Partial, l: Lit) -> Option<u32>
     found
 }
 
-// Whether a place is one of the core and the clause there is false once the literal is true.
+// Whether a place is one of the set and the clause there is false once the literal is true.
 fn fails(core: &Rotating, values: &Partial, l: Lit, k: u32) -> bool
     requires first { 0 < k }
     requires last { k ≤ length core.now.clauses.now.clauses }

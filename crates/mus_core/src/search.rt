@@ -3,7 +3,7 @@ ghost use Rattle.std.specs.Prelude.{◌≡◌, length, IfOk, IsTrue};
 ghost use Rattle.lk_model.specs.Lists.{rises_within};
 ghost use Rattle.lk_model.specs.Formulas.Formula.{is_formula, positions_of};
 ghost use Rattle.lk_model.specs.Formulas.Lean.{are_positions};
-ghost use Rattle.kernel_laws.specs.General.RefutationLaw.{IsRefutation};
+ghost use Rattle.lk_model.specs.Checks.RoundChecks.{IsRefutation};
 ghost use Rattle.part_formula.specs.Decisions.{are_filled, IsDecision, IsPartModel};
 ghost use Rattle.renaming_laws.specs.Renaming.{IsDense};
 ghost use Rattle.mus_core.specs.Named.{names_only};
@@ -51,7 +51,7 @@ fn minimal_of_filled(alloc: Global, f: &Formula, conflicts: Budget) -> Result<Mu
     }
 }
 
-// What a decision by all orders of variables in turn answers.
+// What a decision answers by all orders of variables, which take turns.
 fn decide_by_all_orders(
     alloc: Global,
     f: &Formula,

@@ -1,11 +1,11 @@
 //! A minimally unsatisfiable core.
 //!
-//! From a core, which is what a refutation names, one clause after another is left out. Where the others have a model,
-//! the clause is needed, and the model is kept as its witness; where they have none, what their refutation names is the
-//! new core (deletion with refinement: Dershowitz, Hanna and Nadel, "A Scalable Algorithm for Minimal Unsatisfiable
-//! Core Extraction", 2006).
+//! From the set that a refutation names, one clause after another is left out. If the others have a model, the clause
+//! is needed, and the model is kept as its witness; if they have none, what their refutation names is the new set
+//! (deletion with refinement: Dershowitz, Hanna and Nadel, "A Scalable Algorithm for Minimal Unsatisfiable Core
+//! Extraction", 2006).
 //!
-//! Here the clauses of the first core are copied once under numbers of their own, so that no decision costs the
+//! Here the clauses of the first set are copied once under numbers of their own, so that no decision costs the
 //! formula. The last refutation is kept, in the formula's numbers, and its chains name positions of the core alone,
 //! since all later answers are models.
 ghost use Rattle.std.specs.Prelude.{◌≡◌, ◌==◌, None, filter, not, map, length, replicate, IfOk};
@@ -13,7 +13,7 @@ ghost use Rattle.occurrence_lists.specs.Occurrences.{AreOccurrences};
 ghost use Rattle.renaming_laws.specs.Renaming.{nth};
 ghost use Rattle.mus_core.specs.Copies.{IsCopy, IsRefutedWithin};
 ghost use Rattle.mus_core.specs.Found.{IsMus};
-ghost use Rattle.mus_core.specs.Shrinking.{IsNext, IsShrunk, IsTurned};
+ghost use Rattle.mus_core.specs.Shrinking.{IsNext, IsShrunk, IsLeftOut};
 
 use crate::deciding::{Copied, Decided, Refutation, decide_copy};
 use crate::mus::Mus;
@@ -30,7 +30,7 @@ use std::alloc::Global;
 /// How many clauses each order of variables learns in a turn of a decision.
 const TURN: u64 = 300;
 
-/// Leaves out clauses of a refuted core until each has a witness.
+/// Leaves out clauses of a refuted set until each has a witness.
 pub(crate) fn shrink(
     alloc: Global,
     core: &Copied,
@@ -53,7 +53,7 @@ pub(crate) fn shrink(
     )
 }
 
-/// What all turns use.
+/// What all decisions use.
 #[derive(Drop)]
 pub(crate) struct Tables {
     pub lists: OccurrenceLists,
@@ -78,7 +78,7 @@ impl Tables {
     }
 }
 
-// Turn by turn.
+// One place after another.
 fn shrink_by(
     alloc: Global,
     core: &Copied,
@@ -101,7 +101,7 @@ fn shrink_by(
                 return Ok(Mus::Core(found));
             }
             Some(p) => {
-                match turn(
+                match leave_out(
                     alloc,
                     core,
                     lists,
@@ -111,9 +111,9 @@ fn shrink_by(
                     p,
                     conflicts,
                 )? {
-                    Turned::Kept => {}
-                    Turned::On(next) => refutation = next,
-                    Turned::Ended(mus) => return Ok(mus),
+                    LeftOut::Kept => {}
+                    LeftOut::On(next) => refutation = next,
+                    LeftOut::Ended(mus) => return Ok(mus),
                 }
             }
         }
@@ -122,7 +122,7 @@ fn shrink_by(
 
 /// How the search goes on.
 #[derive(Drop)]
-pub(crate) enum Turned {
+pub(crate) enum LeftOut {
     /// With the same refutation.
     Kept,
     /// With this refutation.
@@ -132,7 +132,7 @@ pub(crate) enum Turned {
 }
 
 // Leaves out the clause at a place without a witness.
-fn turn(
+fn leave_out(
     alloc: Global,
     core: &Copied,
     lists: &OccurrenceLists,
@@ -141,12 +141,12 @@ fn turn(
     turns: &mut Turns,
     p: u32,
     conflicts: Budget,
-) -> Result<Turned, OutOfMemory>
+) -> Result<LeftOut, OutOfMemory>
     requires copy { IsCopy core.now }
     requires lists { AreOccurrences core.now.clauses.now lists.now }
     requires shrunk { IsShrunk core.now refutation.now witnesses.old }
     requires next { IsNext core.now refutation.now witnesses.old p }
-    ensures { IfOk result (IsTurned core.now conflicts refutation.now witnesses.old witnesses.new) }
+    ensures { IfOk result (IsLeftOut core.now conflicts refutation.now witnesses.old witnesses.new) }
 {
     let others = others(alloc, refutation.places.as_slice(), p)?;
     let part = told_places(alloc, core.part, others.as_slice())?;
@@ -162,13 +162,13 @@ fn turn(
             let values = assignment_of(alloc, clauses.vars(), set.as_slice())?;
             let places = refutation.places.as_slice();
             give(alloc, core.clauses, lists, places, witnesses, p, values)?;
-            Ok(Turned::Kept)
+            Ok(LeftOut::Kept)
         }
-        Decided::Refuted(smaller) => Ok(Turned::On(Refutation {
+        Decided::Refuted(smaller) => Ok(LeftOut::On(Refutation {
             places: told_places(alloc, others.as_slice(), smaller.places.as_slice())?,
             round: smaller.round,
         })),
-        Decided::Stopped(open) => Ok(Turned::Ended(Mus::Unfinished {
+        Decided::Stopped(open) => Ok(LeftOut::Ended(Mus::Unfinished {
             part,
             texts: open.texts,
             round: open.round,

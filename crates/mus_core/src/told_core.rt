@@ -1,7 +1,7 @@
-//! A core, told in the numbers of the formula.
+//! A core, translated to the numbers of the formula.
 ghost use Rattle.std.specs.Prelude.{◌≡◌, ℕ, None, find, not, is_some, map, length, IfOk, IfSome, IsTrue};
 ghost use Rattle.lk_model.specs.Formulas.Lean.{are_positions};
-ghost use Rattle.minimal_laws.specs.CoreLaw.{IsCore};
+ghost use Rattle.general_laws.specs.CoreLaw.{IsCore};
 ghost use Rattle.mus_core.specs.Copies.{IsCopy};
 ghost use Rattle.mus_core.specs.Shrinking.{IsShrunk};
 ghost use Rattle.mus_core.specs.WitnessValues.{witness_at, line_at};

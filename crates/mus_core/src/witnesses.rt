@@ -1,4 +1,4 @@
-//! Witnesses: for places of a core, values that satisfy all its clauses but the one there.
+//! Witnesses: for places of a refuted set, values that satisfy all its clauses but the one there.
 ghost use Rattle.std.specs.Prelude.{◌≡◌, ◌≢◌, ◌<◌, ◌≤◌, ℕ, Some, None, find, not, is_some, length, replicate, IfOk};
 ghost use Rattle.std.specs.Prelude.{IfSome, IsTrue};
 ghost use Rattle.lk_model.specs.Formulas.Lean.{are_positions};

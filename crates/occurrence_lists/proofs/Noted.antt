@@ -162,7 +162,7 @@ room_next c p i l before now h lt at held room sizes notes =
     let read : get_or now.sizes (rank_of l) 0 ≡ get_or before.sizes (rank_of l) 0 = ap (λ (ns : List ℕ). get_or ns (rank_of l) 0) sizes in
     omega (arith, same, read, (room (rank_of l) held).1)
 
--- behind the last clause each list has its size
+-- after the last clause each list has its size
 pub sizes_told : (F : Cnf) (t : Filled) → AreNoted F (length F.clauses) t.lists → AreCounts F (length F.clauses) t.sizes → (k : ℕ) → length (get_or t.lists k []) ≡ get_or t.sizes k 0
 sizes_told F t noted counts k = ap (λ (ps : List ℕ). length ps) (noted.told k) ∙ sym (counts.told k)
 

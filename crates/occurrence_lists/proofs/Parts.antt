@@ -21,7 +21,7 @@ cut_at start ps (end ∷ ends) zero h = refl
 cut_at start ps (end ∷ ends) (suc zero) h = cut_at end ps ends zero (omega (arith, h))
 cut_at start ps (end ∷ ends) (suc (suc k)) h = cut_at end ps ends (suc k) (omega (arith, h))
 
--- the next list ends behind
+-- the next list ends after
 pub next_end : (ends : List ℕ) (stop k : ℕ) → AreEnds 0 ends stop → k + 1 < length ends → get_or ends k 0 ≤ get_or ends (k + 1) 0
 next_end ends stop k e h =
     let one : k + 1 ≡ suc k = omega arith in
@@ -198,7 +198,7 @@ begun_next ns i ends ats stop b lt =
       stop = omega (arith, b.stop, sum_by_more (λ (m : ℕ). m) ns i 0 lt);
     }
 
--- behind the last size
+-- after the last size
 record AreAllBegun (ns es bs : List ℕ) (m : ℕ) : Type 0 where
   ends : es ≡ ends_from 0 ns
   next : bs ≡ begins_from 0 ns

@@ -14,13 +14,13 @@ range_none ps start = let none : start - start ≡ 0 = omega arith in ap (λ (n 
 pub range_before : (ps : List ℕ) (start end i p : ℕ) → i < start → slice_range (set ps i p) start end ≡ slice_range ps start end
 range_before ps start end i p h = ap (take (end - start)) (drop-set-lt start ps i p h)
 
--- what is left of the list from a place on, where a number behind it is written
+-- what is left of the list from a place on, where a number after it is written
 drop_written : (ps : List ℕ) (start i p : ℕ) → start ≤ i → drop start (set ps i p) ≡ set (drop start ps) (i - start) p
 drop_written ps start i p h =
     let place : i ≡ start + (i - start) = omega (arith, h) in
     ap (λ (n : ℕ). drop start (set ps n p)) place ∙ drop-set-add start ps (i - start) p
 
--- a number behind the range
+-- a number after the range
 pub range_behind : (ps : List ℕ) (start end i p : ℕ) → start ≤ end → end ≤ i → slice_range (set ps i p) start end ≡ slice_range ps start end
 range_behind ps start end i p low high =
     ap (take (end - start)) (drop_written ps start i p (omega (arith, low, high))) ∙ take-set-le (end - start) (drop start ps) (i - start) p (omega (arith, low, high))
@@ -34,7 +34,7 @@ range_more ps start end p low high =
     ∙ ap (take ((end - start) + 1)) (drop_written ps start end p low)
     ∙ take_more_set (drop start ps) (end - start) p within
 
--- two ranges, one behind the other
+-- two ranges, one after the other
 pub range_split : (ps : List ℕ) (start mid end : ℕ) → start ≤ mid → mid ≤ end → slice_range ps start end ≡ slice_range ps start mid ++ slice_range ps mid end
 range_split ps start mid end low high =
     let size : end - start ≡ (mid - start) + (end - mid) = omega (arith, low, high) in

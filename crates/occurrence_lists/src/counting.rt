@@ -1,4 +1,4 @@
-//! How many clauses hold each literal.
+//! How many clauses contain each literal.
 ghost use Rattle.std.specs.Prelude.{◌<◌, ◌≤◌, ℕ, length, slice_index, sum, IfOk, IsTrue};
 ghost use Rattle.lk_model.specs.Limits.{max_clauses, max_literals};
 ghost use Rattle.lk_model.specs.Formulas.Literal.{is_distinct};
@@ -8,7 +8,7 @@ ghost use Rattle.occurrence_lists.specs.Noting.{AreCounts, CountsClause};
 use lk_model::{Formula, Lit, LitTable, OutOfMemory};
 use std::alloc::Global;
 
-/// How many clauses hold each literal.
+/// How many clauses contain each literal.
 pub(crate) fn count_literals(alloc: Global, f: &Formula) -> Result<LitTable<u32>, OutOfMemory>
     ensures counts { IfOk result (AreCounts f.now (length f.now.clauses)) }
     ensures few { IfOk result (λ counts. sum counts ≤ max_literals) }

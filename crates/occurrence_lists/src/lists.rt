@@ -1,6 +1,6 @@
-//! For each literal the positions of the clauses that hold it.
+//! For each literal the positions of the clauses that contain it.
 //!
-//! The lists stand one after another in one vector, whose parts are found by counting first (as in sorting by
+//! The lists stand one after another in one vector, and counting finds first where each begins (as in sorting by
 //! counting; Knuth, "The Art of Computer Programming", volume 3, 1973): no list has a vector of its own.
 ghost use Rattle.std.specs.Prelude.{◌≡◌, ◌++◌, ◌+◌, ◌*◌, ◌<◌, ◌≤◌, [], ℕ, length, map, slice_index, slice_index_or};
 ghost use Rattle.std.specs.Prelude.{IfOk, IsTrue};
@@ -16,7 +16,7 @@ use lk_model::{Formula, Lit, LitTable, OutOfMemory};
 use std::alloc::Global;
 use std::marker::Model;
 
-/// For each literal over the variables of a formula the positions of the clauses that hold it, ascending.
+/// For each literal over the variables of a formula the positions of the clauses that contain it, ascending.
 /// Contracts see a list of these lists, in which that of a literal stands at its rank.
 #[derive(Drop)]
 pub struct OccurrenceLists {
@@ -50,7 +50,7 @@ impl OccurrenceLists {
         Ok(lists.finish())
     }
 
-    /// The positions of the clauses that hold the literal, ascending.
+    /// The positions of the clauses that contain the literal, ascending.
     pub fn positions(&self, l: Lit) -> &[u32]
         requires { rank_of l < length self.now }
         ensures { result.now ≡ slice_index_or self.now (rank_of l) [] }
@@ -58,8 +58,8 @@ impl OccurrenceLists {
         list_at(&self.positions, &self.ends, l.rank())
     }
 
-    /// The positions of the clauses that hold the variable, and then of those that hold its complement: each
-    /// of both ascending, so that one that holds both stands twice.
+    /// The positions of the clauses that contain the variable, and then of those that contain its complement: each
+    /// of both ascending, so that one that contains both stands twice.
     pub fn positions_of_variable(&self, v: u32) -> &[u32]
         requires { 2 * v + 1 < length self.now }
         ensures { result.now ≡ slice_index_or self.now (2 * v) [] ++ slice_index_or self.now (2 * v + 1) [] }
@@ -67,7 +67,7 @@ impl OccurrenceLists {
         two_lists_at(&self.positions, &self.ends, 2 * v as usize)
     }
 
-    /// How many clauses hold each literal.
+    /// How many clauses contain each literal.
     pub fn counts(&self, alloc: Global) -> Result<LitTable<u32>, OutOfMemory>
         ensures { IfOk result (λ t. t ≡ map (λ ps. length ps) self.now) }
     {
@@ -141,7 +141,7 @@ fn begin_at(ends: &[u32], k: usize, stop: usize) -> u32
     if k == 0 { 0 } else { ends[k - 1] }
 }
 
-/// Where the list behind one of the lists ends.
+/// Where the list after one of the lists ends.
 fn next_end(ends: &[u32], k: usize, stop: usize) -> u32
     requires ends { AreEnds 0 ends.now stop }
     requires place { k + 1 < length ends.now }

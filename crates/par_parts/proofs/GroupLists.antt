@@ -14,7 +14,7 @@ use Rattle.lk_model.proofs.Counting.{in_filter, from_filter, among-range}
 use Rattle.lk_model.proofs.Founds.{filtered_rise, is_position}
 use Rattle.lk_model.proofs.Rising.{rising_count}
 use Rattle.lk_model.proofs.Variables.{position_with}
-use Rattle.kernel_laws.proofs.General.PartLaws.{shares}
+use Rattle.general_laws.proofs.PartLaws.{shares}
 use Rattle.par_parts.specs.Numbering.{AreLabels, positions_with, gathered}
 use Rattle.par_parts.specs.Groups.{AreGroupNumbers, IsDisjointCover, IsPartition}
 

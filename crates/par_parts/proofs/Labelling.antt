@@ -8,7 +8,7 @@ use Rattle.lk_model.specs.Formulas.Formula.{Cnf, clause_at}
 use Rattle.lk_model.specs.Formulas.Parts.{InOnePart}
 use Rattle.lk_model.proofs.Booleans.{and_true, or_true, or_left, or_right}
 use Rattle.lk_model.proofs.Lists.{among_here}
-use Rattle.kernel_laws.proofs.General.PartLaws.{shares, leads_more, is_position}
+use Rattle.general_laws.proofs.PartLaws.{shares, leads_more, is_position}
 use Rattle.par_parts.specs.Numbering.{Found, labelled, all_labelled, IsSearching}
 use Rattle.par_parts.proofs.OneMore.{written, any_push_left, any_push_here, any_push_cases, same_number}
 

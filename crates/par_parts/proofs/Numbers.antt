@@ -7,7 +7,7 @@ use Rattle.lk_model.specs.Formulas.Formula.{Cnf, clause_at}
 use Rattle.lk_model.specs.Formulas.Parts.{InOnePart}
 use Rattle.lk_model.proofs.Booleans.{and_true, or_true}
 use Rattle.lk_model.proofs.Lists.{among_here}
-use Rattle.kernel_laws.proofs.General.PartLaws.{shared}
+use Rattle.general_laws.proofs.PartLaws.{shared}
 use Rattle.par_parts.specs.Numbering.{Found, part_begun, AreLabels, IsSearching, IsSpread, IsUpTo}
 use Rattle.par_parts.proofs.OneMore.{written}
 

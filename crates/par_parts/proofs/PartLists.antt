@@ -20,7 +20,7 @@ use Rattle.par_parts.proofs.OneMore.{written, same_number}
 
 -- GATHERING
 
--- what the lists hold before a position
+-- what the lists contain before a position
 pub record AreGathered (labels : List ℕ) (count p : ℕ) (parts : List (List ℕ)) : Type 0 where
   pub long : length parts ≡ count
   pub each : (k : ℕ) → k < count → get_or parts k [] ≡ filter (λ q. get_or labels q 0 == k + 1) (range_with_len 1 (p - 1))
@@ -73,7 +73,7 @@ gathered_all labels count p parts e h =
 
 -- PARTS
 
--- A list that rises, holds a number and holds none below it begins with it.
+-- A list that rises, contains a number and contains none below it begins with it.
 begins_with : (low high root : ℕ) (ps : List ℕ) → rises_within low high ps ≡ true → among ps root ≡ true → ((p : ℕ) → among ps p ≡ true → root ≤ p) → least_of ps ≡ root
 begins_with low high root [] r i below = absurd (let f : ⊥ = cc in f)
 begins_with low high root (p ∷ ps) r i below =

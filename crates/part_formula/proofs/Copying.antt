@@ -15,7 +15,7 @@ use Rattle.lk_model.proofs.ClausesAt.{clauses_more, few_clauses, few_literals}
 use Rattle.lk_model.proofs.Booleans.{and_true, or_true, or_left, or_right}
 use Rattle.lk_model.proofs.Literals.{same_int, int_self}
 use Rattle.lk_model.proofs.Variables.{occurs}
-use Rattle.kernel_laws.specs.General.Found.{has_only}
+use Rattle.general_laws.specs.Found.{has_only}
 use Rattle.renaming_laws.specs.Renaming.{IsDense, named}
 use Rattle.part_formula.specs.Names.{AreNames}
 

@@ -25,7 +25,7 @@ use Rattle.refutation_log.proofs.TrimmedLaws.{trimmed_law}
 use Rattle.cdcl_core.specs.Decision.{IsDecided, IsModelOver, IsRefutedOver, IsStoppedOver}
 use Rattle.cdcl_core.specs.declared.decided.Decided.{Decided}
 use Rattle.cdcl_core.specs.declared.decided.Decided.TheVariants.{Sat, Refuted, Stopped}
-use Rattle.kernel_laws.specs.General.Found.{has_only, covered, IsUnfinished}
+use Rattle.general_laws.specs.Found.{has_only, covered, IsUnfinished}
 use Rattle.general_kernel.specs.SetLiterals.{literals_on}
 use Rattle.general_kernel.proofs.Names.{names_below, named_in}
 use Rattle.general_kernel.proofs.Results.{sets_model, unfinished}
@@ -33,7 +33,7 @@ use Rattle.general_kernel.proofs.Undecided.{undecided}
 use Rattle.general_kernel.proofs.Needed.{round_of}
 use Rattle.general_kernel.proofs.States.{AreWhole, AreTrimmed, GoesOn, no_trimmed, no_whole, steps_go_on, stated_go_on, learned_go_on, trimmed_more, learned_more, count_whole}
 use Rattle.general_kernel.proofs.Turns.{IsTurn, refuted}
-use Rattle.kernel_laws.proofs.General.PartResults.{no_rounds}
+use Rattle.general_laws.proofs.PartResults.{no_rounds}
 use Rattle.part_formula.specs.Decisions.{are_filled, IsPartModel, IsPartRefuted}
 
 -- A MODEL

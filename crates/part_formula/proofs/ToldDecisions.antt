@@ -16,7 +16,7 @@ use Rattle.lk_model.specs.declared.document.Step.{Step}
 use Rattle.lk_model.specs.declared.document.Round.{Round}
 use Rattle.lk_model.proofs.Booleans.{and_true}
 use Rattle.lk_model.proofs.Ranks.{rising_literals as set_within}
-use Rattle.kernel_laws.specs.General.Found.{has_only, covered, IsDone, IsUnfinished}
+use Rattle.general_laws.specs.Found.{has_only, covered, IsDone, IsUnfinished}
 use Rattle.general_kernel.proofs.States.{none_progress}
 use Rattle.renaming_laws.specs.Renaming.{IsDense, named, renamed_round}
 use Rattle.renaming_laws.proofs.RenamingLaws.{renaming_law}

@@ -5,12 +5,11 @@ use Rattle.lk_model.specs.Lists.{is_empty}
 use Rattle.lk_model.specs.Formulas.Formula.{Cnf, clause_at}
 use Rattle.lk_model.specs.Formulas.Crossed.{no_variable}
 use Rattle.lk_model.specs.Chains.Rounds.{AreNeeded}
-use Rattle.lk_model.specs.Checks.RoundChecks.{learned_steps}
+use Rattle.lk_model.specs.Checks.RoundChecks.{learned_steps, IsRefutation}
 use Rattle.lk_model.specs.declared.document.Round.{Round}
 use Rattle.lk_model.specs.declared.result.GeneralResult.{GeneralResult}
-use Rattle.kernel_laws.specs.General.Found.{IsUnfinished}
-use Rattle.kernel_laws.specs.General.GeneralResults.{IsGeneralResult}
-use Rattle.kernel_laws.specs.General.RefutationLaw.{IsRefutation}
+use Rattle.general_laws.specs.Found.{IsUnfinished}
+use Rattle.general_laws.specs.GeneralResults.{IsGeneralResult}
 use Rattle.part_formula.specs.declared.deciding.Decision.{Decision}
 use Rattle.part_formula.specs.declared.deciding.Decision.TheVariants.{Model, Refuted, Stopped}
 

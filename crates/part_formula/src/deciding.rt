@@ -43,7 +43,7 @@ pub fn decide_part(
     decide_part_by(alloc, f, part, &mut Turns::new(), conflicts)
 }
 
-/// The same by orders that take turns as told.
+/// The same by orders that take turns as handed in.
 pub fn decide_part_by(
     alloc: Global,
     f: &Formula,

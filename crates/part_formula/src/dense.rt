@@ -6,7 +6,7 @@ ghost use Rattle.lk_model.specs.Limits.{max_vars};
 ghost use Rattle.lk_model.specs.Formulas.Literal.{is_literal};
 ghost use Rattle.lk_model.specs.Formulas.Formula.{is_formula, IsWithinLimits};
 ghost use Rattle.lk_model.specs.Formulas.Lean.{are_positions};
-ghost use Rattle.kernel_laws.specs.General.Found.{has_only};
+ghost use Rattle.general_laws.specs.Found.{has_only};
 ghost use Rattle.renaming_laws.specs.Renaming.{IsDense, named, nth};
 ghost use Rattle.part_formula.specs.Names.{AreNames};
 

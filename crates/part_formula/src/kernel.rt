@@ -5,7 +5,7 @@
 //! part's.
 ghost use Rattle.std.specs.Prelude.{◌<◌, IfOk, IsTrue};
 ghost use Rattle.lk_model.specs.Formulas.Lean.{are_positions};
-ghost use Rattle.kernel_laws.specs.General.Found.{IsFound};
+ghost use Rattle.general_laws.specs.Found.{IsFound};
 
 use crate::dense::dense_formula;
 use crate::names::names_of;

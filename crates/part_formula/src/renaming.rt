@@ -1,4 +1,4 @@
-//! What is found in the formula of a part, told in the numbers of the whole formula.
+//! What is found in the formula of a part, translated to the numbers of the whole formula.
 ghost use Rattle.std.specs.Prelude.{◌≡◌, ◌+◌, ◌<◌, ◌^◌, length, map, IfOk, OnOk, IsTrue};
 ghost use Rattle.std.specs.List.{list_all};
 ghost use Rattle.lk_model.specs.Lists.{rises_within};
@@ -16,7 +16,7 @@ use std::mem;
 /// The numbers of the whole formula.
 #[derive(Drop)]
 pub struct Renaming<'a> {
-    /// How many clauses it has. Steps are numbered behind them.
+    /// How many clauses it has. Steps are numbered after them.
     pub clauses: u64,
     /// The positions of the part's clauses.
     pub part: &'a [u32],

@@ -5,13 +5,13 @@ use Rattle.lk_model.specs.Formulas.Formula.{Cnf}
 use Rattle.lk_model.specs.Formulas.Parts.{IsPart, AreParts}
 use Rattle.lk_model.specs.declared.document.Round.{Round}
 use Rattle.lk_model.specs.declared.result.GeneralResult.{GeneralResult}
-use Rattle.kernel_laws.specs.General.GeneralResults.{AreGeneralResults, AreJoined}
-use Rattle.kernel_laws.proofs.General.PartLaws.{part_law}
+use Rattle.general_laws.specs.GeneralResults.{AreGeneralResults, AreJoined}
+use Rattle.general_laws.proofs.PartLaws.{part_law}
 use Rattle.round_laws.specs.Budgets.{IsFinished, AreFinished}
 use Rattle.round_laws.proofs.RoundLaws.{round_law}
 use Rattle.autarky_compose.specs.JoinedGeneral.{AreJoined as AreJoinedOver}
 use Rattle.autarky_compose.proofs.GeneralLaws.{joined_general_law, joined_in}
-use Rattle.kernel_laws.specs.General.Found.{IsDone, IsFound, IsUnfinished}
+use Rattle.general_laws.specs.Found.{IsDone, IsFound, IsUnfinished}
 use Rattle.lk_model.specs.declared.result.General.{General}
 use Rattle.lk_model.specs.declared.result.General.TheVariants.{Done, Unfinished}
 use Rattle.part_kernels.specs.ByParts.{AreFound, done, IsFirstOf, CanBeDone, IsFoundWhole, IsFirstUnfinished, IsFoundByParts}
@@ -84,7 +84,7 @@ found_whole F conflicts parts answers found t are each all over =
 
 -- THE FIRST PART THAT IS NOT FINISHED
 
--- a part that is not finished, behind parts whose kernels are found
+-- a part that is not finished, after parts whose kernels are found
 record Split (F : Cnf) (conflicts : ℕ) (parts : List (List ℕ)) (rounds : List Round) : Type 0 where
   pub before : List (List ℕ)
   pub part : List ℕ

@@ -1,2 +1,4 @@
 pub mod Founds
 pub mod Made
+pub mod CopiedMatchings
+pub mod RenamedMatchings

@@ -9,7 +9,7 @@ use Rattle.lk_model.specs.declared.result.GeneralResult.{GeneralResult}
 use Rattle.lk_model.proofs.Booleans.{or_true, or_left, or_right, same_tests}
 use Rattle.lk_model.proofs.Literals.{same_int, int_self}
 use Rattle.lk_model.proofs.Rising.{rises}
-use Rattle.kernel_laws.specs.General.GeneralResults.{AreJoined}
+use Rattle.general_laws.specs.GeneralResults.{AreJoined}
 use Rattle.autarky_compose.proofs.Orders.{same_rising}
 use Rattle.lk_model.specs.declared.result.General.{General}
 use Rattle.lk_model.specs.declared.result.General.TheVariants.{Done, Unfinished}
@@ -35,7 +35,7 @@ past low high (k ∷ ls) l r e =
       | inr later ↦ (let rest = past (variable k) high ls l s.more later in omega (arith, up, rest))
     ]
 
--- so it stands behind a first literal that is no further
+-- so it stands after a first literal that is no further
 behind : (k : ℤ) (ks : List ℤ) (l : ℤ) → variable k < variable l → contains (k ∷ ks) l ≡ true → contains ks l ≡ true
 behind k ks l lt e = elim (or_true (int_eq l k) (contains ks l) e) [
   | inl here ↦ absurd (let same : variable l ≡ variable k = ap variable (same_int l k here) in omega (arith, same, lt))

@@ -8,10 +8,10 @@ use Rattle.lk_model.specs.Formulas.Parts.{IsPart, AreParts}
 use Rattle.lk_model.specs.Chains.Rounds.{AreNeeded}
 use Rattle.lk_model.specs.declared.document.Round.{Round}
 use Rattle.lk_model.specs.declared.result.GeneralResult.{GeneralResult}
-use Rattle.kernel_laws.specs.General.GeneralResults.{IsGeneralResult, AreJoined}
-use Rattle.kernel_laws.specs.General.JoinLaw.{IsApart}
-use Rattle.round_laws.specs.Budgets.{AreWithinBudget}
-use Rattle.kernel_laws.specs.General.Found.{IsDone, IsUnfinished, IsFound}
+use Rattle.general_laws.specs.GeneralResults.{IsGeneralResult, AreJoined}
+use Rattle.general_laws.specs.JoinLaw.{IsApart}
+use Rattle.lk_model.specs.Chains.Budgets.{AreWithinBudget}
+use Rattle.general_laws.specs.Found.{IsDone, IsUnfinished, IsFound}
 use Rattle.lk_model.specs.declared.result.General.{General}
 use Rattle.lk_model.specs.declared.result.General.TheVariants.{Done, Unfinished}
 

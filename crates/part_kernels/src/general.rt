@@ -6,7 +6,7 @@ ghost use Rattle.std.specs.Prelude.{◌≡◌, ◌<◌, ◌≤◌, map, Ok, IfOk
 ghost use Rattle.std.specs.ControlFlow.{MatchControlFlow};
 ghost use Rattle.std.specs.List.{AllByRecursion};
 ghost use Rattle.lk_model.specs.Formulas.Parts.{IsPart};
-ghost use Rattle.kernel_laws.specs.General.Found.{IsFound};
+ghost use Rattle.general_laws.specs.Found.{IsFound};
 ghost use Rattle.part_kernels.specs.ByParts.{AreFound, done, IsFirstOf, IsFoundByParts};
 
 use autarky_compose::join_general;

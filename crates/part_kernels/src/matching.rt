@@ -7,14 +7,14 @@ ghost use Rattle.std.specs.Prelude.{◌≡◌, ◌≤◌, List, ℕ, map, Ok, If
 ghost use Rattle.std.specs.List.{AllByRecursion};
 ghost use Rattle.lk_model.specs.Formulas.Formula.{positions_of};
 ghost use Rattle.lk_model.specs.Formulas.Lean.{are_positions};
-ghost use Rattle.kernel_laws.specs.Matching.MatchingResults.{IsMatchingResult};
+ghost use Rattle.matching_laws.specs.MatchingResults.{IsMatchingResult};
 ghost use Rattle.autarky_compose.specs.JoinedMatching.{AreMatchingResults};
 
+use crate::copied::matching_of_part;
 use autarky_compose::join_matching;
 use lk_model::{Formula, List, MatchingResult, OutOfMemory};
 use matching_kernel::matching_kernel;
 use par_parts::{Gate, map_halves, part_groups};
-use part_matching::matching_of_part;
 use std::alloc::Global;
 use std::marker::Sync;
 use std::thread::Threads;

@@ -11,7 +11,7 @@ use std::alloc::Global;
 
 /// The assignment of the variables from 1 to n, of which there are 1,000,000 at most, that makes these
 /// literals true and sets no other variable. Their variables rise, as those of a set line do. It takes the
-/// memory of the result alone, and the error is want of it.
+/// memory of the result alone, and fails only if memory runs out.
 pub fn assignment_of(alloc: Global, n: u32, literals: &[Lit]) -> Result<Partial, OutOfMemory>
     requires few { n ≤ 1000000 }
     requires rising { IsTrue (rises_within 0 n (map variable literals.now)) }

@@ -64,7 +64,8 @@ out_by_counts b h = grind (arith, nat_tests)
 stays_by_counts : (a x b : ℕ) → a ≢ 0 → x ≢ 0 → ((nat_lt 0 x && nat_eq b 0) || (nat_lt 0 b && nat_eq x 0)) ≡ ((nat_lt 0 a && nat_eq b 0) || (nat_lt 0 b && nat_eq a 0))
 stays_by_counts a x b g h = grind (arith, nat_tests)
 
--- The variables are known as before where a write at a literal lowers no other one, and its own is told.
+-- The variables are known as before where a write at a literal lowers no other one, and what it makes of its own is
+-- known.
 Lone-written : (n : ℕ) (counts : List ℕ) (next : ℕ) (back after : List ℕ) (l : ℤ) (x : ℕ) → AreLone n counts next back → ((v : ℕ) → Contains after v → (0 < v) × (v < next)) → ((v : ℕ) → Contains back v → Contains after v)
     → (variable l < next → is_lone_variable (slice_set counts (rank_of l) x) (variable l) ≡ true → Contains after (variable l)) → AreLone n (slice_set counts (rank_of l) x) next after
 Lone-written n counts next back after l x a within more here = record {

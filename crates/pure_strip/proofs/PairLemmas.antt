@@ -12,9 +12,9 @@ use Rattle.lk_model.specs.Formulas.Formula.{Cnf, clause_at, positions_of, litera
 use Rattle.lk_model.specs.Formulas.PureRun.{least_pure, least_with}
 use Rattle.lk_model.specs.declared.document.Pair.{Pair}
 use Rattle.lk_model.proofs.Literals.{variable_negative}
-use Rattle.kernel_laws.proofs.Pure.PureLiterals.{both_signs}
 use Rattle.kernel_laws.proofs.Clauses.{mentions_or}
 use Rattle.kernel_laws.proofs.Tests.{any_or, any_same}
+use Rattle.pure_laws.proofs.PureLiterals.{both_signs}
 use Rattle.pure_strip.specs.Live.{is_live}
 use Rattle.occurrence_lists.specs.Occurrences.{AreOccurrences}
 use Rattle.occurrence_lists.proofs.FirstPositions.{filter-up_to-more}
@@ -69,11 +69,11 @@ pairs-add F ps n w a pairs none lt is with_is against_is =
 pairs-same : (F : Cnf) (ps : List ℕ) (n : ℕ) → variable_occurs F ps (n + 1) ≡ false → pairs_to F ps n ≡ pairs_to F ps (n + 1)
 pairs-same F ps n absent = sym (pairs_more F ps n ∙ ap (λ (b : Bool). pairs_to F ps n ++ map (pair_of F ps) (cond b ((n + 1) ∷ []) [])) absent ∙ append-nil (pairs_to F ps n))
 
--- one variable more, that no clause holds
+-- one variable more, that no clause contains
 pub pairs-without_variable : (F : Cnf) (ps : List ℕ) (n : ℕ) → least_pure F ps ≡ None → n < F.vars → least_with F ps (pos (n + 1)) ≡ None → pairs_to F ps n ≡ pairs_to F ps (n + 1)
 pairs-without_variable F ps n none lt e = pairs-same F ps n ((occurs_with F ps (n + 1) none (omega arith) (omega arith)).0 ∙ ap (λ (o : Option ℕ). is_some o) e)
 
--- one variable more, whose complement no clause holds
+-- one variable more, whose complement no clause contains
 pub pairs-without_complement : (F : Cnf) (ps : List ℕ) (n : ℕ) → least_pure F ps ≡ None → n < F.vars → least_with F ps (neg_ℤ (pos (n + 1))) ≡ None → pairs_to F ps n ≡ pairs_to F ps (n + 1)
 pairs-without_complement F ps n none lt e = pairs-same F ps n ((occurs_with F ps (n + 1) none (omega arith) (omega arith)).1 ∙ ap (λ (o : Option ℕ). is_some o) e)
 
@@ -81,7 +81,7 @@ pairs-without_complement F ps n none lt e = pairs-same F ps n ((occurs_with F ps
 pub listed : (F : Cnf) (table : List (List ℕ)) (l : ℤ) (list : List ℕ) → AreOccurrences F table → is_literal F.vars l ≡ true → list ≡ get_or table (rank_of l) [] → list ≡ filter (λ p. contains (clause_at F p) l) (positions_of F)
 listed F table l list holders lit read = read ∙ holders.held l lit
 
--- they are positions, and the first live one of them is the least live position whose clause holds the literal
+-- they are positions, and the first live one of them is the least live position whose clause contains the literal
 pub record IsListed (F : Cnf) (live : List Bool) (l : ℤ) (list : List ℕ) : Type 0 where
   pub within : All (λ p. (0 < p) × (p ≤ length live)) list
   pub first : find (is_live live) list ≡ least_with F (filter (is_live live) (positions_of F)) l

@@ -15,8 +15,8 @@ use Rattle.lk_model.proofs.Booleans.{and_true, or_true, or_left, or_right}
 use Rattle.lk_model.proofs.Literals.{complement_literal, variable_negative}
 use Rattle.lk_model.proofs.Counting.{among-filter}
 use Rattle.kernel_laws.proofs.Clauses.{mentions_of}
-use Rattle.kernel_laws.proofs.Pure.PureLiterals.{no_complement, least_is_pure, mentions_is, touches_more}
 use Rattle.kernel_laws.proofs.Occurrences.{in_positions}
+use Rattle.pure_laws.proofs.PureLiterals.{no_complement, least_is_pure, mentions_is, touches_more}
 use Rattle.pure_strip.specs.Counted.{Counted, count_of, is_lone, least_lone}
 use Rattle.pure_strip.specs.Live.{is_live, AreCounted, AreUntouched, GoDown}
 use Rattle.pure_strip.proofs.Selections.{count_by-filter, any_by_count, none_by_count, filter-agree, length-filter-lt}

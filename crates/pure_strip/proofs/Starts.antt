@@ -10,7 +10,7 @@ use Rattle.lk_model.specs.Formulas.Formula.{Cnf, clause_at, positions_of}
 use Rattle.lk_model.specs.Formulas.PureRun.{untouched}
 use Rattle.lk_model.proofs.Booleans.{and_true}
 use Rattle.lk_model.proofs.Ranks.{rank_small}
-use Rattle.kernel_laws.proofs.Pure.PureLiterals.{touches_none}
+use Rattle.pure_laws.proofs.PureLiterals.{touches_none}
 use Rattle.occurrence_lists.specs.Occurrences.{AreOccurrences}
 use Rattle.pure_strip.specs.Counted.{Counted, count_of}
 use Rattle.pure_strip.specs.Live.{is_live, AreCounted, AreUntouched}

@@ -100,7 +100,7 @@ live-down live p low high = get_or-set_same live (p - 1) false false (omega (ari
 pub live-other : (live : List Bool) (p k : ℕ) → 0 < p → 0 < k → k ≢ p → is_live (slice_set live (p - 1) false) k ≡ is_live live k
 live-other live p k low pos other = get_or-set_other live (p - 1) (k - 1) false false (λ e. other (omega (arith, low, pos, e)))
 
--- a live clause that is touched is one holder less of its literals
+-- once a live clause is touched, one live clause less contains each of its literals
 pub holders-less : (F : Cnf) (live : List Bool) (p : ℕ) (l : ℤ) → length live ≡ length F.clauses → 0 < p → p ≤ length F.clauses → is_live live p ≡ true
     → holder_count F live l ≡ holder_count F (slice_set live (p - 1) false) l + weight (contains (clause_at F p) l)
 holders-less F live p l size low high up =

@@ -1,4 +1,4 @@
--- How many clauses hold each literal, and the variables that occur in one sign only.
+-- How many clauses contain each literal, and the variables that occur in one sign only.
 use Rattle.std.specs.Prelude.{◌≡◌, ◌≤◌, ◌<◌, ℕ, if◌then◌else◌, IsTrue, ◌+◌, ◌*◌, ◌-◌, Bool, ◌&&◌, ◌||◌, ◌==◌, nat_lt, List, [], ◌∷◌, length, Contains, ℤ, pos, neg_ℤ, slice_index, slice_set, Option, Some, None, find}
 use Rattle.lk_model.specs.Formulas.Literal.{complement, rank_of, is_literal, contains as holds}
 use Rattle.lk_model.specs.Formulas.PureRun.{literals_to}

@@ -11,11 +11,11 @@ use Rattle.pure_strip.specs.Counted.{Counted, count_of}
 abbrev pub is_live : List Bool → ℕ → Bool
 is_live live p = slice_index_or live (p - 1) false
 
--- how many of the live clauses hold the literal
+-- how many of the live clauses contain the literal
 abbrev pub holder_count : Cnf → List Bool → ℤ → ℕ
 holder_count F live l = count_by (λ p. is_live live p && contains (clause_at F p) l) (positions_of F)
 
--- each count is that of the live clauses that hold the literal
+-- each count is that of the live clauses that contain the literal
 pub record AreCounted (F : Cnf) (live : List Bool) (c : Counted) : Type 0 where
   pub size : length live ≡ length F.clauses
   pub vars : c.vars ≡ F.vars

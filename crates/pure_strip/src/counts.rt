@@ -1,4 +1,4 @@
-//! How many clauses hold each literal.
+//! How many clauses contain each literal.
 ghost use Rattle.std.specs.Prelude.{◌≡◌, ◌+◌, ◌*◌, ◌<◌, ◌≤◌, ℕ, length, Contains, IfSome, IfNone, OnOk, OnErr, IsTrue};
 ghost use Rattle.std.specs.Prelude.{Some, None, false};
 ghost use Rattle.lk_model.specs.Formulas.Literal.{is_literal};
@@ -10,7 +10,7 @@ use lk_model::{Lit, LitTable, OutOfMemory};
 use std::alloc::Global;
 use std::marker::Model;
 
-/// How many of some clauses hold each literal over the variables from 1 to n. Beside the numbers there
+/// How many of some clauses contain each literal over the variables from 1 to n. Beside the numbers there
 /// stands where the variables that occur in one sign only are, so that the least of them is found at once:
 /// each is at least `next`, or it came to be one once `next` had passed it, and stands in `back`.
 #[derive(Drop)]
@@ -46,7 +46,7 @@ impl Counts {
         }
     }
 
-    /// Counts one clause less that holds the literal. Without memory nothing changes.
+    /// Counts one clause less that contains the literal. Without memory nothing changes.
     pub fn lower(&mut self, l: Lit) -> Result<(), OutOfMemory>
         requires literal { IsTrue (is_literal self.old.vars l) }
         requires held { 0 < count_of self.old.counts l }

@@ -4,7 +4,7 @@ ghost use Rattle.lk_model.specs.Formulas.Lean.{are_positions};
 ghost use Rattle.lk_model.specs.Formulas.Assignment.{assignment_of};
 ghost use Rattle.lk_model.specs.Formulas.Crossed.{no_variable};
 ghost use Rattle.lk_model.specs.Formulas.PureRun.{IsPureRun, untouched, least_pairs};
-ghost use Rattle.lk_model.specs.Reduction.{ReducesBy};
+ghost use Rattle.lk_model.specs.Formulas.Protected.{ReducesBy};
 ghost use Rattle.lk_model.specs.declared.class.Class.TheVariants.{Pure};
 
 use crate::pairs::{live_positions, pairs_of};

@@ -4,7 +4,7 @@
 //! again: a literal whose complement occurs nowhere is made true, and the clauses that it touches go.
 //!
 //! Here the least variable is taken each time, so the order is determined. Each clause knows whether it was touched,
-//! each literal how many untouched clauses hold it. The variables are gone through once, and one that is left in one
+//! each literal how many untouched clauses contain it. The variables are gone through once, and one that is left in one
 //! sign after it was passed waits in a heap (`counts`): no step goes through the formula.
 ghost use Rattle.std.specs.Prelude.{◌≡◌, ◌<◌, ◌≤◌, [], length, replicate, slice_set, true, false, IfOk, OnOk, IsTrue};
 ghost use Rattle.std.specs.Prelude.{All, ◌-◌, ◌+◌, ◌*◌};

@@ -3,11 +3,11 @@ use Rattle.std.proofs.Common.{◌≡◌, ℕ, ◌∙◌, List, refl, sym, ap, su
 use Rattle.std.specs.Prelude.{IsTrue}
 use Rattle.std.specs.List.{list_all}
 use Rattle.lk_model.specs.Formulas.Formula.{Cnf, is_formula, IsWithinLimits, positions_of, clauses_at}
-use Rattle.lk_model.specs.Formulas.Crossed.{protected_by}
+use Rattle.lk_model.specs.Formulas.Crossed.{protected_by, protect_line_of}
 use Rattle.lk_model.specs.Formulas.Lean.{are_positions}
 use Rattle.lk_model.specs.Documents.Form.{is_protect_line, is_stage}
 use Rattle.lk_model.specs.Documents.Text.{text_of}
-use Rattle.lk_model.specs.Reduction.{Reduces, protect_line_of, WritesReduction}
+use Rattle.lk_model.specs.Reduction.{Reduces, WritesReduction}
 use Rattle.lk_model.specs.declared.class.Class.{Class}
 use Rattle.lk_model.specs.declared.class.Class.TheVariants as class
 use Rattle.lk_model.specs.declared.document.Body.TheVariants.{Pure, Matching, Linear, General}
@@ -19,16 +19,16 @@ use Rattle.lk_model.specs.declared.result.LinearResult.{LinearResult}
 use Rattle.lk_model.specs.declared.result.GeneralResult.{GeneralResult}
 use Rattle.lk_model.specs.Linear.LinearRun.{RunDone, linear_run}
 use Rattle.lk_model.proofs.Crossings.{formula_form}
-use Rattle.kernel_laws.specs.Pure.PureResults.{IsPureResult, IsSetLine, pure_document}
-use Rattle.kernel_laws.specs.General.GeneralResults.{IsGeneralResult}
-use Rattle.kernel_laws.specs.Matching.MatchingResults.{IsMatchingResult, set_line}
-use Rattle.kernel_laws.specs.Protected.FoundLaw.{rest_of, written_for}
-use Rattle.kernel_laws.proofs.Pure.PureResults.{pure_result_law}
-use Rattle.kernel_laws.proofs.Protected.Crossing.{same_count}
-use Rattle.kernel_laws.proofs.Protected.FoundLaws.{found_law, limits_without as limits_left}
-use Rattle.linear_laws.specs.RunLaw.{sign_line, linear_document}
-use Rattle.linear_laws.proofs.RunAccepted.{linear_run_law}
-use Rattle.linear_laws.proofs.RunMoments.{run_ends, left_rises}
+use Rattle.kernel_laws.proofs.Crossing.{same_count}
+use Rattle.pure_laws.specs.PureResults.{IsPureResult, IsSetLine, pure_document}
+use Rattle.pure_laws.proofs.PureResults.{pure_result_law}
+use Rattle.matching_laws.specs.MatchingResults.{IsMatchingResult, set_line}
+use Rattle.general_laws.specs.GeneralResults.{IsGeneralResult}
+use Rattle.linear_run_laws.specs.RunLaw.{sign_line, linear_document}
+use Rattle.linear_run_laws.proofs.RunAccepted.{linear_run_law}
+use Rattle.linear_run_laws.proofs.RunMoments.{run_ends, left_rises}
+use Rattle.document_laws.specs.FoundLaw.{rest_of, written_for}
+use Rattle.document_laws.proofs.FoundLaws.{found_law, limits_without as limits_left}
 use Rattle.part_kernels.specs.ByParts.{IsFoundWhole}
 use Rattle.reductions.specs.Founds.{document_of, IsFoundFor, IsKernelFound, TellsReduction}
 use Rattle.reductions.specs.declared.document.Found.{Found}

@@ -9,16 +9,16 @@ use Rattle.lk_model.specs.declared.document.Document.TheVariants.{Done as Finish
 use Rattle.lk_model.specs.declared.document.DoneDocument.{DoneDocument}
 use Rattle.lk_model.specs.Lists.{among, is_between}
 use Rattle.lk_model.specs.Formulas.Formula.{Cnf, is_formula, IsWithinLimits, variables_to}
-use Rattle.lk_model.specs.Formulas.Crossed.{formula_without, protected_by}
+use Rattle.lk_model.specs.Formulas.Crossed.{formula_without, protected_by, protect_line_of}
 use Rattle.lk_model.specs.Documents.Form.{is_protect_line}
 use Rattle.lk_model.specs.Documents.Text.{text_of}
 use Rattle.lk_model.specs.Held.VariableSets.{is_in}
-use Rattle.lk_model.specs.Reduction.{protect_line_of, WritesReduction}
+use Rattle.lk_model.specs.Reduction.{WritesReduction}
 use Rattle.lk_model.proofs.Booleans.{and_true}
 use Rattle.lk_model.proofs.Counting.{among-range}
 use Rattle.lk_model.proofs.Founds.{filtered_rise}
 use Rattle.lk_model.proofs.VariableLists.{none_in}
-use Rattle.kernel_laws.proofs.Protected.EmptyLaws.{formula_same}
+use Rattle.kernel_laws.proofs.EmptyLaws.{formula_same}
 use Rattle.reductions.specs.Founds.{document_of, TellsReduction}
 use Rattle.reductions.specs.Protecting.{line_of, left_of, IsProblem}
 use Rattle.reductions.specs.declared.document.Found.{Found}

@@ -20,7 +20,7 @@ use Rattle.lk_model.specs.Documents.Form.{is_stage, is_weight}
 use Rattle.lk_model.specs.declared.document.Weight.{Weight}
 use Rattle.lk_model.specs.declared.document.Stage.{Stage}
 use Rattle.lk_model.proofs.Booleans.{and_true}
-use Rattle.linear_laws.specs.RunLaw.{sign_literal}
+use Rattle.linear_run_laws.specs.RunLaw.{sign_literal}
 use Rattle.reductions.specs.SignTables.{weight_literal, AreSigns, NotesSigns}
 use Rattle.matching_kernel.proofs.OwnLiterals.{chosen}
 

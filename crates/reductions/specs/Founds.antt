@@ -1,5 +1,5 @@
 -- What a reducer finds, and the document that tells it.
-use Rattle.std.specs.Prelude.{◌≡◌, ℕ, List, [], length, Option, Ok, IsTrue, ⊤}
+use Rattle.std.specs.Prelude.{◌≡◌, ℕ, List, length, Option, Ok, IsTrue, ⊤}
 use Rattle.lk_model.specs.Formulas.Formula.{Cnf, is_formula, IsWithinLimits, clauses_at}
 use Rattle.lk_model.specs.Formulas.Lean.{are_positions}
 use Rattle.lk_model.specs.Documents.Form.{is_protect_line}
@@ -14,13 +14,14 @@ use Rattle.lk_model.specs.declared.document.Round.{Round}
 use Rattle.lk_model.specs.declared.result.LinearResult.{LinearResult}
 use Rattle.lk_model.specs.Formulas.Crossed.{no_variable}
 use Rattle.lk_model.specs.Chains.Rounds.{AreNeeded}
-use Rattle.kernel_laws.specs.Protected.FoundLaw.{rest_of}
-use Rattle.round_laws.specs.Budgets.{AreWithinBudget}
+use Rattle.document_laws.specs.FoundLaw.{rest_of}
+use Rattle.lk_model.specs.Chains.Budgets.{AreWithinBudget}
 use Rattle.part_kernels.specs.ByParts.{IsFirstUnfinished}
 use Rattle.linear_kernel.specs.Answers.{AnswersRun}
 use Rattle.reductions.specs.declared.document.Found.{Found}
 use Rattle.reductions.specs.declared.find.GeneralStop.{GeneralStop}
 use Rattle.reductions.specs.declared.find.GeneralStop.TheVariants.{Unfinished, OutOfMemory}
+use Rattle.lk_model.specs.Documents.Documents.{rounds_in}
 
 -- the document with this protect line, and with the clauses of the formula at the kept positions
 abbrev pub document_of : Cnf → Option (List ℕ) → Found → DoneDocument
@@ -63,13 +64,6 @@ abbrev pub EndsDone : Cnf → ℕ → Type 0
 EndsDone rest pivots = (r : LinearResult) × AnswersRun rest pivots (Ok r)
 
 -- GENERAL
-
--- the rounds of a general certificate; those of another class have none
-abbrev pub rounds_in : Body → List Round
-rounds_in (body.General rounds) = rounds
-rounds_in (body.Pure order pairs) = []
-rounds_in (body.Matching own rows) = []
-rounds_in (body.Linear stages dual units) = []
 
 -- the general kernel, by rounds of which nothing is needless, with at most so many learned clauses for each part
 pub record IsKernelFound (rest : Cnf) (conflicts : ℕ) (found : Found) : Type 0 where

@@ -2,8 +2,8 @@
 use Rattle.std.specs.Prelude.{◌≡◌, ℕ, List, Option, option_map}
 use Rattle.std.specs.Option.{option_map_or}
 use Rattle.lk_model.specs.Formulas.Formula.{Cnf}
-use Rattle.lk_model.specs.Reduction.{protect_line_of}
-use Rattle.kernel_laws.specs.Protected.FoundLaw.{rest_of}
+use Rattle.lk_model.specs.Formulas.Crossed.{protect_line_of}
+use Rattle.document_laws.specs.FoundLaw.{rest_of}
 use Rattle.reductions.specs.declared.protect.Protection.{Protection}
 use Rattle.reductions.specs.declared.problem.Problem.{Problem}
 

@@ -4,7 +4,7 @@ use Rattle.std.specs.Option.{option_map_or}
 use Rattle.lk_model.specs.Formulas.Literal.{literal_of}
 use Rattle.lk_model.specs.declared.document.Weight.{Weight}
 use Rattle.lk_model.specs.declared.document.Stage.{Stage}
-use Rattle.linear_laws.specs.RunLaw.{sign_literal}
+use Rattle.linear_run_laws.specs.RunLaw.{sign_literal}
 
 -- the literal of a weight, which has its sign
 abbrev pub weight_literal : Weight → ℤ

@@ -6,8 +6,8 @@ ghost use Rattle.lk_model.specs.Documents.Form.{is_stage, is_weight};
 ghost use Rattle.lk_model.specs.Formulas.Formula.{variables_to};
 ghost use Rattle.lk_model.specs.Lists.{rises_within};
 ghost use Rattle.lk_model.specs.declared.document.Weight.{Weight as AWeight};
-ghost use Rattle.kernel_laws.specs.Pure.PureResults.{IsSetLine};
-ghost use Rattle.linear_laws.specs.RunLaw.{sign_literal};
+ghost use Rattle.pure_laws.specs.PureResults.{IsSetLine};
+ghost use Rattle.linear_run_laws.specs.RunLaw.{sign_literal};
 ghost use Rattle.reductions.specs.SignTables.{AreSigns, NotesSigns};
 
 use lk_model::{List, Lit, OutOfMemory, Stage, Weight};

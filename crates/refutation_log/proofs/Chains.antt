@@ -79,7 +79,7 @@ after_turns_same from (t ∷ turns) c d h = at_clause (after_turns_same from tur
     at_clause more (Some e) =
         rw (← h.members t.lit) (resolvent_same t.lit c d e h from turns more (contains c t.lit) (contains e (complement t.lit)) refl (sym (h.members t.lit)))
 
--- A turn that can be made: its number stands for a clause, and the two clauses hold the literal and its complement.
+-- A turn that can be made: its number stands for a clause, and the two clauses contain the literal and its complement.
 pub record IsTurn (from : Premises) (c : List ℤ) (t : Turn) : Type 0 where
   pub other : List ℤ
   pub named : clause_named from t.with ≡ Some other

@@ -13,14 +13,14 @@ use Rattle.lk_model.specs.declared.document.Round.{Round}
 use Rattle.lk_model.specs.declared.result.GeneralResult.{GeneralResult}
 use Rattle.lk_model.proofs.Founds.{option_map-none}
 use Rattle.lk_model.proofs.Lists.{from_mapped}
-use Rattle.kernel_laws.specs.General.JoinLaw.{IsCertified}
-use Rattle.kernel_laws.specs.General.GeneralResults.{IsGeneralResult}
-use Rattle.kernel_laws.proofs.General.Stated.{none_in, find_in}
-use Rattle.kernel_laws.proofs.General.Reaching.{is_misstated}
-use Rattle.kernel_laws.proofs.General.Learning.{is_unlearned}
-use Rattle.kernel_laws.proofs.General.JoinLaws.{misstated_none, none_misstated}
-use Rattle.kernel_laws.proofs.General.Renumbering.{among_renumbered}
-use Rattle.kernel_laws.specs.General.Found.{IsDone, IsUnfinished}
+use Rattle.general_laws.specs.JoinLaw.{IsCertified}
+use Rattle.general_laws.specs.GeneralResults.{IsGeneralResult}
+use Rattle.general_laws.proofs.Stated.{none_in, find_in}
+use Rattle.general_laws.proofs.Reaching.{is_misstated}
+use Rattle.general_laws.proofs.Learning.{is_unlearned}
+use Rattle.general_laws.proofs.JoinLaws.{misstated_none, none_misstated}
+use Rattle.general_laws.proofs.Renumbering.{among_renumbered}
+use Rattle.general_laws.specs.Found.{IsDone, IsUnfinished}
 use Rattle.renaming_laws.proofs.Mapped.{map_twice, rises_by, rises_mapped}
 use Rattle.renaming_laws.proofs.RenamedClauses.{literal_on}
 use Rattle.renaming_laws.proofs.RenamedChains.{round_under, IsCopied, Agrees, misstated_renamed, unlearned_renamed}

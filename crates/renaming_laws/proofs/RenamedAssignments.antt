@@ -4,7 +4,7 @@ use Rattle.std.proofs.lemmas.Bool.{cases_Bool, eqb-true, eqb-false, cond-true, c
 use Rattle.std.proofs.lemmas.List.{length-map}
 use Rattle.lk_model.specs.Formulas.Literal.{variable, complement, contains}
 use Rattle.lk_model.specs.Formulas.Assignment.{Assignment, makes_true, assignment_of, satisfies}
-use Rattle.lk_model.specs.Formulas.Units.{is_false, is_unset, is_unit, is_at_rest, IsUndecided}
+use Rattle.lk_model.specs.Formulas.Units.{is_false, is_unset, is_unit_under, is_at_rest, IsUndecided}
 use Rattle.renaming_laws.proofs.Mapped.{any_mapped, all_mapped, filter_mapped}
 use Rattle.renaming_laws.proofs.RenamedClauses.{Renames, literal_on, contains_renamed}
 
@@ -59,7 +59,7 @@ false_renamed ν new above φ ψ follow c =
 -- unit where that is
 unit_renamed : (ν : ℕ → ℕ) → Renames ν (literal_on ν) → ((k : ℕ) → 0 < ν (suc k)) → (φ ψ : Assignment) → Follows ν φ ψ
     → (c : List ℤ)
-    → is_unit ψ (map (literal_on ν) c) ≡ is_unit φ c
+    → is_unit_under ψ (map (literal_on ν) c) ≡ is_unit_under φ c
 unit_renamed ν new above φ ψ follow c =
     ap (λ (b : Bool). not b && length (filter (is_unset ψ) (map (literal_on ν) c)) == 1)
     (satisfies_renamed ν above φ ψ follow c)
@@ -76,8 +76,8 @@ rest_renamed : (ν : ℕ → ℕ) → Renames ν (literal_on ν) → ((k : ℕ) 
     → (cs : List (List ℤ))
     → is_at_rest ψ (map (map (literal_on ν)) cs) ≡ is_at_rest φ cs
 rest_renamed ν new above φ ψ follow cs =
-    all_mapped (map (literal_on ν)) (λ c. not (is_false ψ c) && not (is_unit ψ c)) (λ c. not (is_false φ c) && not (is_unit φ c))
-    (λ c. ap (λ (b : Bool). not b && not (is_unit ψ (map (literal_on ν) c))) (false_renamed ν new above φ ψ follow c)
+    all_mapped (map (literal_on ν)) (λ c. not (is_false ψ c) && not (is_unit_under ψ c)) (λ c. not (is_false φ c) && not (is_unit_under φ c))
+    (λ c. ap (λ (b : Bool). not b && not (is_unit_under ψ (map (literal_on ν) c))) (false_renamed ν new above φ ψ follow c)
     ∙ ap (λ (b : Bool). not (is_false φ c) && not b) (unit_renamed ν new above φ ψ follow c)) cs
 
 -- AN ASSIGNMENT THAT FOLLOWS

@@ -13,11 +13,11 @@ use Rattle.lk_model.specs.Chains.Rounds.{StepAt}
 use Rattle.lk_model.specs.declared.document.Turn.{Turn}
 use Rattle.lk_model.specs.declared.document.Step.{Step}
 use Rattle.lk_model.specs.declared.document.Round.{Round}
-use Rattle.kernel_laws.proofs.General.Numbering.{premises_in, clause_of}
-use Rattle.kernel_laws.proofs.General.Stated.{step_at, NoneOf}
-use Rattle.kernel_laws.proofs.General.Reaching.{is_misstated}
-use Rattle.kernel_laws.proofs.General.Learning.{is_unlearned}
-use Rattle.kernel_laws.proofs.General.Renumbering.{among_renumbered}
+use Rattle.general_laws.proofs.Numbering.{premises_in, clause_of}
+use Rattle.general_laws.proofs.Stated.{step_at, NoneOf}
+use Rattle.general_laws.proofs.Reaching.{is_misstated}
+use Rattle.general_laws.proofs.Learning.{is_unlearned}
+use Rattle.general_laws.proofs.Renumbering.{among_renumbered}
 use Rattle.renaming_laws.proofs.Mapped.{any_mapped, find_mapped, empty_mapped}
 use Rattle.renaming_laws.proofs.RenamedClauses.{Renames, within_renamed, same_set_renamed, tautology_renamed, crossed_renamed, resolvent_renamed}
 

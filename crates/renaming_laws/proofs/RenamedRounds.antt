@@ -15,8 +15,8 @@ use Rattle.lk_model.specs.declared.document.Round.{Round}
 use Rattle.lk_model.proofs.Rising.{range_rises}
 use Rattle.lk_model.proofs.Counting.{among-range}
 use Rattle.lk_model.proofs.Lists.{from_mapped}
-use Rattle.kernel_laws.proofs.General.Stated.{step_at, NoneIn}
-use Rattle.kernel_laws.proofs.General.Renumbering.{among_renumbered}
+use Rattle.general_laws.proofs.Stated.{step_at, NoneIn}
+use Rattle.general_laws.proofs.Renumbering.{among_renumbered}
 use Rattle.renaming_laws.proofs.Mapped.{filter_mapped, empty_mapped, map_twice, flat_mapped, rises_mapped, only_these}
 use Rattle.renaming_laws.proofs.RenamedClauses.{variables_renamed}
 use Rattle.renaming_laws.proofs.RenamedChains.{turn_under, step_under, round_under, IsCopied, Agrees, crossed_copied, none_renamed}

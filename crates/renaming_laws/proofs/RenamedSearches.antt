@@ -9,7 +9,7 @@ use Rattle.lk_model.specs.Chains.Rounds.{reached, blocked_after, is_trimmed, Are
 use Rattle.lk_model.specs.Chains.Searches.{crossed_clauses_of, searched, WantsMore}
 use Rattle.lk_model.specs.declared.document.Step.{Step}
 use Rattle.lk_model.specs.declared.document.Round.{Round}
-use Rattle.kernel_laws.proofs.General.Renumbering.{among_renumbered}
+use Rattle.general_laws.proofs.Renumbering.{among_renumbered}
 use Rattle.renaming_laws.proofs.Mapped.{all_mapped, filter_mapped, empty_mapped, map_twice}
 use Rattle.renaming_laws.proofs.RenamedClauses.{literal_on}
 use Rattle.renaming_laws.proofs.RenamedChains.{step_under, round_under, IsCopied, Agrees, crossed_copied}

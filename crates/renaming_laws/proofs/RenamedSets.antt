@@ -7,7 +7,7 @@ use Rattle.lk_model.specs.Formulas.Crossed.{Variables}
 use Rattle.lk_model.proofs.Booleans.{or_true, or_left, or_right}
 use Rattle.lk_model.proofs.Variables.{occurs, position_with}
 use Rattle.lk_model.proofs.Lists.{from_mapped}
-use Rattle.kernel_laws.specs.General.Found.{has_only, covered}
+use Rattle.general_laws.specs.Found.{has_only, covered}
 use Rattle.renaming_laws.proofs.Mapped.{any_mapped, all_mapped, filter_mapped}
 use Rattle.renaming_laws.proofs.RenamedClauses.{Renames, mentions_renamed}
 use Rattle.renaming_laws.proofs.RenamedChains.{IsCopied, Agrees}

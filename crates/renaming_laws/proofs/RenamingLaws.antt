@@ -1,4 +1,5 @@
--- What is found in all of a formula that has a part's clauses is, told in the numbers of the whole formula, found in the part.
+-- What is found in all of a formula that has a part's clauses is, translated to the whole formula's numbers, found in
+-- the part.
 use Rattle.std.proofs.Common.{◌≡◌, ℕ, ◌+◌, ◌^◌, ◌<◌, ◌≤◌, ◌∙◌, true, None, List, [], ◌∷◌, refl, sym, ap, subst, map, length, arith}
 use Rattle.std.specs.List.{list_all}
 use Rattle.std.proofs.lemmas.Bool.{and_from}
@@ -10,15 +11,14 @@ use Rattle.lk_model.specs.Formulas.Lean.{are_positions}
 use Rattle.lk_model.specs.Formulas.Crossed.{no_variable}
 use Rattle.lk_model.specs.Documents.Documents.{steps_of}
 use Rattle.lk_model.specs.Documents.Form.{counts_from, is_step, is_whole, are_steps}
-use Rattle.lk_model.specs.Checks.RoundChecks.{bad_step, learned_steps}
+use Rattle.lk_model.specs.Checks.RoundChecks.{bad_step, learned_steps, IsRefutation}
 use Rattle.lk_model.specs.Chains.Rounds.{AreNeeded}
-use Rattle.kernel_laws.specs.General.RefutationLaw.{IsRefutation}
 use Rattle.lk_model.specs.declared.document.Step.{Step}
 use Rattle.lk_model.specs.declared.document.Round.{Round}
 use Rattle.lk_model.specs.declared.result.GeneralResult.{GeneralResult}
 use Rattle.lk_model.proofs.Booleans.{and_true}
 use Rattle.lk_model.proofs.Rising.{rising_count}
-use Rattle.kernel_laws.specs.General.Found.{IsDone, IsUnfinished}
+use Rattle.general_laws.specs.Found.{IsDone, IsUnfinished}
 use Rattle.renaming_laws.specs.Renaming.{nth, named, renamed_round, renamed_result, IsDense, RenamingLaw}
 use Rattle.renaming_laws.proofs.RenamedClauses.{literal_on}
 use Rattle.renaming_laws.proofs.Copies.{variable_in, place_in, part_length, copied, in_order, part_copied}

@@ -1,4 +1,4 @@
--- Numbers told anew by a list that rises: the first ones by what stands there, those past it behind all others.
+-- Numbers told anew by a list that rises: the first ones by what stands there, those past it after all others.
 use Rattle.std.proofs.Common.{◌≡◌, ℕ, zero, suc, ◌+◌, ◌-◌, ◌<◌, ◌≤◌, true, cond, nat_lt, nat_le, List, [], ◌∷◌, refl, sym, ◌∙◌, ap, inl, inr, length, get_or, arith}
 use Rattle.std.proofs.lemmas.Bool.{cases_Bool, lt-ltb, le-ltb, ltb-true, ltb-false, leb-true, leb-false, cond-true, cond-false}
 use Rattle.lk_model.specs.Lists.{rises_within}

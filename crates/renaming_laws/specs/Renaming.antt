@@ -8,14 +8,13 @@ use Rattle.lk_model.specs.Formulas.Lean.{are_positions}
 use Rattle.lk_model.specs.Formulas.Crossed.{no_variable}
 use Rattle.lk_model.specs.Documents.Documents.{steps_of}
 use Rattle.lk_model.specs.Documents.Form.{are_steps}
-use Rattle.lk_model.specs.Checks.RoundChecks.{learned_steps}
+use Rattle.lk_model.specs.Checks.RoundChecks.{learned_steps, IsRefutation}
 use Rattle.lk_model.specs.Chains.Rounds.{AreNeeded}
-use Rattle.kernel_laws.specs.General.RefutationLaw.{IsRefutation}
 use Rattle.lk_model.specs.declared.document.Turn.{Turn}
 use Rattle.lk_model.specs.declared.document.Step.{Step}
 use Rattle.lk_model.specs.declared.document.Round.{Round}
 use Rattle.lk_model.specs.declared.result.GeneralResult.{GeneralResult}
-use Rattle.kernel_laws.specs.General.Found.{IsDone, IsUnfinished}
+use Rattle.general_laws.specs.Found.{IsDone, IsUnfinished}
 
 -- what stands at a place that counts from 1
 abbrev pub nth : List ℕ → ℕ → ℕ
@@ -57,8 +56,9 @@ renamed_result m part names r = record {
   rounds = map (renamed_round m part names) r.rounds;
 }
 
--- What is found in all of G is, told in the numbers of F, what is found in the part. The numbers of the steps have 64 bits.
--- So it is with a refutation of all of G, with rounds of which nothing is needless, and with the number of learned clauses.
+-- What is found in all of G is, translated to the numbers of F, what is found in the part. The numbers of the steps
+-- have 64 bits. So it is with a refutation of all of G, with rounds of which nothing is needless, and with the number
+-- of learned clauses.
 pub record RenamingLaw : Type 0 where
   pub done : (F G : Cnf) (part names : List ℕ) (conflicts : ℕ) (r : GeneralResult) → IsTrue (is_formula F) → IsTrue (are_positions F part)
       → IsDense F part names G → length F.clauses + length (steps_of r.rounds) < 2 ^ 64

@@ -10,13 +10,13 @@ use Rattle.lk_model.specs.Chains.Searches.{searched, WantsMore}
 use Rattle.lk_model.specs.declared.document.Step.{Step}
 use Rattle.lk_model.specs.declared.document.Round.{Round}
 use Rattle.lk_model.proofs.Booleans.{and_true}
-use Rattle.kernel_laws.specs.Protected.FoundLaw.{rest_of}
-use Rattle.kernel_laws.proofs.Protected.Crossing.{occurs_without}
-use Rattle.kernel_laws.proofs.Protected.Rounds.{together, crossed_same, blocked_same, progress_same}
-use Rattle.kernel_laws.proofs.Protected.CheckLaws.{check_law}
-use Rattle.kernel_laws.proofs.Protected.EmptyLaws.{empty_law}
-use Rattle.kernel_laws.proofs.Protected.Parts.{run_law}
-use Rattle.round_laws.specs.Budgets.{AreLearnedWithin, AreWithinBudget}
+use Rattle.kernel_laws.proofs.Crossing.{occurs_without}
+use Rattle.kernel_laws.proofs.EmptyLaws.{empty_law}
+use Rattle.document_laws.specs.FoundLaw.{rest_of}
+use Rattle.document_laws.proofs.Rounds.{together, crossed_same, blocked_same, progress_same}
+use Rattle.document_laws.proofs.ProtectedCheckLaws.{protected_check_law}
+use Rattle.document_laws.proofs.Parts.{run_law}
+use Rattle.lk_model.specs.Chains.Budgets.{AreLearnedWithin, AreWithinBudget}
 
 -- NEEDED
 
@@ -34,7 +34,7 @@ learned_outside P F conflicts [] [] h = tt
 learned_outside P F conflicts [] (piece ∷ pieces) h = absurd h
 learned_outside P F conflicts (part ∷ parts) [] h = absurd h
 learned_outside P F conflicts (part ∷ parts) (piece ∷ pieces) h =
-    (check_law.names P F part piece ∙ h.0, h.1, learned_outside P F conflicts parts pieces h.2)
+    (protected_check_law.names P F part piece ∙ h.0, h.1, learned_outside P F conflicts parts pieces h.2)
 
 pub budget_outside : (F : Cnf) (conflicts : ℕ) (protect : Option (List ℕ)) (rounds : List Round)
     → AreWithinBudget no_variable (rest_of F protect) conflicts rounds → AreWithinBudget (protected_by protect) F conflicts rounds

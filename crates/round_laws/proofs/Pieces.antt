@@ -11,14 +11,15 @@ use Rattle.lk_model.specs.Documents.Documents.{steps_of}
 use Rattle.lk_model.specs.declared.document.Step.{Step}
 use Rattle.lk_model.specs.declared.document.Round.{Round}
 use Rattle.lk_model.specs.declared.result.GeneralResult.{GeneralResult}
-use Rattle.kernel_laws.specs.General.JoinLaw.{renumbered, renumbered_round, moved, joined}
-use Rattle.kernel_laws.specs.General.GeneralResults.{AreGeneralResults, all_joined}
-use Rattle.kernel_laws.proofs.General.Renumbering.{IsRenumbering, among_renumbered, names_renumbered}
-use Rattle.kernel_laws.proofs.General.Carrying.{NamesIn, names_more, names_of_rounds}
-use Rattle.kernel_laws.proofs.General.JoinLaws.{steps_joined, misstated_none, move}
-use Rattle.kernel_laws.proofs.General.OpenResults.{steps_pass}
-use Rattle.kernel_laws.proofs.Protected.EmptyLaws.{empty_law}
-use Rattle.round_laws.specs.Budgets.{AreLearnedWithin, AreWithinBudget, AreFinished}
+use Rattle.kernel_laws.proofs.EmptyLaws.{empty_law}
+use Rattle.general_laws.specs.JoinLaw.{renumbered, renumbered_round, moved, joined}
+use Rattle.general_laws.specs.GeneralResults.{AreGeneralResults, all_joined}
+use Rattle.general_laws.proofs.Renumbering.{IsRenumbering, among_renumbered, names_renumbered}
+use Rattle.general_laws.proofs.Carrying.{NamesIn, names_more, names_of_rounds}
+use Rattle.general_laws.proofs.JoinLaws.{steps_joined, misstated_none, move}
+use Rattle.general_laws.proofs.OpenResults.{steps_pass}
+use Rattle.round_laws.specs.Budgets.{AreFinished}
+use Rattle.lk_model.specs.Chains.Budgets.{AreLearnedWithin, AreWithinBudget}
 
 -- THE PIECES
 

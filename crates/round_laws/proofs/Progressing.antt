@@ -1,4 +1,4 @@
--- Rounds of a part that come behind those of parts with no common variable block as much as alone.
+-- Rounds of a part that come after those of parts with no common variable block as much as alone.
 use Rattle.std.proofs.Common.{◌≡◌, ℕ, ◌≤◌, true, false, not, ◌&&◌, ◌||◌, List, [], ◌∷◌, ◌++◌, refl, sym, ◌∙◌, ap, ◌⊎◌, inl, inr, map, length, subst, arith}
 use Rattle.std.proofs.lemmas.Bool.{both_ways, and_from, false_from_ne_true}
 use Rattle.lk_model.specs.Lists.{among, is_empty}
@@ -10,16 +10,16 @@ use Rattle.lk_model.specs.Documents.Documents.{steps_of}
 use Rattle.lk_model.specs.declared.document.Round.{Round}
 use Rattle.lk_model.specs.declared.result.GeneralResult.{GeneralResult}
 use Rattle.lk_model.proofs.Booleans.{and_true, or_true, or_left, or_right}
-use Rattle.kernel_laws.specs.General.JoinLaw.{renumbered, renumbered_round, moved, joined}
-use Rattle.kernel_laws.specs.General.GeneralResults.{all_joined}
 use Rattle.kernel_laws.proofs.Clauses.{from_filtered}
 use Rattle.kernel_laws.proofs.Occurrences.{occurs_here, occurs_more}
-use Rattle.kernel_laws.proofs.General.Numbering.{AreRising, first_rise, rest_rise}
-use Rattle.kernel_laws.proofs.General.Blocking.{used_at}
-use Rattle.kernel_laws.proofs.General.Renumbering.{IsRenumbering, among_renumbered, reached_renumbered, refutation_renumbered}
-use Rattle.kernel_laws.proofs.General.Carrying.{NamesIn, names_first, names_rest, names_of_rounds, reached_in, AgreeOn, variables_carried, agree_after_round}
-use Rattle.kernel_laws.proofs.General.JoinLaws.{blocked_joined, rising, misstated_none, move}
-use Rattle.kernel_laws.proofs.General.PartResults.{occurs_in, AreApart}
+use Rattle.general_laws.specs.JoinLaw.{renumbered, renumbered_round, moved, joined}
+use Rattle.general_laws.specs.GeneralResults.{all_joined}
+use Rattle.general_laws.proofs.Numbering.{AreRising, first_rise, rest_rise}
+use Rattle.general_laws.proofs.Blocking.{used_at}
+use Rattle.general_laws.proofs.Renumbering.{IsRenumbering, among_renumbered, reached_renumbered, refutation_renumbered}
+use Rattle.general_laws.proofs.Carrying.{NamesIn, names_first, names_rest, names_of_rounds, reached_in, AgreeOn, variables_carried, agree_after_round}
+use Rattle.general_laws.proofs.JoinLaws.{blocked_joined, rising, misstated_none, move}
+use Rattle.general_laws.proofs.PartResults.{occurs_in, AreApart}
 use Rattle.round_laws.specs.Budgets.{AreFinished}
 
 -- ONE AFTER ANOTHER
@@ -93,7 +93,7 @@ own_carried F f P c low (r ∷ rounds) new past rising names v e =
 
 -- ALL PARTS
 
--- Rounds with progress that block no variable of some parts have it with the rounds of these parts behind them.
+-- Rounds with progress that block no variable of some parts have it with the rounds of these parts after them.
 pub all_progress : (F : Cnf) (conflicts : ℕ) (rs : List Round) (parts : List (List ℕ)) (found : List GeneralResult)
     → has_progress F no_variable rs ≡ true
     → ((v : ℕ) → occurs_in F parts v ≡ true → blocked_after F no_variable rs v ≡ false) → AreApart F parts

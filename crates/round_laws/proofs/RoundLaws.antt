@@ -6,8 +6,8 @@ use Rattle.lk_model.specs.Formulas.Parts.{AreParts}
 use Rattle.lk_model.specs.Chains.Rounds.{blocked_after, has_progress, AreNeeded}
 use Rattle.lk_model.specs.declared.document.Round.{Round}
 use Rattle.lk_model.specs.declared.result.GeneralResult.{GeneralResult}
-use Rattle.kernel_laws.specs.General.GeneralResults.{all_joined}
-use Rattle.kernel_laws.proofs.General.PartResults.{parts_apart}
+use Rattle.general_laws.specs.GeneralResults.{all_joined}
+use Rattle.general_laws.proofs.PartResults.{parts_apart}
 use Rattle.round_laws.specs.Budgets.{AreFinished}
 use Rattle.round_laws.specs.RoundLaw.{RoundLaw}
 use Rattle.round_laws.proofs.Trimmed.{all_trimmed}

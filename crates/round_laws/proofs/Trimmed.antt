@@ -10,10 +10,10 @@ use Rattle.lk_model.specs.Documents.Documents.{steps_of}
 use Rattle.lk_model.specs.declared.document.Step.{Step}
 use Rattle.lk_model.specs.declared.document.Round.{Round}
 use Rattle.lk_model.specs.declared.result.GeneralResult.{GeneralResult}
-use Rattle.kernel_laws.specs.General.JoinLaw.{renumbered, renumbered_round, moved, joined}
-use Rattle.kernel_laws.specs.General.GeneralResults.{all_joined}
-use Rattle.kernel_laws.proofs.General.JoinLaws.{move}
-use Rattle.kernel_laws.proofs.General.Renumbering.{among_renumbered, reached_renumbered}
+use Rattle.general_laws.specs.JoinLaw.{renumbered, renumbered_round, moved, joined}
+use Rattle.general_laws.specs.GeneralResults.{all_joined}
+use Rattle.general_laws.proofs.JoinLaws.{move}
+use Rattle.general_laws.proofs.Renumbering.{among_renumbered, reached_renumbered}
 use Rattle.round_laws.specs.Budgets.{AreFinished}
 
 -- steps stand in a list of numbers where they do so by new ones
@@ -35,7 +35,7 @@ pub all_renumbered : (f : ℕ → ℕ) → ((a b : ℕ) → (f a == f b) ≡ (a 
 all_renumbered f same [] = refl
 all_renumbered f same (r ∷ rounds) = λ i. trimmed_renumbered f same r i && all_renumbered f same rounds i
 
--- rounds that are trimmed, with those of trimmed results behind them
+-- rounds that are trimmed, with those of trimmed results after them
 pub all_trimmed : (F : Cnf) (conflicts : ℕ) (rs : List Round) (parts : List (List ℕ)) (found : List GeneralResult)
     → list_all is_trimmed rs ≡ true
     → AreFinished F conflicts parts found → list_all is_trimmed (all_joined F rs found) ≡ true

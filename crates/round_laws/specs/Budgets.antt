@@ -1,29 +1,11 @@
--- How many clauses are learned in each part of a formula.
-use Rattle.std.specs.Prelude.{◌≡◌, ℕ, ◌≤◌, List, [], ◌∷◌, ⊤, length, IsTrue}
-use Rattle.std.specs.List.{flat_map}
+-- Parts of a formula that are finished by so many learned clauses.
+use Rattle.std.specs.Prelude.{ℕ, ◌≤◌, List, [], ◌∷◌, ⊤, length}
 use Rattle.lk_model.specs.Formulas.Formula.{Cnf}
 use Rattle.lk_model.specs.Formulas.Crossed.{Variables, no_variable, formula_without}
-use Rattle.lk_model.specs.Formulas.Parts.{ArePartsUnder}
-use Rattle.lk_model.specs.Chains.Rounds.{names_within, AreNeeded}
+use Rattle.lk_model.specs.Chains.Rounds.{AreNeeded}
 use Rattle.lk_model.specs.Checks.RoundChecks.{learned_steps}
-use Rattle.lk_model.specs.declared.document.Round.{Round}
 use Rattle.lk_model.specs.declared.result.GeneralResult.{GeneralResult}
-use Rattle.kernel_laws.specs.General.GeneralResults.{IsGeneralResult}
-
--- one piece of rounds for each part: they name positions of the part alone, and learn at most so many clauses
-abbrev pub AreLearnedWithin : Cnf → ℕ → List (List ℕ) → List (List Round) → Type 0
-AreLearnedWithin F conflicts [] [] = ⊤
-AreLearnedWithin F conflicts (part ∷ parts) (piece ∷ pieces) =
-    IsTrue (names_within F part piece) × (length (learned_steps piece) ≤ conflicts) × AreLearnedWithin F conflicts parts pieces
-AreLearnedWithin F conflicts _ _ = ⊥
-
--- rounds that are those of the parts one after another, each with at most so many learned clauses
-pub record AreWithinBudget (P : Variables) (F : Cnf) (conflicts : ℕ) (rounds : List Round) : Type 0 where
-  pub parts : List (List ℕ)
-  pub pieces : List (List Round)
-  pub are_parts : ArePartsUnder P F parts
-  pub all : rounds ≡ flat_map (λ piece. piece) pieces
-  pub each : AreLearnedWithin F conflicts parts pieces
+use Rattle.general_laws.specs.GeneralResults.{IsGeneralResult}
 
 -- A part is finished by at most so many learned clauses: its kernel is found, with rounds of which nothing is needless.
 pub record IsFinished (F : Cnf) (conflicts : ℕ) (part : List ℕ) (r : GeneralResult) : Type 0 where

@@ -7,9 +7,10 @@ use Rattle.lk_model.specs.Chains.Rounds.{AreNeeded}
 use Rattle.lk_model.specs.Chains.Searches.{WantsMore}
 use Rattle.lk_model.specs.declared.document.Round.{Round}
 use Rattle.lk_model.specs.declared.result.GeneralResult.{GeneralResult}
-use Rattle.kernel_laws.specs.General.GeneralResults.{AreGeneralResults, all_joined}
-use Rattle.kernel_laws.specs.Protected.FoundLaw.{rest_of}
-use Rattle.round_laws.specs.Budgets.{AreWithinBudget, AreFinished}
+use Rattle.general_laws.specs.GeneralResults.{AreGeneralResults, all_joined}
+use Rattle.document_laws.specs.FoundLaw.{rest_of}
+use Rattle.round_laws.specs.Budgets.{AreFinished}
+use Rattle.lk_model.specs.Chains.Budgets.{AreWithinBudget}
 
 -- Where each part of a formula is finished within a budget, nothing of the rounds of all parts, joined, is needless, and in
 -- each part they learn no more than the budget; each part has its result. What is needed, what is within a budget and what

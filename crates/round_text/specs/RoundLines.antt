@@ -33,7 +33,7 @@ abbrev pub if_above : List ℤ → Option ℤ → Option ℤ
 if_above ls None = None
 if_above ls (Some l) = if nat_lt (last_or 1 (map rank_of ls)) (rank_of l) then Some l else None
 
--- literals that ascend by rank, behind some, up to the word 0, and the words behind that
+-- literals that ascend by rank, after some, up to the word 0, and the words after that
 abbrev pub ranked_then : ℕ → List ℤ → List Word → Option (List ℤ × List Word)
 ranked_then n ls [] = None
 ranked_then n ls (word ∷ []) = None
@@ -72,7 +72,7 @@ step_within n number (k ∷ words) = step_by n number (number_within number numb
 
 -- LINES
 
--- the number of the next step behind so many, if it is one of 64 bits
+-- the number of the next step after so many, if it is one of 64 bits
 abbrev pub number_after : ℕ → ℕ → Option ℕ
 number_after m count = if nat_lt (count + (m + 1)) (2 ^ 64) then Some (count + (m + 1)) else None
 

@@ -11,7 +11,7 @@ use lk_model::{List, Lit, OutOfMemory, Step, Turn};
 use std::alloc::Global;
 
 /// Reads the literals of a step's clause over the variables from 1 to n, which ascend by rank, into a list
-/// without one. The answer is what stands behind the word 0 that closes them, where there are such literals.
+/// without one. The answer is what stands after the word 0 that closes them, where there are such literals.
 fn read_ranked<'a>(
     clause: &mut List<Lit>,
     line: &'a [u8],

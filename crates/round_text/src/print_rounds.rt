@@ -10,7 +10,7 @@ ghost use Rattle.round_text.specs.StepWords.{step_words, turn_words};
 use line_text::{put, put_closing_zero, put_keyword, put_literal, put_literals, put_number};
 use lk_model::{OutOfMemory, Round, Step, Turn};
 
-/// Appends the lines of each round, one round after another. The error is want of memory.
+/// Appends the lines of each round, one round after another. Fails only if memory runs out.
 pub fn put_rounds(out: &mut Vec<u8>, rounds: &[Round]) -> Result<(), OutOfMemory>
     ensures { OnOk result (out.new.items
         ≡ out.old.items ++ flat_map line (flat_map round_lines rounds.now)) }
@@ -21,7 +21,7 @@ pub fn put_rounds(out: &mut Vec<u8>, rounds: &[Round]) -> Result<(), OutOfMemory
     Ok(())
 }
 
-/// Appends the lines of a round: `c round`, and its steps. The error is want of memory.
+/// Appends the lines of a round: `c round`, and its steps. Fails only if memory runs out.
 pub fn put_round(out: &mut Vec<u8>, round: &Round) -> Result<(), OutOfMemory>
     ensures { OnOk result (out.new.items
         ≡ out.old.items ++ flat_map line (round_lines round.now)) }
@@ -48,7 +48,7 @@ fn put_step(out: &mut Vec<u8>, step: &Step) -> Result<(), OutOfMemory>
     put_closing_zero(out)
 }
 
-/// Appends the words of a step between its keyword and its closing 0, each with a space behind it.
+/// Appends the words of a step between its keyword and its closing 0, each with a space after it.
 fn put_step_words(out: &mut Vec<u8>, step: &Step) -> Result<(), OutOfMemory>
     ensures { OnOk result (out.new.items ≡ out.old.items ++ spaced (step_words step.now)) }
 {
@@ -59,7 +59,7 @@ fn put_step_words(out: &mut Vec<u8>, step: &Step) -> Result<(), OutOfMemory>
     put_turns(out, step.turns.as_slice())
 }
 
-/// Appends the literals and numbers of turns, each with a space behind it.
+/// Appends the literals and numbers of turns, each with a space after it.
 fn put_turns(out: &mut Vec<u8>, turns: &[Turn]) -> Result<(), OutOfMemory>
     ensures { OnOk result (out.new.items ≡ out.old.items ++ spaced (turn_words turns.now)) }
 {

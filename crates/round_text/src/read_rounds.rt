@@ -20,7 +20,7 @@ pub struct RoundsPart {
     pub count: u64,
 }
 
-/// The part of which no line was read.
+/// The rounds of which no line was read.
 pub fn fresh_rounds(alloc: Global) -> RoundsPart
     ensures { result ≡ fresh_rounds }
 {
@@ -32,9 +32,9 @@ pub fn fresh_rounds(alloc: Global) -> RoundsPart
     }
 }
 
-/// Takes a step of the open round, over the variables from 1 to n and behind m positions, or else the line
-/// of a round, if one may begin. The answer is whether the line was taken; the part is not used again
-/// otherwise. The error is want of memory.
+/// Takes a step of the open round, over the variables from 1 to n and after m positions, or else the line
+/// of a round, if one may begin. The answer is whether the line was taken; otherwise the rounds are not
+/// used again. Fails only if memory runs out.
 pub fn take_rounds(
     alloc: Global,
     part: &mut RoundsPart,
@@ -88,7 +88,7 @@ fn take_step(
     Ok(true)
 }
 
-/// The number of the next step behind so many, if it is one of 64 bits.
+/// The number of the next step after so many, if it is one of 64 bits.
 fn number_after(m: u32, count: u64) -> Option<u64>
     ensures { result ≡ number_after m count }
 {
@@ -105,7 +105,7 @@ fn close(alloc: Global, part: &mut RoundsPart) -> Result<(), OutOfMemory>
     Ok(())
 }
 
-/// All rounds that were read, the open one too. The error is want of memory.
+/// All rounds that were read, the open one too. Fails only if memory runs out.
 pub fn all_rounds(part: RoundsPart) -> Result<List<Round>, OutOfMemory>
     ensures { IfOk result (λ rounds. rounds ≡ all_rounds part) }
 {

@@ -6,7 +6,8 @@ use Rattle.status_lines.specs.RunLines.{budget_line, too_large_line, too_wide_li
 use Rattle.status_lines.specs.declared.status.Status.{Status}
 use Rattle.status_lines.specs.declared.status.Status.TheVariants.{Budget, TooWide, TooLarge}
 
--- With this status nothing is written, and the line is said that tells why; want of memory is told elsewhere.
+-- With this status nothing is written, and the line that says why is said; the line of memory that ran out is
+-- elsewhere.
 abbrev pub TellsStop : LinearStop → Status → List ℕ → List ℕ → Type 0
 TellsStop (stop.TooLarge vars clauses) status written said = (status ≡ TooLarge) × (written ≡ []) × (said ≡ too_large_line vars clauses)
 TellsStop (stop.TooWide made wide) status written said = (status ≡ TooWide) × (written ≡ []) × (said ≡ too_wide_line made wide)

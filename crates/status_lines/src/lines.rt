@@ -72,7 +72,7 @@ fn edits_line(alloc: Global, line: u64, fault: EditFault) -> Result<Vec<u8>, Out
     )
 }
 
-/// What is said of a fault behind the number of its line.
+/// What is said of a fault after the number of its line.
 fn fault_text(fault: EditFault) -> &'static str
     ensures { result.now ≡ fault_text fault }
 {

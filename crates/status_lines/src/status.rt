@@ -64,7 +64,7 @@ pub fn code_of_failure(_failed: Failed) -> u8
     Status::WriteFault.code()
 }
 
-/// The status with which the program ends behind a stop.
+/// The status with which the program ends after a stop.
 pub(crate) fn status_of(stop: Stop) -> Status
     ensures { result ≡ status_of stop }
 {

@@ -15,7 +15,7 @@ use std::alloc::{AllocError, Global};
 use std::test::Fail;
 use std::thread::Threads;
 
-/// The first part of a text, up to a semicolon, and the rest of it.
+/// The front of a text, up to a semicolon, and the rest of it.
 pub(crate) fn split(text: &str) -> (&str, &str) {
     text.split_once(";").unwrap_or((text, ""))
 }
@@ -25,7 +25,8 @@ fn split_word(text: &str) -> (&str, &str) {
     text.split_once(" ").unwrap_or((text, ""))
 }
 
-/// Writes a line for each text between commas that is not blank: a head, the words, and an end, but not behind the word 0.
+/// Writes a line for each text between commas that is not blank: a head, the words, and an end, but not after the word
+/// 0.
 fn put_lines(head: &str, lines: &str, end: &str, out: &mut String) -> Result<(), AllocError> {
     for words in lines.split(",") {
         let words = words.trim();
@@ -76,7 +77,7 @@ fn put_head(version: u32, class: &str, sizes: &str, out: &mut String) -> Result<
     writeln!(out, "c leank {version} {class}\nc formula {sizes}")
 }
 
-/// Writes the document that a line `extend` has, and answers what stands behind it.
+/// Writes the document that a line `extend` has, and answers what stands after it.
 fn put_extended<'a>(text: &'a str, out: &mut String) -> Result<&'a str, AllocError> {
     let (sizes, text) = split(text);
     let (protect, text) = split(text);

@@ -24,7 +24,7 @@ impl Lines {
         write!(self.text, "\nstart {name}{end}")
     }
 
-    /// Puts how many bytes were moved behind those of the same word.
+    /// Appends how many bytes were moved to those of the same word.
     fn put_move(
         &mut self,
         word: &'static str,
@@ -81,7 +81,7 @@ impl Calls {
         }
     }
 
-    /// Prints the calls behind a line `-- calls`.
+    /// Prints the calls after a line `-- calls`.
     pub(crate) fn print<R: Print>(&self, rt: &R) -> Result<(), Fail> {
         match self.lines.try_borrow() {
             Ok(lines) if lines.is_whole => Ok(print_lines(rt, lines.text.as_str())?),

@@ -1,8 +1,8 @@
 //! `@ demos`: the formulas of numbers, by `demo_formula` itself. The expected clauses are computed by a separate program with
 //! the published generator.
 //!
-//! A line is a number, and behind it positions. The numbers of variables, clauses and literals of the number's formula stand
-//! behind it in a line that begins with `=`, and the clause at each of the positions in such a line.
+//! A line is a number, and after it positions. The numbers of variables, clauses and literals of the number's formula
+//! stand after it in a line that begins with `=`, and the clause at each of the positions in such a line.
 use demo_formula::demo_formula;
 use lk_model::Formula;
 use lk_samples::{number_of, put_literals};

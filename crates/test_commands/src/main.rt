@@ -2,10 +2,10 @@
 //! answers and writes. The expected output was worked out by hand, or computed by plain programs in Python from
 //! the definitions; `README.md` says which of the rows.
 //!
-//! A line `@ NAME` of the input chooses what the lines behind it are: `commands`, as below, `verdicts` (`src/built.rt`), `checks`
-//! (`src/checks.rt`) or `demos` (`src/demos.rt`). `#` begins a remark. A line of the last three is printed again, and behind it
-//! what is told of it, in lines that begin with `=`; of documents the verdict of one worker, with which those of two and of
-//! eight are compared.
+//! A line `@ NAME` of the input chooses what the lines after it are: `commands`, as below, `verdicts` (`src/built.rt`),
+//! `checks` (`src/checks.rt`) or `demos` (`src/demos.rt`). `#` begins a remark. A line of the last three is printed
+//! again, and after it what is told of it, in lines that begin with `=`; of documents the verdict of one worker, with
+//! which those of two and of eight are compared.
 //!
 //! A line of `@ commands` is one of these:
 //!

@@ -12,7 +12,7 @@ use std::thread::Threads;
 use workbench::run;
 
 /// Runs the commands over the shelf and the sinks that a script has, and prints the words, the status,
-/// what was written and, behind a line `-- said`, what was said.
+/// what was written and, after a line `-- said`, what was said.
 pub(crate) fn print_run<R: Threads + Sync + AllocGlobal + Print>(
     rt: &R,
     script: &mut Script,
@@ -22,7 +22,7 @@ pub(crate) fn print_run<R: Threads + Sync + AllocGlobal + Print>(
     print_over(rt, script, line, &calls, &OpenGate)
 }
 
-/// The same, and behind a line `-- calls` the calls on the shelf and the sinks.
+/// The same, and after a line `-- calls` the calls on the shelf and the sinks.
 pub(crate) fn print_calls<R: Threads + Sync + AllocGlobal + Print>(
     rt: &R,
     script: &mut Script,

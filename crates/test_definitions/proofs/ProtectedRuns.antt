@@ -1,7 +1,7 @@
 -- Sets of protected variables, crossed formulas, and the pure and the linear run under such a set.
 use Rattle.std.specs.Prelude.{◌≡◌, refl, ℕ, true, false, List, [], ◌∷◌, map, pos, negsuc, Some, None}
 use Rattle.lk_model.specs.Formulas.Formula.{Cnf}
-use Rattle.lk_model.specs.Formulas.Crossed.{Variables, formula_without, protected_by, protected_of}
+use Rattle.lk_model.specs.Formulas.Crossed.{Variables, formula_without, protected_by, protected_of, protect_line_of}
 use Rattle.lk_model.specs.Formulas.PureRun.{IsPureRunUnder, least_pairs_under}
 use Rattle.lk_model.specs.Linear.Arithmetic.{gcd, first_wide}
 use Rattle.lk_model.specs.Linear.Rows.{start_row, start_cost, start_of}
@@ -9,7 +9,7 @@ use Rattle.lk_model.specs.Linear.Pivot.{combined, made_in_row, pivoted, made_in_
 use Rattle.lk_model.specs.Linear.Phases.{next, stage_of, made_in_stage, unweighted}
 use Rattle.lk_model.specs.Linear.Ends.{dual_at_end, units_at_end, made_in_dual, made_in_units}
 use Rattle.lk_model.specs.Linear.LinearRun.{RunDone, RunBudget, run_from, moved, linear_run, linear_run_under, is_too_large_under, LinearEnd}
-use Rattle.lk_model.specs.Reduction.{IsStatedBody, protect_line_of}
+use Rattle.lk_model.specs.Reduction.{IsStatedBody}
 use Rattle.test_definitions.proofs.WorkedDocuments.{equivalence, four_signs, cycle, duals_of_one}
 use Rattle.test_definitions.proofs.ProtectedDocuments.{all_pairs, all_kept, one_unit, one_linear}
 
@@ -47,7 +47,7 @@ pure_run = refl
 pairs_of_kept : least_pairs_under one equivalence (1 ∷ 2 ∷ 3 ∷ []) ≡ all_pairs
 pairs_of_kept = refl
 
--- with 2 protected the run takes 1, behind which 3 has both signs, and so keeps what the unprotected run keeps
+-- with 2 protected the run takes 1, after which 3 has both signs, and so keeps what the unprotected run keeps
 run_beside_two : IsPureRunUnder two equivalence (pos 1 ∷ [])
 run_beside_two = (refl, refl)
 

@@ -237,7 +237,7 @@ linear_of_tautology = record { weightings = one_on_first ∷ []; signs = sign_of
     at (suc zero) s = omega arith
     at (suc (suc p)) s = absurd (let f : ⊥ = grind (arith, s) in f)
 
--- the clause holds the complement of 1, and no literal is earlier
+-- the clause contains the complement of 1, and no literal is earlier
 pub not_pure_of_tautology : IsPureAutarky tautology (all_of tautology) one_true → ⊥
 not_pure_of_tautology a = at a.order a.true_literals a.earlier
   where

@@ -1,4 +1,5 @@
-//! What the lowest crates answer to a line: a word and the parts that the call is asked about, with ` | ` between them.
+//! What the lowest crates answer to a line: a word and the pieces that the call is asked about, with ` | ` between
+//! them.
 use crate::assignments::put_assignment;
 use crate::memory::{put_shelf, put_sink};
 use crate::model::{put_formula, put_list, put_literal, put_set, put_variables};
@@ -10,7 +11,7 @@ use std::alloc::{AllocError, Global};
 use std::rt::Files;
 use std::test::Fail;
 
-/// Writes what is answered to a line, each answer behind a blank.
+/// Writes what is answered to a line, each answer after a blank.
 pub(crate) fn tell<R: Files>(
     rt: &R,
     alloc: Global,

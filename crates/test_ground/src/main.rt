@@ -1,10 +1,10 @@
 //! Asks the crates of the ground, as a script on standard input says, and prints what they answer through a sink over
 //! standard output.
 //!
-//! `@ ground` or `@ files` says what the lines behind it ask. Each line is printed again, and behind ` ->` what is
+//! `@ ground` or `@ files` says what the lines after it ask. Each line is printed again, and after ` ->` what is
 //! answered; a blank one, a head and a remark, which begins with `#`, have no answer.
 //!
-//! - `@ ground`: a word and the parts that the call is asked about, with ` | ` between them. The expected answers can
+//! - `@ ground`: a word and the pieces that the call is asked about, with ` | ` between them. The expected answers can
 //!   be worked out by hand from what the calls are to give.
 //! - `@ files`: the shelf over files and the sink over streams. The expected answers are those of a plain program in
 //!   Python over the same files.

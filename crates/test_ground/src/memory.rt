@@ -27,7 +27,7 @@ fn fails_of(alloc: Global, written: &str) -> Result<List<u64>, OutOfMemory> {
     Ok(fails)
 }
 
-/// The texts that a part has, each behind its name, with commas between them.
+/// The texts that a piece has, each after its name, with commas between them.
 fn files_of(alloc: Global, written: &str) -> Result<List<(Name, Bytes)>, OutOfMemory> {
     let mut files = List::new(alloc);
     for file in written.split(", ") {
@@ -36,7 +36,7 @@ fn files_of(alloc: Global, written: &str) -> Result<List<(Name, Bytes)>, OutOfMe
     Ok(files)
 }
 
-/// A text behind its name.
+/// A text after its name.
 fn file_of(alloc: Global, written: &str) -> Result<(Name, Bytes), OutOfMemory> {
     let (name, text) = written.split_once(" ").unwrap_or((written, ""));
     let name = Name::of(alloc, name)?;

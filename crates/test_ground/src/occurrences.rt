@@ -7,7 +7,7 @@ use lk_model::{Formula, Lit, OutOfMemory};
 use occurrence_lists::OccurrenceLists;
 use std::alloc::{AllocError, Global};
 
-/// Writes how many clauses hold each literal, by rank, and for each variable the positions of those that hold it,
+/// Writes how many clauses contain each literal, by rank, and for each variable the positions of those that contain it,
 /// its complement, and both lists together.
 pub(crate) fn put_lists(alloc: Global, f: &Formula, out: &mut String) -> Result<(), OutOfMemory> {
     let lists = OccurrenceLists::new(alloc, f)?;

@@ -1,4 +1,4 @@
-//! What a line of the script asks about, as texts, and what is answered, as words behind a blank.
+//! What a line of the script asks about, as texts, and what is answered, as words after a blank.
 use std::alloc::{AllocError, Global};
 
 /// What a call is asked about: the texts between the bars, each empty where there is none.
@@ -10,12 +10,12 @@ pub(crate) struct Parts<'a> {
     pub fourth: &'a str,
 }
 
-/// What stands before the next bar, and what stands behind it.
+/// What stands before the next bar, and what stands after it.
 fn cut(text: &str) -> (&str, &str) {
     text.split_once(" | ").unwrap_or((text, ""))
 }
 
-/// The parts of a text.
+/// The pieces of a text.
 pub(crate) fn parts_of(text: &str) -> Parts<'_> {
     let (first, text) = cut(text);
     let (second, text) = cut(text);
@@ -28,17 +28,17 @@ pub(crate) fn parts_of(text: &str) -> Parts<'_> {
     }
 }
 
-/// The number that a part writes.
+/// The number that a piece writes.
 pub(crate) fn number_of(text: &str) -> u32 {
     text.parse().unwrap_or(0)
 }
 
-/// Writes numbers, behind a blank.
+/// Writes numbers, after a blank.
 pub(crate) fn put_numbers(numbers: &[u32], out: &mut String) -> Result<(), AllocError> {
     write!(out, " {numbers:?}")
 }
 
-/// Writes bytes with escapes, behind a blank.
+/// Writes bytes with escapes, after a blank.
 pub(crate) fn put_bytes(bytes: &[u8], out: &mut String) -> Result<(), AllocError> {
     write!(out, " {}", bytes.escape_ascii())
 }

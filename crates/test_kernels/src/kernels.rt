@@ -3,7 +3,7 @@
 //!
 //! A line over a formula is `WORD N; CLAUSES; PART`: the number of variables, the clauses with commas
 //! between them, and the positions of a part, or none for all. In a clause `A..B` stands for the literals
-//! from A to B, 0 for none, and `CLAUSE * COUNT` for so many clauses, each over the variables behind those
+//! from A to B, 0 for none, and `CLAUSE * COUNT` for so many clauses, each over the variables after those
 //! of the one before. The words are:
 //!
 //! - `pure`, for the pure kernel, and `order` for its order alone and how many clauses it keeps.

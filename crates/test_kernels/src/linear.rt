@@ -4,7 +4,7 @@
 //! Each line has how many pivots may be made.
 //!
 //! - `run N PIVOTS; CLAUSES` tells all numbers of the run of a formula. N is its number of variables, and there
-//!   are commas between the clauses, 0 for an empty one. A number of a variable or a position stands behind it
+//!   are commas between the clauses, 0 for an empty one. A number of a variable or a position stands after it
 //!   and a colon.
 //! - `sums N PIVOTS` tells how many stages there are, and of the first one how many weights and the first two,
 //!   for the formula in which each variable from 3 to N equals the sum of the two before it, up to sign.

@@ -1,8 +1,8 @@
 //! Tests of the kernels of pure literals, of matchings and of linear autarkies, of what they stand on, and of edits.
 //!
-//! A line `@ NAME` of the input chooses the driver of the lines behind it: `kernels`, `rows` or `linear`, each described at
-//! the head of its file. Each line is printed again, and behind it what is told of it, in lines that begin with `=`. A line
-//! that begins with `#` is a remark.
+//! A line `@ NAME` of the input chooses the driver of the lines after it: `kernels`, `rows` or `linear`, each described
+//! at the head of its file. Each line is printed again, and after it what is told of it, in lines that begin with `=`.
+//! A line that begins with `#` is a remark.
 #![tactic(auto)]
 
 mod augments;

@@ -3,7 +3,7 @@ use linear_kernel::LinearStop;
 use lk_model::{Dual, LinearResult, Op, Share, Stage, Unit, Weight, Wide};
 use std::alloc::AllocError;
 
-/// Writes weights behind their variables.
+/// Writes weights after their variables.
 fn put_weights(weights: &[Weight], out: &mut String) -> Result<(), AllocError> {
     for w in weights {
         write!(out, " {}:{}", w.var, w.x)?;
@@ -25,7 +25,7 @@ fn put_stages(stages: &[Stage], out: &mut String) -> Result<(), AllocError> {
     Ok(())
 }
 
-/// Writes duals behind their positions.
+/// Writes duals after their positions.
 fn put_duals(duals: &[Dual], out: &mut String) -> Result<(), AllocError> {
     for dual in duals {
         write!(out, " {}:{}", dual.pos, dual.y)?;
@@ -33,7 +33,7 @@ fn put_duals(duals: &[Dual], out: &mut String) -> Result<(), AllocError> {
     Ok(())
 }
 
-/// Writes shares behind their positions.
+/// Writes shares after their positions.
 fn put_shares(shares: &[Share], out: &mut String) -> Result<(), AllocError> {
     for share in shares {
         write!(out, " {}:{}", share.pos, share.z)?;

@@ -10,7 +10,7 @@ use lk_samples::{drawn_formula, has_part, numbers_of_text};
 use matching_kernel::matching_kernel;
 use par_parts::parts;
 use part_formula::kernel_of_part;
-use part_matching::matching_of_part;
+use part_kernels::matching_of_part;
 use std::alloc::{AllocError, Global};
 use std::test::Fail;
 

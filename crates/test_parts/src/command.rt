@@ -5,7 +5,7 @@ use lk_samples::formula_of_text;
 use std::alloc::Global;
 use std::test::Fail;
 
-/// A line: its word, the numbers behind it, and the texts behind those.
+/// A line: its word, the numbers after it, and the texts after those.
 #[derive(Drop)]
 pub(crate) struct Command<'a> {
     pub word: &'a str,
@@ -15,9 +15,9 @@ pub(crate) struct Command<'a> {
     pub third: u32,
     /// All numbers but the first one.
     pub others: &'a str,
-    /// What stands behind the first semicolon.
+    /// What stands after the first semicolon.
     pub text: &'a str,
-    /// The same up to the second one, and what stands behind that.
+    /// The same up to the second one, and what stands after that.
     pub clauses: &'a str,
     pub more: &'a str,
 }

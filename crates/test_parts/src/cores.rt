@@ -1,7 +1,7 @@
 //! Finds minimally unsatisfiable cores of formulas, looks whether each answer is right, and tells what is
 //! determined of it. The expected lines were made from the definitions by a program in another language.
 //!
-//! A formula has at most 12 variables. Each number C is a budget of learned clauses for each single decision; behind
+//! A formula has at most 12 variables. Each number C is a budget of learned clauses for each single decision; after
 //! several of them there is an answer for each.
 //!
 //! - `find N C ..; CLAUSES` tells all of an answer that is the only one: the positions of the core, each step and the
@@ -17,7 +17,7 @@
 //!   how many an empty clause, and whether each answer is right, also with a small budget, and a model just where there
 //!   is one.
 //!
-//! Behind each answer but those of `find` stands whether it is right.
+//! After each answer but those of `find` stands whether it is right.
 use crate::answers::{tell_budgets, tell_drawn, tell_each, tell_orders};
 use crate::command::Command;
 use plain_judge::MOST_VARS;

@@ -24,7 +24,7 @@ fn is_filled(f: &Formula, part: &[u32]) -> bool
     filled
 }
 
-/// Writes a round behind a head.
+/// Writes a round after a head.
 fn put_decided(head: &str, round: &Round, out: &mut String) -> Result<(), AllocError> {
     out.push_str(head)?;
     put_round(round, out)

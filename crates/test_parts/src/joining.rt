@@ -3,7 +3,7 @@ ghost use Rattle.std.specs.Prelude.{IfOk};
 ghost use Rattle.std.specs.List.{AllByRecursion};
 ghost use Rattle.lk_model.specs.Formulas.Formula.{positions_of};
 ghost use Rattle.lk_model.specs.Formulas.Parts.{IsPart};
-ghost use Rattle.kernel_laws.specs.Matching.MatchingResults.{IsMatchingResult};
+ghost use Rattle.matching_laws.specs.MatchingResults.{IsMatchingResult};
 ghost use Rattle.autarky_compose.specs.JoinedMatching.{AreMatchingResults};
 
 use autarky_compose::join_matching;

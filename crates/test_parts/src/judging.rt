@@ -224,7 +224,7 @@ fn is_right(alloc: Global, s: &Search<'_>, mus: &Mus) -> Result<bool, Fail> {
     }
 }
 
-/// Writes whether an answer is right, but not behind a whole one.
+/// Writes whether an answer is right, but not after a whole one.
 fn put_right(way: &str, right: bool, out: &mut String) -> Result<(), AllocError> {
     match way {
         "find" => Ok(()),

@@ -96,7 +96,7 @@ pub(crate) fn put_model(lits: &[Lit], out: &mut String) -> Result<(), AllocError
     out.push('\n')
 }
 
-/// Writes steps behind a head.
+/// Writes steps after a head.
 fn put_named(head: &str, steps: &[Step], out: &mut String) -> Result<(), AllocError> {
     out.push_str(head)?;
     put_steps(steps, out)

@@ -3,11 +3,11 @@
 //! all choices, or worked out by hand; chains too. The rest is compared with plain programs, or with what one worker finds
 //! in the whole formula.
 //!
-//! Standard input has four scripts, one behind the other. The head line of each names what its lines are told by:
+//! Standard input has four scripts, one after another. The head line of each names what its lines are told by:
 //! `@ parts` (`src/parts.rt`), `@ composing` (`src/composing.rt`), `@ solve` (`src/solving.rt`) and `@ mus`
 //! (`src/cores.rt`), where its commands are described.
 //!
-//! A line is a command. It is printed again, and behind it stand the answers, in lines that begin with `=`. A line that
+//! A line is a command. It is printed again, and after it stand the answers, in lines that begin with `=`. A line that
 //! begins with `#` is a remark. A formula is the number of its variables, and its clauses with commas between them, 0 for
 //! an empty one.
 #![tactic(auto)]

@@ -22,7 +22,7 @@
 //! - `matching N; CLAUSES; POSITIONS` tells the matching kernel of the part at these positions, found in a formula
 //!   of its own: the kept positions, own lines as position:variable, rows as variable:own:escape:rank, and
 //!   whether the same is found in the whole formula.
-//! - `matching-end N` tells it of the last six clauses behind a unit clause for each of so many variables.
+//! - `matching-end N` tells it of the last six clauses after a unit clause for each of so many variables.
 //! - `matching-drawn N` compares the two for each part, and for each third position, of so many drawn formulas.
 //! - `decide N C; CLAUSES; POSITIONS` tells whether the clauses at these positions have a model, as found by at
 //!   most C learned clauses: its literals, a refutation, or a round that stopped.

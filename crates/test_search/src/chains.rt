@@ -8,7 +8,7 @@
 //!
 //! `join` tells the literals of a clause in order, and those of its resolvent on a literal with another clause. `log` logs
 //! chains, with semicolons between them, each as its first number and its turns, a turn as LITERAL/NUMBER; the steps are
-//! numbered from FIRST on. It tells the clause that is found by the number of each step, and that none is found behind
+//! numbered from FIRST on. It tells the clause that is found by the number of each step, and that none is found after
 //! them, the last clause, the positions that are used, and each step; and where there is a NEXT the steps of the log
 //! trimmed to it, and the positions that these use.
 ghost use Rattle.std.specs.Prelude.{IfOk, IsSome, IsTrue};
@@ -186,7 +186,7 @@ fn put_found(log: &Log, number: u64, out: &mut String) -> Result<(), AllocError>
     out.push('\n')
 }
 
-/// Writes the clauses that are found by the numbers of the steps and the one behind them, and the last clause.
+/// Writes the clauses that are found by the numbers of the steps and the one after them, and the last clause.
 fn put_all(log: &Log, out: &mut String) -> Result<(), AllocError> {
     let mut number = log.first();
     for _ in 0..log.len() {

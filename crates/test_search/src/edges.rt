@@ -66,7 +66,7 @@ fn enough(alloc: Global, asked: &Asked, way: Way, next: u64, bound: u32) -> Resu
 }
 
 /// The place of the order that answers first within a budget, by the budgets that are enough for each, or none. Each has
-/// as many clauses as a turn allows, and then so many more, at least one; the others begin behind the first one's turn.
+/// as many clauses as a turn allows, and then so many more, at least one; the others begin after the first one's turn.
 fn winner(enough: &[u64], turn: u64, further: u64, budget: u64) -> Option<usize> {
     let mut pause = turn.min(budget);
     let leading = enough.first().copied().unwrap_or(0);

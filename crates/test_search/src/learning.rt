@@ -15,10 +15,10 @@
 //!
 //! Commas stand between clauses, and a blank part is all positions. Of `budgets` each budget from 1 to 9 is tried. A chain
 //! is one of implications that cannot all hold. Drawn formulas are compared with a search through all assignments
-//! (`drawn`), by `decide` where there is no WAY, and else by `numbers`, `connection` or `occurrences`, with `last` behind it
-//! for the last values, or by `turns FIRST FURTHER` for the usual two orders, `all FIRST FURTHER` for three, or
-//! `twice FIRST FURTHER`. Of `turns` each budget up to one is tried on pigeons (`edges`). The formulas of `kept` are decided
-//! one after another by turns that keep values.
+//! (`drawn`), by `decide` where there is no WAY, and else by `numbers`, `connection` or `occurrences`, with `last`
+//! after it for the last values, or by `turns FIRST FURTHER` for the usual two orders, `all FIRST FURTHER` for three,
+//! or `twice FIRST FURTHER`. Of `turns` each budget up to one is tried on pigeons (`edges`). The formulas of `kept` are
+//! decided one after another by turns that keep values.
 use crate::answers::put_decided;
 use crate::asking::{Asked, Way, answer, answer_by_turns, put_orders};
 use crate::built::{implications, pigeons};
@@ -43,7 +43,7 @@ fn put_asked(
     put_decided(alloc, asked, next, decided, out)
 }
 
-/// Decides a whole formula with these budgets, with steps numbered from behind its positions.
+/// Decides a whole formula with these budgets, with steps numbered from past its positions.
 fn put_whole(alloc: Global, f: &Formula, budgets: &[u32], out: &mut String) -> Result<(), Fail> {
     let part = part_of_text(alloc, f, "")?;
     let asked = Asked {

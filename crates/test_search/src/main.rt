@@ -1,9 +1,9 @@
 //! Tests of the search for general kernels, floor by floor: chains and logs, unit propagation, clause learning with its
 //! orders of variables, general kernels, and the program's answers for files.
 //!
-//! A line `@ NAME` of the input chooses the driver of the lines behind it: `chains`, `watches`, `learning`, `general` or
-//! `sizes`, each described at the head of its file. Each line is printed again, and behind it what is told of it. A line that
-//! begins with `#` is a remark.
+//! A line `@ NAME` of the input chooses the driver of the lines after it: `chains`, `watches`, `learning`, `general` or
+//! `sizes`, each described at the head of its file. Each line is printed again, and after it what is told of it. A line
+//! that begins with `#` is a remark.
 #![tactic(auto)]
 
 mod answers;

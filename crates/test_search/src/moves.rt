@@ -57,7 +57,7 @@ fn add_true(p: &mut Propagator, vars: u32, number: u64) -> Result<(), Fail>
     Ok(p.add(number, &[l])?)
 }
 
-/// Does as `assign`, behind a clause that is true and was not looked at.
+/// Does as `assign`, after a clause that is true and was not looked at.
 pub(crate) fn assign_behind(
     p: &mut Propagator,
     vars: u32,

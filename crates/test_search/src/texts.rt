@@ -1,6 +1,6 @@
 //! Pieces of lines.
 
-/// What stands before the next bar, and what stands behind it.
+/// What stands before the next bar, and what stands after it.
 pub(crate) fn part_of(text: &str) -> (&str, &str) {
     text.split_once("|").unwrap_or((text, ""))
 }

@@ -1,7 +1,7 @@
 //! `@ answers`: what the check says of answers. The expected answers are those of a separate program, which judges whole
 //! texts by the grammar, and models and chains by themselves. The commands are those of `reading`.
 ghost use Rattle.std.specs.Prelude.{length, IsTrue};
-ghost use Rattle.answer_check.specs.Answers.{is_answer};
+ghost use Rattle.lk_model.specs.Documents.Answers.{is_answer};
 
 use crate::kinds::put_stop;
 use answer_check::{Answer, check_answer, read_answer};

@@ -37,7 +37,7 @@ fn step_of(alloc: Global, text: &str) -> Result<Step, Fail> {
     })
 }
 
-/// The turns of literals and numbers in turn.
+/// The turns of literals and numbers, which alternate.
 fn turns(alloc: Global, text: &str) -> Result<List<Turn>, Fail> {
     let numbers = numbers(alloc, text)?;
     let mut turns = List::new(alloc);

@@ -1,4 +1,4 @@
-//! Parts of linear documents to be printed.
+//! Entries of linear documents to be printed.
 use crate::printing::{number_at, small_at};
 use lk_model::{Dual, List, OutOfMemory, Share, Stage, Unit, Weight};
 use std::alloc::Global;
@@ -27,7 +27,7 @@ pub(crate) fn take_linear(
     Ok(())
 }
 
-/// The weights of variables and numbers in turn.
+/// The weights of variables and numbers, which alternate.
 fn weights(alloc: Global, numbers: &[i128]) -> Result<List<Weight>, OutOfMemory> {
     let mut weights = List::new(alloc);
     for entry in numbers.chunks(2) {
@@ -39,7 +39,7 @@ fn weights(alloc: Global, numbers: &[i128]) -> Result<List<Weight>, OutOfMemory>
     Ok(weights)
 }
 
-/// The unit of a variable and a number, and its shares of positions and numbers in turn.
+/// The unit of a variable and a number, and its shares of positions and numbers, which alternate.
 fn unit(alloc: Global, numbers: &[i128]) -> Result<Unit, OutOfMemory> {
     let (front, rest) = numbers.split_at(numbers.len().min(2));
     let mut shares = List::new(alloc);

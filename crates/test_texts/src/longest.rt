@@ -1,9 +1,10 @@
 //! `@ longest`: the readers of formulas and of edits over texts of 2^30 bytes, which are read, and one byte more, which is
 //! too long. The expected answers follow from the limits and from how the texts are made, while they are fed.
 //!
-//! - `formula END|MORE` is comments with an end behind them that makes the longest text, and more. The bytes of both come
-//!   one by one; the answer is the first one that is refused, and what is answered at the end.
-//! - `edits FIRST|MORE` is a first line of two bytes or none with comments behind it that make the longest text, and more.
+//! - `formula END|MORE` is comments with an end after them that makes the longest text, and more. The bytes of both
+//!   come one by one; the answer is the first one that is refused, and what is answered at the end.
+//! - `edits FIRST|MORE` is a first line of two bytes or none with comments after it that make the longest text, and
+//!   more.
 //! - `clauses END` adds the most clauses, and then comes an end.
 use crate::spelled::bytes_of;
 use crate::texts::first_refusal;

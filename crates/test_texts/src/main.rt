@@ -1,8 +1,8 @@
 //! Asks the readers, the printers and the checks of texts, as a script on standard input says.
 //!
-//! `@ texts`, `@ reading`, `@ printing`, `@ answers` or `@ longest` says what the lines behind it ask; their commands are
-//! explained at the head of the files of these names. Each line is printed again, and behind it stands what is answered; a
-//! blank one, a head and a remark, which begins with `#`, have no answer.
+//! `@ texts`, `@ reading`, `@ printing`, `@ answers` or `@ longest` says what the lines after it ask; their commands
+//! are explained at the head of the files of these names. Each line is printed again, and after it stands what is
+//! answered; a blank one, a head and a remark, which begins with `#`, have no answer.
 //!
 //! In a text `\n`, `\r`, `\t` and `\v` are the bytes 10, 13, 9 and 11, and `\s` is a blank at an end of the line.
 //! `base TEXT` takes a text for the next lines.

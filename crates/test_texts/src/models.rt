@@ -24,7 +24,7 @@ pub(crate) fn read_values(
     reader.finish()
 }
 
-/// Writes the literals that are true, each behind a blank, or where the reading stops.
+/// Writes the literals that are true, each after a blank, or where the reading stops.
 pub(crate) fn put_values(
     read: Result<Partial, ReadStop>,
     out: &mut String,

@@ -1,10 +1,10 @@
 //! `@ printing`: the texts of documents, in form or not. The expected texts were worked out by hand.
 //!
-//! A line is a document, in parts with semicolons between them; the answer is its text. The first part is the class, or
-//! `unfinished`. Each further part is a word and what belongs to it:
+//! A line is a document, in entries with semicolons between them; the answer is its text. The first entry is the class,
+//! or `unfinished`. Each further entry is a word and what belongs to it:
 //!
 //! - `size N M`, `protect V ..`, `keep P ..`, `set L ..` and `learned COUNT`; `clauses L .., L ..` for all
-//!   clauses, with 0 for an empty one, behind `size`.
+//!   clauses, with 0 for an empty one, after `size`.
 //! - `order L ..` and `pair V A B`; `own P V` and `row V M E R`; `stage V X ..`, `dual P Y` and
 //!   `unit V D : P Z ..`.
 //! - `round STEP, STEP` is a round, where a step is `K A : L .. : T B ..`: its number and that of its first
@@ -131,7 +131,7 @@ pub(crate) fn literals(alloc: Global, text: &str) -> Result<List<Lit>, Fail> {
     Ok(List::from_vec(literals_of_text(alloc, text)?))
 }
 
-/// Takes a part of a document.
+/// Takes an entry of a document.
 fn take(alloc: Global, document: &mut Document, part: &str) -> Result<(), Fail> {
     let (word, text) = part.split_once(" ").unwrap_or((part, ""));
     let numbers = numbers(alloc, text)?;
@@ -182,7 +182,7 @@ fn take_open(
     Ok(())
 }
 
-/// Takes a part of a certificate.
+/// Takes an entry of a certificate.
 fn take_body(
     alloc: Global,
     body: &mut Body,

@@ -1,7 +1,7 @@
 //! Texts of many lines, each spelled in one.
 use std::alloc::{AllocError, Global};
 
-/// The byte that a letter behind `\` stands for.
+/// The byte that a letter after `\` stands for.
 fn meant_by(letter: u8) -> u8 {
     match letter {
         b'n' => b'\n',

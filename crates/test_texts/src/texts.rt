@@ -7,8 +7,7 @@
 //! - `pieces TEXT|TEXT` feeds pieces, and tells the answer to each one and at the end.
 //! - `document TEXT` reads the text of a document, whole and in pieces, compares it with what is printed of the
 //!   document, and shows the document.
-//! - `change OLD|NEW` reads the base as a document, with NEW in the place of OLD, and `cut` reads each part of it that
-//!   it begins with.
+//! - `change OLD|NEW` reads the base as a document, with NEW in the place of OLD, and `cut` reads each beginning of it.
 use crate::kinds::{Kind, told_of};
 use crate::spelled::{bytes_of, changed};
 use crate::variants::{Style, put_cuts};
@@ -101,7 +100,7 @@ fn put_answer(answer: Result<Formula, Refused>, out: &mut String) -> Result<(), 
     }
 }
 
-/// Writes the clauses of a formula, each with its 0 behind it.
+/// Writes the clauses of a formula, each with its 0 after it.
 fn put_clauses(f: &Formula, out: &mut String) -> Result<(), AllocError> {
     for k in 1..f.len() + 1 {
         put_literals(f.clause(k), out)?;
@@ -173,7 +172,7 @@ fn put_document(document: &Document, out: &mut String) -> Result<(), AllocError>
     }
 }
 
-/// Writes the parts of a document.
+/// Writes the entries of a document.
 fn put_parts(d: &DoneDocument, out: &mut String) -> Result<(), AllocError> {
     let kept = d.kept.as_slice();
     write!(

@@ -92,7 +92,7 @@ pub rounds_comments : (rounds : List Round) → are_comments (flat_map round_lin
 rounds_comments [] = refl
 rounds_comments (r ∷ rounds) = comments_join (round_lines r) (flat_map round_lines rounds) (round_comments r) (rounds_comments rounds)
 
--- THE PARTS OF A DOCUMENT
+-- THE SECTIONS OF A DOCUMENT
 
 pub class_comments : (body : Body) → are_comments (class_lines body) ≡ true
 class_comments (Pure order pairs) =
@@ -143,7 +143,7 @@ first_comments word n m protect h =
     (comment_of (codes "formula") (number_words (n ∷ m ∷ [])) refl (words_natural (n ∷ m ∷ [])))
     (protect_comments protect))
 
--- THE PARTS OF A CORE
+-- THE SECTIONS OF A CORE
 
 pub core_comment : (core : List ℕ) → is_comment_line (core_line core) ≡ true
 core_comment core = comment_of (codes "core") (ended (number_words core)) refl (words_ended (number_words core) (words_natural core))

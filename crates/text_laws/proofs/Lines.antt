@@ -83,7 +83,7 @@ pieces-line n words text h =
     ap (λ (bs : List ℕ). placed_after n (slice_split is_newline bs)) (append_assoc (joined words) (10 ∷ []) text)
     ∙ ap (placed_after n) (slice_split_at is_newline (joined words) 10 text (no_newline words h) refl)
 
--- the place behind lines
+-- the place after lines
 abbrev pub behind : ℕ → List (List Word) → ℕ
 behind n [] = n
 behind n (words ∷ lines) = behind (n + length (joined words) + 1) lines

@@ -1,4 +1,4 @@
--- The plain text of a formula, also behind lines of comments.
+-- The plain text of a formula, also after lines of comments.
 use Rattle.std.proofs.Common.{◌≡◌, ℕ, ◌+◌, ◌<◌, ◌≤◌, ◌^◌, ◌∙◌, true, List, [], ◌∷◌, ◌++◌, length, map, flat_map, refl, sym, ap, arith, ℤ, pos, Some, nat_le, codes, decimal}
 use Rattle.std.specs.List.{list_all}
 use Rattle.std.specs.Fmt.{signed_decimal}
@@ -81,7 +81,7 @@ clauses_read n (c ∷ clauses) most h =
 
 -- THE LAW
 
--- the lines of a formula spell it, also behind comments
+-- the lines of a formula spell it, also after comments
 pub spells_behind : (comments : List (List Word)) (F : Cnf) → list_all is_comment_line comments ≡ true → is_formula F ≡ true → IsWithinLimits F
     → length (flat_map line (comments ++ formula_lines F)) ≤ 2 ^ 30 → Spells (flat_map line (comments ++ formula_lines F)) F
 spells_behind comments F h f limits size =

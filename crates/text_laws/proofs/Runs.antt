@@ -1,4 +1,4 @@
--- The numbers of clause lines: the literals of each clause, and a 0 behind them.
+-- The numbers of clause lines: the literals of each clause, and a 0 after them.
 use Rattle.std.proofs.Common.{◌≡◌, ℕ, zero, suc, ◌≤◌, ◌∙◌, Bool, true, false, cond, not, List, [], ◌∷◌, ◌++◌, length, map, filter, flat_map, All, refl, sym, ap, arith, append_assoc, ℤ, pos, count_by, sum_by, nat_le}
 use Rattle.std.specs.List.{list_all}
 use Rattle.std.specs.Ordering.{int_eq}

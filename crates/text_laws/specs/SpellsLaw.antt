@@ -17,7 +17,7 @@ abbrev pub texts_of : Document → Cnf
 texts_of (Done d) = d.texts
 texts_of (Unfinished d) = d.texts
 
--- what a text spells is a formula: its clauses hold literals over its variables, each once
+-- what a text spells is a formula: its clauses contain literals over its variables, each once
 abbrev pub FormulaLaw : Type 0
 FormulaLaw = (text : List ℕ) (F : Cnf) → Spells text F → IsTrue (is_formula F)
 

@@ -33,7 +33,7 @@ last_of low high p (q ∷ ps) h =
       front = rw (lt-ltb low q under, le-leb q high r.within) l.front;
     }
 
--- one more behind numbers that are less
+-- one more after numbers that are less
 push : (low high p : ℕ) (ps : List ℕ) → low < p → p ≤ high → rises_within low (p - 1) ps ≡ true → rises_within low high (ps ++ p ∷ []) ≡ true
 push low high p [] above most h = rw (lt-ltb low p above, le-leb p high most) refl
 push low high p (q ∷ ps) above most h =

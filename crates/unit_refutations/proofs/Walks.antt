@@ -41,7 +41,7 @@ pub record HasPlace (vars : ℕ) (t : Came) (places : List ℕ) (l : ℤ) : Type
   pub stands : place_of t l ≡ Some at
   pub there : among places at ≡ true
 
--- the place is that of a literal whose complement the clause holds
+-- the place is that of a literal whose complement the clause contains
 pub record IsOwed (vars : ℕ) (t : Came) (c : List ℤ) (place : ℕ) : Type 0 where
   pub lit : ℤ
   pub literal : is_literal vars lit ≡ true

@@ -36,7 +36,8 @@ pub record CameBefore (t : Came) (place : ℕ) (l : ℤ) : Type 0 where
   pub stands : place_of t l ≡ Some at
   pub before : at < place
 
--- The crossed clause at a position of a set holds the literal, and the complement of each other one came before the place.
+-- The crossed clause at a position of a set contains the literal, and the complement of each other one came before the
+-- place.
 pub record IsReason (F : Cnf) (inside : ℕ → Bool) (blocked : List Bool) (t : Came) (place : ℕ) (l : ℤ) (position : ℕ) : Type 0 where
   pub within : IsTrue (inside position)
   pub holds : IsTrue (contains (crossed_out (is_in blocked) (clause_at F position)) l)

@@ -1,9 +1,9 @@
 //! Refutations by unit propagation.
 //!
 //! A clause whose literals but one are false forces this one (Davis and Putnam, 1960). What is forced is never decided,
-//! so it stays true where further variables are blocked: a clause that forced it holds it still, and its other literals
-//! are false or blocked. So one trail serves all refutations, and each of them costs what it uses and what is forced
-//! anew.
+//! so it stays true where further variables are blocked: a clause that forced it contains it still, and its other
+//! literals are false or blocked. So one trail serves all refutations, and each of them costs what it uses and what is
+//! forced anew.
 ghost use Rattle.std.specs.Prelude.{◌≡◌, ◌+◌, ◌*◌, ◌<◌, ◌≤◌, ◌||◌, ◌++◌, ◌∷◌, [], ℕ, None, Some, false, length};
 ghost use Rattle.std.specs.Prelude.{replicate, slice_set, IfOk, OnOk, IsTrue};
 ghost use Rattle.std.specs.List.{list_all};

@@ -18,7 +18,7 @@ use Rattle.watch_prop.specs.declared.watch.Watch.{Watch}
 use Rattle.watch_prop.specs.Watchers.{Watchers}
 use Rattle.watch_prop.specs.Linked.{IsLinked, AreBlocked}
 use Rattle.watch_prop.specs.Propagation.{Propagation, IsPropagation, GoesOn, assigned, is_quiet}
-use Rattle.lk_model.specs.Formulas.Units.{is_false, is_unit}
+use Rattle.lk_model.specs.Formulas.Units.{is_false, is_unit_under}
 use Rattle.watch_prop.specs.States.{IsState, IsKnown, IsKnownBelow, AreUpheld, Leads, Passes, propagation_of, mark_at, unseen}
 use Rattle.watch_prop.proofs.Paths.{comes, last_level, back_there, same_path}
 use Rattle.watch_prop.proofs.Trails.{trail_path, propagation_more, may_open, first_follows}
@@ -40,12 +40,12 @@ quiet_forces_none p e h quiet may forced = at e.reason forced reason
     by_clause : (k : ℕ) (o : Option (List ℤ)) → clause_numbered p.clauses k ≡ o → option_map_or (λ c. forces c p.trail e.lit) o false ≡ true → ⊥
     by_clause k None found f = (let z : ⊥ = cc in z)
     by_clause k (Some c) found f =
-        let q : List ℤ → Bool = λ c. not (is_false (assigned p) c) && not (is_unit (assigned p) c) in
+        let q : List ℤ → Bool = λ c. not (is_false (assigned p) c) && not (is_unit_under (assigned p) c) in
         let still = each_numbered q p.clauses k c quiet found in
         let clause = each_numbered (λ c. not (is_empty c) && is_clause p.vars c) p.clauses k c h.clauses found in
         let unit = forces_unit p.vars p.trail c e.lit (trail_path p.vars p.clauses p.trail h.trail) (and_true (not (is_empty c)) (is_clause p.vars c) clause).1 f
         (comes p.vars p.trail e parts.0).absent in
-        let none = not-true (is_unit (assigned p) c) (and_true (not (is_false (assigned p) c)) (not (is_unit (assigned p) c)) still).1 in
+        let none = not-true (is_unit_under (assigned p) c) (and_true (not (is_false (assigned p) c)) (not (is_unit_under (assigned p) c)) still).1 in
         let z : true ≡ false = sym unit ∙ none in let y : ⊥ = cc in y
 
     at : (r : Option ℕ) → is_some r ≡ true → option_map_or (λ k. option_map_or (λ c. forces c p.trail e.lit) (clause_numbered p.clauses k) false) r true ≡ true → ⊥
@@ -78,8 +78,8 @@ quiet_done p (Conflict k) wanted clauses path quiet same h = absurd (at (clause_
     at None found f = (let z : ⊥ = cc in z)
     at (Some c) found f =
         let φ = assigned (propagation_of clauses path) in
-        let still = each_numbered (λ c. not (is_false φ c) && not (is_unit φ c)) clauses k c quiet_there found in
-        let none = not-true (is_false φ c) (and_true (not (is_false φ c)) (not (is_unit φ c)) still).0 in
+        let still = each_numbered (λ c. not (is_false φ c) && not (is_unit_under φ c)) clauses k c quiet_there found in
+        let none = not-true (is_false φ c) (and_true (not (is_false φ c)) (not (is_unit_under φ c)) still).0 in
         let z : true ≡ false = sym f ∙ none in let y : ⊥ = cc in y
 
 -- A NEW LEVEL

@@ -111,7 +111,7 @@ propagation_at_start F blocked ps form few part = record {
   trail = refl;
 }
 
--- what has the same parts keeps the same
+-- what has the same fields keeps the same
 pub held_as_seen : (p : Propagation) (vars : ℕ) (clauses : List NumberedClause) → p.vars ≡ vars → p.clauses ≡ clauses → p.trail ≡ []
     → IsPropagation (record { vars = vars; clauses = clauses; trail = [] }) → IsPropagation p
 held_as_seen p vars clauses v c t h = subst IsPropagation (sym same) h

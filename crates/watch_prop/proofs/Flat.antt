@@ -42,7 +42,7 @@ cut_take zero start xs ends = refl
 cut_take (suc k) start xs [] = refl
 cut_take (suc k) start xs (end ∷ ends) = λ i. slice_range xs start end ∷ cut_take k end xs ends i
 
--- what stands behind the last end does not matter
+-- what stands after the last end does not matter
 cut_more : (start : ℕ) (xs ys : List ℤ) (ends : List ℕ) → AreEnds start ends (length xs) → cut start (xs ++ ys) ends ≡ cut start xs ends
 cut_more start xs ys [] e = refl
 cut_more start xs ys (end ∷ ends) e = λ i. slice_range-append xs ys start end e.0 (start_le end ends (length xs) e.1) i ∷ cut_more end xs ys ends e.1 i

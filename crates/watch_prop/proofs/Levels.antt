@@ -9,7 +9,7 @@ use Rattle.watch_prop.specs.Trail.{present_level, up_to_level, may_follow, is_tr
 use Rattle.watch_prop.proofs.Paths.{back_step, back_there, some_above, split_last, last_level, comes, level_after}
 use Rattle.watch_prop.proofs.Trails.{trail_path, trail_more, trail_prefix, may_come_of}
 
--- it is a first part of the trail
+-- it is a beginning of the trail
 pub record IsPrefix (level : ℕ) (trail : List Entry) : Type 0 where
   pub rest : List Entry
   pub whole : trail ≡ up_to_level level trail ++ rest

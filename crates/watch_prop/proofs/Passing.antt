@@ -60,7 +60,7 @@ pub record IsPassing (clauses : List NumberedClause) (path path' : Path) (s s' :
   pub passed : (p : ℕ) → p < length clauses → not (among s'.waiting.items p) ≡ true
       → (is_upheld path'.entries (take (suc s'.head) path'.entries) (clause_at_place clauses p).lits (watch_at s'.watches.items p) ≡ true) ⊎ (among (drop at (watchers s'.lists.lists l)) p ≡ true)
 
--- a watch without the literal is upheld also behind the head
+-- a watch without the literal is upheld also after the head
 passed_by : (trail : List Entry) (head : ℕ) (c : List ℤ) (x : Watch) (l : ℤ) → IsAtHead trail head l → is_upheld trail (take head trail) c x ≡ true → watches_it x l ≡ false
     → is_upheld trail (take (suc head) trail) c x ≡ true
 passed_by trail head c x l at_head h apart = elim (cases_Bool (has_true trail c)) [

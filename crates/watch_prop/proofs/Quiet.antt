@@ -19,7 +19,7 @@ use Rattle.watch_prop.specs.Linked.{clause_at_place, watch_at}
 use Rattle.watch_prop.specs.declared.entry.Propagated.{Propagated}
 use Rattle.watch_prop.specs.declared.entry.Propagated.TheVariants.{Quiet, Conflict}
 use Rattle.watch_prop.specs.Propagation.{is_quiet, assigned, IsAnswered}
-use Rattle.lk_model.specs.Formulas.Units.{is_false, is_unit}
+use Rattle.lk_model.specs.Formulas.Units.{is_false, is_unit_under}
 use Rattle.watch_prop.specs.States.{IsState, Passes, propagation_of, unseen}
 use Rattle.watch_prop.proofs.Truths.{false_apart, no_sign_twice}
 use Rattle.std.proofs.lemmas.List.{take_all}
@@ -33,7 +33,7 @@ use Rattle.watch_prop.proofs.Units.{two_pass}
 -- A CLAUSE WITH A TRUE LITERAL, OR WITH TWO THAT ARE UNSET
 
 satisfied_quiet : (vars : ℕ) (trail : List Entry) (c : List ℤ) (l : ℤ) → is_path vars trail ≡ true → is_clause vars c ≡ true → contains c l ≡ true → true_in trail l ≡ true
-    → (not (is_false (assignment_along trail) c) && not (is_unit (assignment_along trail) c)) ≡ true
+    → (not (is_false (assignment_along trail) c) && not (is_unit_under (assignment_along trail) c)) ≡ true
 satisfied_quiet vars trail c l path is_clause there t =
     let φ = assignment_along trail in
     let bounds = literal_bounds vars l (literal_of_clause vars c l is_clause there) in
@@ -47,7 +47,7 @@ satisfied_quiet vars trail c l path is_clause there t =
 
 free_quiet : (vars : ℕ) (trail : List Entry) (c : List ℤ) (a b : ℤ) → is_path vars trail ≡ true → is_clause vars c ≡ true → contains c a ≡ true → contains c b ≡ true → a ≢ b
     → true_in trail a ≡ false → false_in trail a ≡ false → true_in trail b ≡ false → false_in trail b ≡ false
-    → (not (is_false (assignment_along trail) c) && not (is_unit (assignment_along trail) c)) ≡ true
+    → (not (is_false (assignment_along trail) c) && not (is_unit_under (assignment_along trail) c)) ≡ true
 free_quiet vars trail c a b path is_clause in_a in_b n ta fa tb fb =
     let φ = assignment_along trail in
     let bounds = literal_bounds vars a (literal_of_clause vars c a is_clause in_a) in
@@ -71,7 +71,7 @@ none_true trail c l none there = false_from_ne_true (true_in trail l) (λ t.
     (let f : true ≡ false = sym (passes_one (true_in trail) c l there t) ∙ none in let z : ⊥ = cc in z))
 
 upheld_quiet : (vars : ℕ) (trail : List Entry) (c : List ℤ) (x : Watch) → is_path vars trail ≡ true → is_clause vars c ≡ true → contains c x.first ≡ true → contains c x.second ≡ true
-    → not (int_eq x.second x.first) ≡ true → is_upheld trail trail c x ≡ true → (not (is_false (assignment_along trail) c) && not (is_unit (assignment_along trail) c)) ≡ true
+    → not (int_eq x.second x.first) ≡ true → is_upheld trail trail c x ≡ true → (not (is_false (assignment_along trail) c) && not (is_unit_under (assignment_along trail) c)) ≡ true
 upheld_quiet vars trail c x path is_clause in_first in_second two h = elim (cases_Bool (has_true trail c)) [
   | inl t ↦ (let l = literal_passing (true_in trail) c t in satisfied_quiet vars trail c l.0 path is_clause l.1 l.2)
   | inr none ↦

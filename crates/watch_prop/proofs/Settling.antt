@@ -45,7 +45,7 @@ up_to_head (suc n) (d ∷ trail) k lt e = elim (or_true (int_eq k d.lit) (true_i
 
 -- A LITERAL THAT WAS PASSED ON
 
--- the other literal that is watched, behind the head
+-- the other literal that is watched, after the head
 pub still_free : (trail : List Entry) (head : ℕ) (b l : ℤ) → IsAtHead trail head l → b ≢ l → false_in (take head trail) b ≡ false → false_in (take (suc head) trail) b ≡ false
 still_free trail head b l at_head apart none = false_from_ne_true (false_in (take (suc head) trail) b) (λ t. elim (up_to_head head trail (complement b) at_head.0 t) [
   | inl y ↦ (let f : true ≡ false = sym y ∙ none in let z : ⊥ = cc in z)

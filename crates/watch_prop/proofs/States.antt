@@ -115,7 +115,7 @@ pub record Keeps (s s' : State) : Type 0 where
   pub head : s'.head ≡ s.head
   pub marks : s'.marks ≡ s.marks
 
--- what a step has to show: what was upheld under a part of the trail still is
+-- what a step has to show: what was upheld under some of the trail still is
 pub record Upholds (clauses : List NumberedClause) (trail : List Entry) (s s' : State) : Type 0 where
   pub still : (sub passed : List Entry) (count : ℕ) → IsPart sub trail → IsPart passed trail → count ≤ s.satisfied → AreUpheld clauses s sub passed count → AreUpheld clauses s' sub passed count
 

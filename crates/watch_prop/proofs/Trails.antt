@@ -149,7 +149,7 @@ unset_entry_of trail l t f = at (entry_of trail (variable l)) refl
           | inr s ↦ (let z : true ≡ false = sym (subst (λ (k : ℤ). contains (literals_of trail) k ≡ true) s r.there) ∙ f in absurd (let y : ⊥ = cc in y))
         ]
 
--- A literal may follow that the clause at a place holds, in which every other one is false.
+-- A literal may follow that the clause at a place contains, in which every other one is false.
 pub may_force : (vars : ℕ) (clauses : List NumberedClause) (trail : List Entry) (place : ℕ) (e : Entry) → are_distinct (numbers_of clauses) ≡ true → place < length clauses
     → is_literal vars e.lit ≡ true → true_in trail e.lit ≡ false → false_in trail e.lit ≡ false
     → contains (clause_at_place clauses place).lits e.lit ≡ true
@@ -215,13 +215,13 @@ goes_on_then p q r g h =
           ∙ rw (g.levels) (subst (λ (n : ℕ). list_all (λ (e : Entry). e.level == n && is_some e.reason) h.forced ≡ true) level h.levels);
     }
 
--- FIRST PARTS, AND ASSIGNED LITERALS
+-- BEGINNINGS, AND ASSIGNED LITERALS
 
 -- what may follow may come
 pub may_come_of : (vars : ℕ) (clauses : List NumberedClause) (trail : List Entry) (e : Entry) → may_follow vars clauses trail e ≡ true → may_come vars trail e ≡ true
 may_come_of vars clauses trail e h = (and_true (may_come vars trail e) _ h).0
 
--- a first part of a trail is one
+-- a beginning of a trail is one
 pub trail_prefix : (vars : ℕ) (clauses : List NumberedClause) (trail more : List Entry) → is_trail vars clauses (trail ++ more) ≡ true → is_trail vars clauses trail ≡ true
 trail_prefix vars clauses trail [] h = subst (λ (t : List Entry). is_trail vars clauses t ≡ true) (append-nil trail) h
 trail_prefix vars clauses trail (e ∷ more) h =

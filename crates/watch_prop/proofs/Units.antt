@@ -12,7 +12,7 @@ use Rattle.lk_model.proofs.Literals.{variable_complement, same_int}
 use Rattle.watch_prop.specs.declared.entry.Entry.{Entry}
 use Rattle.watch_prop.specs.declared.entry.NumberedClause.{NumberedClause}
 use Rattle.watch_prop.specs.Trail.{literals_of, false_in, entry_of, assignment_along, clause_numbered, forces, is_path}
-use Rattle.lk_model.specs.Formulas.Units.{is_unit, is_unset}
+use Rattle.lk_model.specs.Formulas.Units.{is_unit_under, is_unset}
 use Rattle.watch_prop.proofs.Truths.{same_true, no_sign_twice}
 use Rattle.watch_prop.proofs.Along.{makes_true_along}
 
@@ -105,7 +105,7 @@ not_true_unset φ k h = false_from_ne_true (makes_true φ k) (λ t. (let f : tru
 
 -- a clause that forces an unset literal has one unset literal and no true one
 pub forces_unit : (vars : ℕ) (trail : List Entry) (c : List ℤ) (l : ℤ) → is_path vars trail ≡ true → is_clause vars c ≡ true → forces c trail l ≡ true → entry_of trail (variable l) ≡ None
-    → is_unit (assignment_along trail) c ≡ true
+    → is_unit_under (assignment_along trail) c ≡ true
 forces_unit vars trail c l path is_clause f absent =
     let φ = assignment_along trail in
     let both = and_true (contains c l) (list_all (λ k. int_eq k l || contains (literals_of trail) (complement k)) c) f in

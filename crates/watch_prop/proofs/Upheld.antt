@@ -13,9 +13,9 @@ use Rattle.watch_prop.specs.Watch.{other_of, has_true, is_upheld}
 use Rattle.watch_prop.specs.Linked.{watches_it}
 use Rattle.watch_prop.proofs.Truths.{same_true, false_apart}
 
--- PARTS OF A TRAIL
+-- SOME OF A TRAIL
 
--- each literal of the part stands on the trail
+-- each literal of the first list stands on the second, the trail
 pub record IsPart (part trail : List Entry) : Type 0 where
   pub there : (l : ℤ) → true_in part l ≡ true → true_in trail l ≡ true
 
@@ -123,7 +123,7 @@ other_free passed w l f it = at (one_of w l it)
     at (first a b) = subst (λ (k : ℤ). false_in passed k ≡ false) (sym b) f.second
     at (second a b) = subst (λ (k : ℤ). false_in passed k ≡ false) (sym b) f.first
 
--- A clause that watches r in place of l is upheld under a part of the trail, if r is not false.
+-- A clause that watches r in place of l is upheld under some of the trail, if r is not false.
 pub moved_upheld : (trail sub passed : List Entry) (c : List ℤ) (w : Watch) (l r : ℤ) → IsPart passed trail → is_upheld sub passed c w ≡ true → watches_it w l ≡ true
     → false_in trail r ≡ false → is_upheld sub passed c (record { first = r; second = other_of w l }) ≡ true
 moved_upheld trail sub passed c w l r passed_part h it no_r = elim (cases_Bool (has_true sub c)) [

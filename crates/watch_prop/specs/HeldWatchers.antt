@@ -1,4 +1,4 @@
--- How the lists of watchers are held: for as many clauses as hold a literal there is room.
+-- How the lists of watchers are held: for as many clauses as contain a literal there is room.
 use Rattle.std.specs.Prelude.{◌≡◌, ℕ, ◌<◌, ◌≤◌, List, map, length, slice_index_or, Vec, vec_len, vec_capacity}
 use Rattle.std.specs.declared.alloc.Global.{Global}
 use Rattle.watch_prop.specs.declared.watcher_lists.Watcher.{Watcher}

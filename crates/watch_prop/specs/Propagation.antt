@@ -7,7 +7,7 @@ use Rattle.lk_model.specs.Formulas.Literal.{is_clause, is_tautology}
 use Rattle.lk_model.specs.Limits.{max_vars}
 use Rattle.lk_model.specs.Formulas.Formula.{clause_at}
 use Rattle.lk_model.specs.Formulas.Assignment.{Assignment}
-use Rattle.lk_model.specs.Formulas.Units.{is_false, is_unit}
+use Rattle.lk_model.specs.Formulas.Units.{is_false, is_unit_under}
 use Rattle.lk_model.specs.Formulas.Crossed.{crossed_out}
 use Rattle.lk_model.specs.Held.VariableSets.{is_in}
 use Rattle.lk_model.specs.declared.crossed.Crossed.{Crossed}
@@ -38,7 +38,7 @@ crossed_clauses over = filter (λ (c : NumberedClause). not (is_empty c.lits))
 
 -- no clause is false or has just one unset literal and no true one
 abbrev pub is_quiet : Assignment → List NumberedClause → Bool
-is_quiet φ clauses = list_all (λ (c : NumberedClause). not (is_false φ c.lits) && not (is_unit φ c.lits)) clauses
+is_quiet φ clauses = list_all (λ (c : NumberedClause). not (is_false φ c.lits) && not (is_unit_under φ c.lits)) clauses
 
 -- what a propagation answers
 abbrev pub IsAnswered : Propagation → Propagated → Type 0

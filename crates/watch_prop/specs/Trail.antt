@@ -75,7 +75,7 @@ with_forced path l number = if true_in path.entries l then path else record path
 abbrev pub clause_numbered : List NumberedClause → ℕ → Option (List ℤ)
 clause_numbered clauses k = option_map (λ (c : NumberedClause). c.lits) (find (λ (c : NumberedClause). c.number == k) clauses)
 
--- the clause holds the literal, and each other literal of it is the complement of an earlier one
+-- the clause contains the literal, and each other literal of it is the complement of an earlier one
 abbrev pub forces : List ℤ → List Entry → ℤ → Bool
 forces c earlier l = contains c l && list_all (λ k. int_eq k l || contains (literals_of earlier) (complement k)) c
 

@@ -19,7 +19,7 @@ other_of w l = if int_eq w.first l then w.second else w.first
 abbrev pub has_true : List Entry → List ℤ → Bool
 has_true trail c = list_any (true_in trail) c
 
--- The watch of a clause is upheld under a trail of which the literals of one part were passed on: the clause has a true literal,
+-- The watch of a clause is upheld under a trail of which some literals were passed on: the clause has a true literal,
 -- or neither literal of the watch is false by what was passed on.
 abbrev pub is_upheld : List Entry → List Entry → List ℤ → Watch → Bool
 is_upheld trail passed c w = has_true trail c || not (false_in passed w.first) && not (false_in passed w.second)

@@ -22,7 +22,7 @@ use std::marker::Model;
 
 /// Clauses with numbers over the variables from 1 to n, and a trail: the literals that are true, in the
 /// order in which they became true, each with its level and its reason. A literal was assigned, which
-/// opened its level, or has a reason: the number of a clause that holds it and whose other literals are
+/// opened its level, or has a reason: the number of a clause that contains it and whose other literals are
 /// all complements of earlier literals of the trail. Level 0 comes before the first assigned literal.
 #[derive(Drop)]
 pub struct Propagator {

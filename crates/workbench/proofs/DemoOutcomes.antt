@@ -1,7 +1,6 @@
 -- What the clauses of a run come to for the command `demo`.
 use Rattle.std.proofs.Common.{◌≡◌, ◌∙◌, ℕ, ◌<◌, ◌^◌, ◌-◌, Bool, true, cond, List, [], ◌∷◌, Option, Some, None, refl, ap, sym, subst, arith}
-use Rattle.std.specs.Prelude.{codes, IsTrue, nat_eq, nat_le}
-use Rattle.std.specs.List.{list_any}
+use Rattle.std.specs.Prelude.{codes, IsTrue, nat_le}
 use Rattle.std.proofs.lemmas.Bool.{and_from, le-leb}
 use Rattle.lk_model.specs.Texts.Lines.{Word}
 use Rattle.lk_model.specs.Texts.NumberWords.{natural}
@@ -15,6 +14,7 @@ use Rattle.status_lines.specs.declared.status.Status.{Status}
 use Rattle.status_lines.specs.declared.status.Status.TheVariants.{Done, Words, Input, ReadFault, WriteFault, Budget, TooWide, TooLarge, Refused, Memory, Satisfiable, Unsatisfiable}
 use Rattle.command_words.proofs.CommandTable.{is_of}
 use Rattle.workbench.proofs.Outcomes.{result_of, result_at}
+use Rattle.lk_model.specs.Lists.{among}
 
 -- what is asked for
 abbrev demo_request : ℕ → Request
@@ -30,7 +30,7 @@ asked : (word : Word) (number : ℕ) → natural word ≡ Some number → number
 asked word number e few = is_of Demo (word ∷ []) ∙ rw (within word number e few) refl
 
 -- the statuses that may come
-may_come : (words : List Word) (shelf : Shelved) (number : ℕ) (s : Status) (written said : List ℕ) → request_of words ≡ Some (demo_request number) → Allows words shelf s written said → IsTrue (list_any (nat_eq (code s)) (0 ∷ 5 ∷ 9 ∷ []))
+may_come : (words : List Word) (shelf : Shelved) (number : ℕ) (s : Status) (written said : List ℕ) → request_of words ≡ Some (demo_request number) → Allows words shelf s written said → IsTrue (among (0 ∷ 5 ∷ 9 ∷ []) (code s))
 may_come words shelf number Done written said asked h = refl
 may_come words shelf number Budget written said asked h = refl
 may_come words shelf number Memory written said asked h = refl
@@ -55,6 +55,6 @@ demo_outcomes shelf out say word number e few =
       budget = λ ends.
           let r = result_of words shelf out say (demo_request number) 5 ends ask refl in
           (ends.written, r.answers.0, ends.taken.0, subst (Takes say) r.answers.1 ends.taken.1);
-      statuses = λ answer ends. subst (λ (n : ℕ). IsTrue (list_any (nat_eq n) (0 ∷ 5 ∷ 9 ∷ []))) (sym ends.answer_is)
+      statuses = λ answer ends. subst (λ (n : ℕ). IsTrue (among (0 ∷ 5 ∷ 9 ∷ []) n)) (sym ends.answer_is)
           (may_come words shelf number ends.status ends.written ends.said ask ends.allowed);
     }

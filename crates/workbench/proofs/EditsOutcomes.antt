@@ -1,7 +1,6 @@
 -- What the clauses of a run come to for the command `edits`.
 use Rattle.std.proofs.Common.{◌≡◌, ◌≢◌, ℕ, List, [], ◌∷◌, Option, Some, None, Result, Ok, Err, refl, sym, subst, ◌⊎◌, inl, inr}
-use Rattle.std.specs.Prelude.{IfSome, IsSome, IsSomeAnd, IsTrue, nat_eq}
-use Rattle.std.specs.List.{list_any}
+use Rattle.std.specs.Prelude.{IfSome, IsSome, IsSomeAnd, IsTrue}
 use Rattle.lk_model.specs.Formulas.Formula.{Cnf}
 use Rattle.lk_model.specs.Texts.Dimacs.{Spells}
 use Rattle.lk_model.specs.Texts.Fault.{fault_of}
@@ -22,8 +21,10 @@ use Rattle.workbench.specs.EditsOutcomes.{SaysFault, AreLawful, IsNoEditsText, E
 use Rattle.workbench.specs.Endings.{Sunk, IsDecided, DeservesStop}
 use Rattle.workbench.specs.Outcomes.{IsFormulaText, IsNoFormulaText}
 use Rattle.workbench.specs.StopOutcomes.{SaysOnly}
-use Rattle.workbench.proofs.Outcomes.{not_spelled, only, result_of, spelled}
+use Rattle.workbench.proofs.Outcomes.{only, result_of, spelled}
 use Rattle.workbench.proofs.StopOutcomes.{stop_outcomes}
+use Rattle.lk_model.proofs.FaultConverse.{fault_law}
+use Rattle.lk_model.specs.Lists.{among}
 
 -- WHAT IS REFUSED
 
@@ -52,9 +53,9 @@ first_fault out say told formula text s (inl h) says = formula_fault out say (to
 first_fault out say told formula text s (inr (F, spells, inl h)) says = edits_fault out say (told formula) (told text) F s spells h says
 first_fault out say told formula text s (inr (F, spells, inr (edits, read, h))) says = absurd h
 
--- WHAT TOLD TEXTS ARE
+-- WHAT VISIBLE TEXTS ARE
 
--- what is told is known of what may be told
+-- what is known of bytes that are visible is known of those that may be
 told_so : (told : Option (List ℕ)) (P : List ℕ → Type 0) → IsSomeAnd told P → IsSome told × IfSome told P
 told_so None P h = absurd h
 told_so (Some bytes) P h = (refl, h)
@@ -76,11 +77,15 @@ none_or_not (Some x) = inr (λ e. let f : ⊥ = cc e in f)
 lawful_or_not : (formula text : Option (List ℕ)) → IsSome formula → IsSome text → AreLawful formula text ⊎ IsNoFormulaText formula ⊎ IsNoEditsText formula text
 lawful_or_not None text one other = absurd (let f : ⊥ = cc one in f)
 lawful_or_not (Some bytes) None one other = absurd (let f : ⊥ = cc other in f)
-lawful_or_not (Some bytes) (Some lines) one other = by (none_or_not (fault_of bytes))
+lawful_or_not (Some bytes) (Some lines) one other = by (spelled_or_not (none_or_not (fault_of bytes)))
   where
     by_edits : AreLawful (Some bytes) (Some lines) ⊎ IsNoEditsText (Some bytes) (Some lines) → AreLawful (Some bytes) (Some lines) ⊎ IsNoFormulaText (Some bytes) ⊎ IsNoEditsText (Some bytes) (Some lines)
     by_edits (inl lawful) = inl lawful
     by_edits (inr faulty) = inr (inr faulty)
+
+    spelled_or_not : (fault_of bytes ≡ None) ⊎ (fault_of bytes ≢ None) → IsFormulaText (Some bytes) ⊎ IsNoFormulaText (Some bytes)
+    spelled_or_not (inl none) = inl ((fault_law.none bytes).0 none)
+    spelled_or_not (inr some) = inr (λ F s. some ((fault_law.none bytes).1 (F, s)))
 
     by : IsFormulaText (Some bytes) ⊎ IsNoFormulaText (Some bytes) → AreLawful (Some bytes) (Some lines) ⊎ IsNoFormulaText (Some bytes) ⊎ IsNoEditsText (Some bytes) (Some lines)
     by (inl h) = let s = spelled (Some bytes) h in by_edits (edits_or_fault s.0 (Some bytes) lines s.2 (edits_of s.0 lines) refl)
@@ -99,9 +104,9 @@ edits_outcomes words shelf out say formula text options asked = record {
       let a = (stop_outcomes words shelf out say).input e in
       first_fault out say shelf.told formula text a.0 (subst (λ (o : Option Request). DeservesStop o shelf.told a.0) asked a.1) a.3;
   statuses = λ answer e.
-      subst (λ (n : ℕ). IsTrue (list_any (nat_eq n) (0 ∷ 2 ∷ 3 ∷ 9 ∷ []))) (sym e.answer_is)
+      subst (λ (n : ℕ). IsTrue (among (0 ∷ 2 ∷ 3 ∷ 9 ∷ []) n)) (sym e.answer_is)
       (only words shelf _ e.status e.written e.said (0 ∷ 2 ∷ 3 ∷ 9 ∷ []) asked e.allowed
-      (λ is r. subst (λ (s : Status). IsTrue (list_any (nat_eq (code s)) (0 ∷ 2 ∷ 3 ∷ 9 ∷ []))) (sym r.answers.status_is) refl) refl refl refl);
+      (λ is r. subst (λ (s : Status). IsTrue (among (0 ∷ 2 ∷ 3 ∷ 9 ∷ []) (code s))) (sym r.answers.status_is) refl) refl refl refl);
   complete = λ h.
       let one = told_so (shelf.told formula) (λ bytes. Spells bytes h.F) h.spells in
       let other = told_so (shelf.told text) (IsEdits h.F h.edits) h.read in
@@ -112,5 +117,5 @@ edits_outcomes words shelf out say formula text options asked = record {
 }
   where
     bad : IsNoFormulaText (shelf.told formula) ⊎ IsNoEditsText (shelf.told formula) (shelf.told text) → IsDecided (Some (record { command = Edits; names = formula ∷ text ∷ []; options = options })) shelf.told Input
-    bad (inl h) = inl (not_spelled (shelf.told formula) h)
+    bad (inl h) = inl h
     bad (inr h) = inr (h.F, h.spells, inl (no_edits h.F (shelf.told text) h.line h.fault h.faulty))

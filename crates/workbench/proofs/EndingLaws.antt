@@ -201,7 +201,7 @@ pub told_well : (s : Stop) (o : Option Request) (ailing : Bool) (r : Result Endi
 told_well s o ailing (Ok e) is h = subst (λ (t : Status). IsWell t o ailing) (sym is) (stop_well s o ailing h)
 told_well s o ailing (Err e) is h = tt
 
--- want of memory for that line is allowed too
+-- memory may run out for that line too
 memory_ends : (words : List Word) (shelf : Shelved) (out say : Sunk) (answer : ℕ) → answer ≡ code status.Memory → TakesBoth out say [] (line_of stop.Memory) → Ends words shelf out say answer
 memory_ends words shelf out say answer is taken = record { status = status.Memory; written = []; said = line_of stop.Memory; allowed = (refl, refl); well = tt; answer_is = is; taken = taken }
 
@@ -257,7 +257,7 @@ written_runs words shelf out say s written said one other answer allowed well p 
   complete = λ decided is. written_decided out say one other s decided answer ended cut (h decided is);
 }
 
--- so does want of memory
+-- so does memory that ran out
 pub memory_runs : {SayIsSame : Type 0} → (words : List Word) (shelf : Shelved) (out say : Sunk) (answer : ℕ) → (answer ≢ 4 → (answer ≡ code status.Memory) × TakesBoth out say [] (line_of stop.Memory))
     → (answer ≡ 4 → IsCutIn out say [] (line_of stop.Memory) SayIsSame) → IsRun words shelf out say answer
 memory_runs words shelf out say answer ended cut =

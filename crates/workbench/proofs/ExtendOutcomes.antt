@@ -1,19 +1,18 @@
 -- What the clauses of a run come to for `extend`.
 use Rattle.std.proofs.Common.{◌≡◌, ◌∙◌, ℕ, List, [], ◌∷◌, ℤ, Option, Some, None, Ok, refl, ap, sym, subst, ◌⊎◌, inl, inr}
-use Rattle.std.specs.Prelude.{IfSome, IsTrue, nat_eq}
-use Rattle.std.specs.List.{list_any}
+use Rattle.std.specs.Prelude.{IfSome, IsTrue}
 use Rattle.lk_model.specs.Formulas.Formula.{Cnf}
 use Rattle.lk_model.specs.Formulas.Assignment.{Assignment, assignment_of}
 use Rattle.lk_model.specs.Texts.Dimacs.{Spells}
 use Rattle.lk_model.specs.Texts.ModelText.{model_of}
 use Rattle.lk_model.specs.Checks.Checks.{first_failure_to_extend}
-use Rattle.lk_model.specs.Documents.Reading.{IsTextOf}
+use Rattle.lk_model.specs.Documents.Reading.{IsTextOfDocument}
 use Rattle.lk_model.specs.declared.document.Document.{Document}
 use Rattle.lk_model.specs.declared.document.Document.TheVariants.{Done as Finished, Unfinished}
 use Rattle.lk_model.specs.declared.document.DoneDocument.{DoneDocument}
 use Rattle.lk_model.specs.declared.verdict.Why.{Why}
-use Rattle.command_endings.specs.Commands.Extending as extend
-use Rattle.command_endings.specs.Commands.Extending.{Outcome, Open, Fails, Extends, extension, outcome_by, outcome_of, outcome_status, written_of, said_of}
+use Rattle.command_endings.specs.Commands.Extend as extend
+use Rattle.command_endings.specs.Commands.Extend.{Outcome, Open, Fails, Extends, extension, outcome_by, outcome_of, outcome_status, written_of, said_of}
 use Rattle.workbench.specs.Endings.{Takes, IsDecided}
 use Rattle.command_words.specs.Lawful.{Request}
 use Rattle.workbench.specs.Outcomes.{IsFormulaText, IsNoFormulaText, IsNoDocumentText, IsExtendedTo, IsNotExtended, IsUnfinished, IsNoModelText, ExtendOutcomes}
@@ -22,7 +21,8 @@ use Rattle.command_words.specs.declared.command.Command.TheVariants.{Extend}
 use Rattle.status_lines.specs.declared.status.Status.{Status}
 use Rattle.status_lines.specs.declared.status.Status.TheVariants.{Done, Input, Budget, Refused}
 use Rattle.command_endings.proofs.Extensions.{accepted_extends}
-use Rattle.workbench.proofs.Outcomes.{result_of, only, not_spelled, refuses_some}
+use Rattle.workbench.proofs.Outcomes.{result_of, only, refuses_some}
+use Rattle.lk_model.specs.Lists.{among}
 
 -- the outcome that a status tells
 extends_at : (o : Outcome) → Done ≡ outcome_status o → (literals : List ℤ) × (o ≡ Extends literals)
@@ -50,14 +50,14 @@ fails_by F d ψ None why e = absurd (let f : ⊥ = cc e in f)
 fails_by F d ψ (Some other) why e = cc e
 
 -- what was read, where the model is extended, where a check fails, and where the document is unfinished
-extended_by : (formula document model : Option (List ℕ)) (F : Cnf) (d : Document) (given literals : List ℤ) → outcome_of F d (assignment_of given) ≡ Extends literals → IfSome formula (λ b. Spells b F) → IfSome document (λ b. IsTextOf b d)
-    → IfSome model (λ b. model_of b F.vars ≡ Ok given) → extend.IsProved F d (assignment_of given) → IsExtendedTo formula document model literals
+extended_by : (formula document model : Option (List ℕ)) (F : Cnf) (d : Document) (given literals : List ℤ) → outcome_of F d (assignment_of given) ≡ Extends literals → IfSome formula (λ b. Spells b F) → IfSome document (λ b. IsTextOfDocument b d)
+    → IfSome model (λ b. model_of b F.vars ≡ Ok given) → extend.IsProvedExtension F d (assignment_of given) → IsExtendedTo formula document model literals
 extended_by formula document model F (Finished d) given literals e s r m p =
     let q = passes_by F d (assignment_of given) (first_failure_to_extend F d (assignment_of given)) literals e in
     record { given = record { F = F; d = d; literals = given; read = record { both = record { spells = s; read = r }; gives = m }; passes = q.0 }; literals_are = q.1; proved = p q.0 }
 extended_by formula document model F (Unfinished d) given literals e s r m p = absurd (let f : ⊥ = cc e in f)
 
-refused_by : (formula document model : Option (List ℕ)) (F : Cnf) (d : Document) (given : List ℤ) (why : Why) → outcome_of F d (assignment_of given) ≡ Fails why → IfSome formula (λ b. Spells b F) → IfSome document (λ b. IsTextOf b d)
+refused_by : (formula document model : Option (List ℕ)) (F : Cnf) (d : Document) (given : List ℤ) (why : Why) → outcome_of F d (assignment_of given) ≡ Fails why → IfSome formula (λ b. Spells b F) → IfSome document (λ b. IsTextOfDocument b d)
     → IfSome model (λ b. model_of b F.vars ≡ Ok given) → IsNotExtended formula document model why
 refused_by formula document model F (Finished d) given why e s r m =
     record { F = F; d = d; literals = given; read = record { both = record { spells = s; read = r }; gives = m }; fails = fails_by F d (assignment_of given) (first_failure_to_extend F d (assignment_of given)) why e }
@@ -67,12 +67,12 @@ never_open : (F : Cnf) (d : DoneDocument) (ψ : Assignment) (o : Option Why) →
 never_open F d ψ None e = let f : ⊥ = cc e in f
 never_open F d ψ (Some why) e = let f : ⊥ = cc e in f
 
-open_by : (formula document model : Option (List ℕ)) (F : Cnf) (d : Document) (given : List ℤ) → outcome_of F d (assignment_of given) ≡ Open → IfSome formula (λ b. Spells b F) → IfSome document (λ b. IsTextOf b d)
+open_by : (formula document model : Option (List ℕ)) (F : Cnf) (d : Document) (given : List ℤ) → outcome_of F d (assignment_of given) ≡ Open → IfSome formula (λ b. Spells b F) → IfSome document (λ b. IsTextOfDocument b d)
     → IfSome model (λ b. model_of b F.vars ≡ Ok given) → IsUnfinished formula document model
 open_by formula document model F (Finished d) given e s r m = absurd (never_open F d (assignment_of given) (first_failure_to_extend F d (assignment_of given)) e)
 open_by formula document model F (Unfinished d) given e s r m = record { F = F; d = d; literals = given; read = record { both = record { spells = s; read = r }; gives = m } }
 
-outcome_may : (o : Outcome) → IsTrue (list_any (nat_eq (code (outcome_status o))) (0 ∷ 2 ∷ 3 ∷ 5 ∷ 8 ∷ 9 ∷ []))
+outcome_may : (o : Outcome) → IsTrue (among (0 ∷ 2 ∷ 3 ∷ 5 ∷ 8 ∷ 9 ∷ []) (code (outcome_status o)))
 outcome_may Open = refl
 outcome_may (Fails why) = refl
 outcome_may (Extends literals) = refl
@@ -103,9 +103,9 @@ extend_outcomes words shelf out say formula document model options asked = recor
         e.taken.0.same (r.answers.writes ∙ ap written_of x),
       );
   statuses = λ answer e.
-      subst (λ (n : ℕ). IsTrue (list_any (nat_eq n) (0 ∷ 2 ∷ 3 ∷ 5 ∷ 8 ∷ 9 ∷ []))) (sym e.answer_is)
+      subst (λ (n : ℕ). IsTrue (among (0 ∷ 2 ∷ 3 ∷ 5 ∷ 8 ∷ 9 ∷ []) n)) (sym e.answer_is)
       (only words shelf _ e.status e.written e.said (0 ∷ 2 ∷ 3 ∷ 5 ∷ 8 ∷ 9 ∷ []) asked e.allowed
-      (λ is r. subst (λ (s : Status). IsTrue (list_any (nat_eq (code s)) (0 ∷ 2 ∷ 3 ∷ 5 ∷ 8 ∷ 9 ∷ []))) (sym r.answers.status_is) (outcome_may (outcome_of r.values.0 r.values.1.0 (assignment_of r.values.1.1.0)))) refl refl refl);
+      (λ is r. subst (λ (s : Status). IsTrue (among (0 ∷ 2 ∷ 3 ∷ 5 ∷ 8 ∷ 9 ∷ []) (code s))) (sym r.answers.status_is) (outcome_may (outcome_of r.values.0 r.values.1.0 (assignment_of r.values.1.1.0)))) refl refl refl);
   complete = λ some another third h.
       subst (λ (o : Option Request). IsDecided o shelf.told Done) (sym asked)
       (record {
@@ -138,6 +138,6 @@ extend_outcomes words shelf out say formula document model options asked = recor
   where
     bad : IsNoFormulaText (shelf.told formula) ⊎ (IsFormulaText (shelf.told formula) × IsNoDocumentText (shelf.told document)) ⊎ IsNoModelText (shelf.told formula) (shelf.told document) (shelf.told model)
         → IsDecided (Some (record { command = Extend; names = formula ∷ document ∷ model ∷ []; options = options })) shelf.told Input
-    bad (inl h) = inl (not_spelled (shelf.told formula) h)
+    bad (inl h) = inl h
     bad (inr (inl h)) = let s = refuses_some (shelf.told formula) (shelf.told document) h in inr (s.0, s.1, inl h.1)
     bad (inr (inr h)) = inr (h.F, h.spells, inr (h.d, h.read, inl h.faulty))

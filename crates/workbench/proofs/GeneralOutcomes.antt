@@ -1,16 +1,14 @@
 -- What the clauses of a run come to for the command `reduce general`.
-use Rattle.std.proofs.Common.{◌≡◌, ◌≢◌, ℕ, ◌*◌, ◌^◌, ◌<◌, ◌≤◌, List, [], ◌∷◌, Option, Some, None, refl, sym, ap, subst, inl, inr}
-use Rattle.std.specs.Prelude.{IfSome, IsSome, IsSomeAnd, IsTrue, nat_eq, option_map}
-use Rattle.std.specs.List.{list_any}
+use Rattle.std.proofs.Common.{◌≡◌, ℕ, ◌*◌, ◌^◌, ◌<◌, ◌≤◌, List, [], ◌∷◌, Option, Some, None, refl, sym, ap, subst, inl, inr}
+use Rattle.std.specs.Prelude.{IfSome, IsSome, IsSomeAnd, IsTrue, option_map}
 use Rattle.std.proofs.lemmas.Bool.{cases_lt}
 use Rattle.lk_model.specs.Formulas.Formula.{Cnf}
 use Rattle.lk_model.specs.Texts.Dimacs.{Spells}
-use Rattle.lk_model.specs.Texts.Fault.{fault_of}
 use Rattle.lk_model.specs.Texts.Lines.{Word}
 use Rattle.lk_model.specs.Reduction.{ReducesTo, StopsUnfinished}
 use Rattle.lk_model.specs.declared.class.Class.TheVariants.{General}
 use Rattle.dimacs_reader.specs.Faults.{refusal_by, refusal_of}
-use Rattle.command_endings.specs.Commands.GeneralReducing.{WritesFinished, WritesUnfinished, Writes}
+use Rattle.command_endings.specs.Commands.ReduceGeneral.{WritesFinished, WritesUnfinishedKernel, Writes}
 use Rattle.workbench.specs.Endings.{Takes, IsDecided}
 use Rattle.workbench.specs.GeneralOutcomes.{ReducesWithin, StopsShort, GeneralOutcomes}
 use Rattle.command_words.specs.declared.shape.Grammar.TheVariants.{Formula}
@@ -23,12 +21,14 @@ use Rattle.status_lines.specs.declared.status.Status.TheVariants as status
 use Rattle.status_lines.specs.declared.status.Status.TheVariants.{Done, Budget, Input}
 use Rattle.command_inputs.specs.declared.stop.Stop.{Stop}
 use Rattle.command_inputs.specs.declared.stop.Stop.TheVariants as stop
-use Rattle.workbench.proofs.Outcomes.{result_of, input_of, only, not_spelled}
+use Rattle.workbench.proofs.Outcomes.{result_of, input_of, only}
+use Rattle.lk_model.proofs.FaultConverse.{faultless}
+use Rattle.lk_model.specs.Lists.{among}
 
 -- WHAT A STATUS TELLS
 
 -- it is 0 or 5
-one_of : (options : Options) (F : Cnf) (s : Status) (written said : List ℕ) → Writes options F s written said → IsTrue (list_any (nat_eq (code s)) (0 ∷ 2 ∷ 3 ∷ 5 ∷ 9 ∷ []))
+one_of : (options : Options) (F : Cnf) (s : Status) (written said : List ℕ) → Writes options F s written said → IsTrue (among (0 ∷ 2 ∷ 3 ∷ 5 ∷ 9 ∷ []) (code s))
 one_of options F Done written said w = refl
 one_of options F Budget written said w = refl
 one_of options F status.Words written said w = absurd w
@@ -53,7 +53,7 @@ reduces_within : (told : Option (List ℕ)) (F : Cnf) (options : Options) (text 
 reduces_within None F options text s w = tt
 reduces_within (Some bytes) F options text s w = record { formula = F; spells = s; writes = w }
 
-stops_short : (told : Option (List ℕ)) (F : Cnf) (options : Options) (text : List ℕ) → IfSome told (λ bytes. Spells bytes F) → WritesUnfinished options F text → options.conflicts < F.vars * 3 ^ F.vars → IfSome told (λ bytes. StopsShort bytes options text)
+stops_short : (told : Option (List ℕ)) (F : Cnf) (options : Options) (text : List ℕ) → IfSome told (λ bytes. Spells bytes F) → WritesUnfinishedKernel options F text → options.conflicts < F.vars * 3 ^ F.vars → IfSome told (λ bytes. StopsShort bytes options text)
 stops_short None F options text s w few = tt
 stops_short (Some bytes) F options text s w few = record { formula = F; spells = s; writes = w; few = few }
 
@@ -64,10 +64,10 @@ within_reduces text options written h = record { formula = h.formula; spells = h
 pub short_stops : (text : List ℕ) (options : Options) (written : List ℕ) → StopsShort text options written → StopsUnfinished text options.protect options.conflicts written
 short_stops text options written h = record { formula = h.formula; spells = h.spells; unfinished = h.writes.unfinished; part = h.writes.part; is_part = h.writes.is_part; names = h.writes.names }
 
--- a text that is refused has a fault
-faulty : (told : Option (List ℕ)) (s : Stop) → IsRefusal Formula nothing_known told s → IfSome told (λ bytes. fault_of bytes ≢ None)
+-- a text that is refused spells no formula
+faulty : (told : Option (List ℕ)) (s : Stop) → IsRefusal Formula nothing_known told s → IfSome told (λ bytes. (F : Cnf) → Spells bytes F → ⊥)
 faulty None s h = tt
-faulty (Some bytes) (stop.Formula r) h = λ none. let no : refusal_of bytes ≡ None = ap (option_map refusal_by) none in let f : ⊥ = cc (no, h) in f
+faulty (Some bytes) (stop.Formula r) h = λ F s. let no : refusal_of bytes ≡ None = ap (option_map refusal_by) (faultless bytes F s) in let f : ⊥ = cc (no, h) in f
 faulty (Some bytes) (stop.Words i) h = absurd h
 faulty (Some bytes) (stop.Document line) h = absurd h
 faulty (Some bytes) (stop.Model line) h = absurd h
@@ -77,7 +77,7 @@ faulty (Some bytes) stop.Read h = absurd h
 faulty (Some bytes) stop.Memory h = absurd h
 
 -- of a command whose one input is a formula
-pub first_faulty : (told : Told) (name : Word) (s : Stop) → IsFirstBad told nothing_known (Formula ∷ []) (name ∷ []) s → IfSome (told name) (λ bytes. fault_of bytes ≢ None)
+pub first_faulty : (told : Told) (name : Word) (s : Stop) → IsFirstBad told nothing_known (Formula ∷ []) (name ∷ []) s → IfSome (told name) (λ bytes. (F : Cnf) → Spells bytes F → ⊥)
 first_faulty told name s (inl h) = faulty (told name) s h
 first_faulty told name s (inr later) = absurd later.2
 
@@ -106,11 +106,11 @@ general_outcomes words shelf out say name options asked = record {
       let b = input_of words shelf out say _ e asked in
       first_faulty shelf.told name b.0 b.1;
   statuses = λ answer e.
-      subst (λ (n : ℕ). IsTrue (list_any (nat_eq n) (0 ∷ 2 ∷ 3 ∷ 5 ∷ 9 ∷ []))) (sym e.answer_is)
+      subst (λ (n : ℕ). IsTrue (among (0 ∷ 2 ∷ 3 ∷ 5 ∷ 9 ∷ []) n)) (sym e.answer_is)
       (only words shelf _ e.status e.written e.said (0 ∷ 2 ∷ 3 ∷ 5 ∷ 9 ∷ []) asked e.allowed
       (λ is r. one_of options r.values.0 e.status e.written e.said r.answers.writes) refl refl refl);
   enough = λ F h enough.
       let t = told_text (shelf.told name) F h in
       subst (λ (o : Option Request). IsDecided o shelf.told Done) (sym asked) (record { told_all = (t.0, tt); values = (F, tt); read = (t.1, tt); decides = record { status_is = refl; enough = enough } });
-  refuses = λ h. subst (λ (o : Option Request). IsDecided o shelf.told Input) (sym asked) (inl (not_spelled (shelf.told name) h));
+  refuses = λ h. subst (λ (o : Option Request). IsDecided o shelf.told Input) (sym asked) (inl h);
 }

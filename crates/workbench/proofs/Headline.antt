@@ -9,11 +9,10 @@ use Rattle.lk_model.specs.Checks.Checks.{Accepts, first_failure, first_failure_t
 use Rattle.lk_model.specs.Checks.CommonChecks.{other_formula, model_fails}
 use Rattle.lk_model.specs.Formulas.Literal.{variable, literal_of}
 use Rattle.lk_model.specs.Formulas.Assignment.{Assignment, assignment_of, extended_value}
-use Rattle.lk_model.specs.Formulas.Autarky.{Within}
-use Rattle.lk_model.specs.Formulas.Crossed.{no_variable, protected_by}
+use Rattle.lk_model.specs.Formulas.Crossed.{protected_by, protect_line_of}
 use Rattle.lk_model.specs.Formulas.Formula.{Cnf, clauses_at, variables_to}
-use Rattle.lk_model.specs.Formulas.Lean.{Kernel}
-use Rattle.lk_model.specs.Reduction.{IsReduction, ReducesBy, WritesReduction, protect_line_of}
+use Rattle.lk_model.specs.Reduction.{IsReduction, WritesReduction}
+use Rattle.lk_model.specs.Formulas.Protected.{ReducesBy}
 use Rattle.lk_model.specs.Texts.Dimacs.{Spells}
 use Rattle.lk_model.specs.Texts.Lines.{Word}
 use Rattle.lk_model.specs.Texts.ModelText.{model_of}
@@ -32,10 +31,8 @@ use Rattle.lk_model.specs.declared.verdict.Why.{Why}
 use Rattle.lk_model.proofs.FaultConverse.{fault_law}
 use Rattle.lk_model.proofs.Literals.{variable_of}
 use Rattle.lk_outside.specs.Causes.{Rose}
-use Rattle.kernel_laws.proofs.Existence.ExistenceLaws.{existence_law}
 use Rattle.kernel_laws.proofs.Passed.{none_fails, has_passed, same_numbers}
-use Rattle.kernel_laws.proofs.Protected.EmptyLaws.{empty_law}
-use Rattle.kernel_laws.proofs.SameKept.{same_kept_law}
+use Rattle.document_laws.proofs.SameKept.{same_kept_law}
 use Rattle.text_laws.proofs.SpelledFormulas.{spelled_form}
 use Rattle.text_laws.proofs.Spelling.{spells_law}
 use Rattle.lean_checker.specs.Verdicts.{verdict_by, verdict_of, verdict_words}
@@ -43,10 +40,10 @@ use Rattle.lean_checker.specs.declared.verdict.Verdict.{Verdict}
 use Rattle.lean_checker.specs.declared.verdict.Verdict.TheVariants as verdict
 use Rattle.cert_text.proofs.PrintedTexts.{text_in_row}
 use Rattle.cert_text.proofs.ReadLaws.{of_one_document, stops_nowhere}
-use Rattle.answer_check.specs.Answers.{is_answer}
+use Rattle.lk_model.specs.Documents.Answers.{is_answer}
 use Rattle.answer_check.specs.AnswerChecks.{first_failure_of_answer}
-use Rattle.answer_check.specs.declared.answer.Answer.{Answer}
-use Rattle.answer_check.specs.declared.answer.Answer.TheVariants.{Model, Refuted, Core}
+use Rattle.lk_model.specs.declared.answer.Answer.{Answer}
+use Rattle.lk_model.specs.declared.answer.Answer.TheVariants.{Model, Refuted, Core}
 use Rattle.answer_check.proofs.AnswerLaws.{answer_law}
 use Rattle.edit_text.specs.Edits.{states}
 use Rattle.edit_text.specs.EditText.{IsEdits}
@@ -63,17 +60,17 @@ use Rattle.command_inputs.specs.Inputs.{Told, Known, nothing_known, Values, IsTe
 use Rattle.command_inputs.specs.declared.stop.Stop.{Stop}
 use Rattle.command_inputs.proofs.InputLaws.{nothing_small, none_stops}
 use Rattle.command_endings.specs.Commands as commands
-use Rattle.command_endings.specs.Commands.Checking as check
-use Rattle.command_endings.specs.Commands.Editing.{WritesKernels}
-use Rattle.command_endings.specs.Commands.Extending as extend
-use Rattle.command_endings.specs.Commands.Extending.{extension, outcome_of, outcome_by, outcome_status, written_of}
-use Rattle.command_endings.specs.Commands.GeneralReducing as general
-use Rattle.command_endings.specs.Commands.Extracting as mus
-use Rattle.command_endings.specs.Commands.Measuring.{WritesDeficiency}
-use Rattle.command_endings.specs.Commands.Reporting.{WritesReport}
-use Rattle.command_endings.specs.Commands.Solving as solve
-use Rattle.command_endings.specs.Commands.Solving.{IsEnoughToRefute, WritesAnswer}
-use Rattle.command_endings.specs.Commands.Verifying as verify
+use Rattle.command_endings.specs.Commands.Check as check
+use Rattle.command_endings.specs.Commands.Edits.{WritesKernels}
+use Rattle.command_endings.specs.Commands.Extend as extend
+use Rattle.command_endings.specs.Commands.Extend.{extension, outcome_of, outcome_by, outcome_status, written_of}
+use Rattle.command_endings.specs.Commands.ReduceGeneral as general
+use Rattle.command_endings.specs.Commands.Mus as mus
+use Rattle.command_endings.specs.Commands.Deficiency.{WritesDeficiency}
+use Rattle.command_endings.specs.Commands.Report.{WritesReport}
+use Rattle.command_endings.specs.Commands.Solve as solve
+use Rattle.command_endings.specs.Commands.Solve.{IsEnoughToRefute, WritesAnswer}
+use Rattle.command_endings.specs.Commands.Verify as verify
 use Rattle.command_endings.proofs.SolveEndings.{not_enough}
 use Rattle.command_endings.proofs.VerifiedAnswers.{in_kernel, minimal_core}
 use Rattle.status_lines.specs.Statuses.{code, is_result}
@@ -155,7 +152,7 @@ asks Edits inputs options none count = asks_two Edits inputs options count (λ o
 asks Extend inputs options none count = asks_three Extend inputs options count (λ one two three. ap (λ (b : Bool). cond b (asked_with Extend (one ∷ two ∷ three ∷ []) options) None) (there 3 (one ∷ two ∷ three ∷ options) (omega arith)))
 asks Demo inputs options none count = absurd (let f : ⊥ = cc none in f)
 
--- a command over inputs, with options behind their names
+-- a command over inputs, with options after their names
 abbrev words_for : Command → List Input → List Word → List Word
 words_for command inputs options = words_of command ++ names_of inputs ++ options
 
@@ -309,7 +306,7 @@ reduce class options formula written run =
     (r.0, r.1, writes_reduced r.0 class (options_by options).protect (options_by options).pivots written r.2)
 
 -- of a document that no check refuses
-checked : (F : Cnf) (d : AnyDocument) (text : List ℕ) (o : Option Why) → first_failure F d ≡ o → verdict_by d o ≡ verdict.Accepted → (first_failure F d ≡ None → check.IsProved F d) → IsTextOf Document nothing_known d text
+checked : (F : Cnf) (d : AnyDocument) (text : List ℕ) (o : Option Why) → first_failure F d ≡ o → verdict_by d o ≡ verdict.Accepted → (first_failure F d ≡ None → check.IsProvedDocument F d) → IsTextOf Document nothing_known d text
     → (protect : Option (List ℕ)) × (class : Class) × IsReduced protect class F text
 checked F (Finished d) text None none e proved read =
     let p = proved none in
@@ -357,7 +354,7 @@ extended_where F d document model written given None read gives proved is done t
   written_is = text;
 }
 
-extended_by : (F : Cnf) (d : AnyDocument) (document model written : List ℕ) (given : List ℤ) → IsTextOf Document nothing_known d document → model_of model F.vars ≡ Ok given → extend.IsProved F d (assignment_of given)
+extended_by : (F : Cnf) (d : AnyDocument) (document model written : List ℕ) (given : List ℤ) → IsTextOf Document nothing_known d document → model_of model F.vars ≡ Ok given → extend.IsProvedExtension F d (assignment_of given)
     → Done ≡ outcome_status (outcome_of F d (assignment_of given)) → written ≡ written_of (outcome_of F d (assignment_of given)) → IsExtended F document model written
 extended_by F (Unfinished d) document model written given read gives proved done text = absurd (let f : ⊥ = cc done in f)
 extended_by F (Finished d) document model written given read gives proved done text = extended_where F d document model written given (first_failure_to_extend F d (assignment_of given)) read gives proved refl done text
@@ -604,11 +601,11 @@ mus_ends options F TooLarge written said enough a = absurd a
 mus_ends options F Failing written said enough a = absurd a
 mus_ends options F Memory written said enough a = absurd a
 
-keeps : Decides ReduceGeneral general.IsEnough (0 ∷ [])
+keeps : Decides ReduceGeneral general.IsEnoughToReduce (0 ∷ [])
 keeps formula options status F r other spells enough =
     let a = replied ReduceGeneral (formula ∷ []) options status r other (F, spells, tt) in
     let same : a.2.values.0 ≡ F = fault_law.one formula.text a.2.values.0 F a.2.read.0 spells in
-    let done = a.2.answers.enough (subst (general.IsEnough (options_by options).conflicts) (sym same) enough) in
+    let done = a.2.answers.enough (subst (general.IsEnoughToReduce (options_by options).conflicts) (sym same) enough) in
     subst (λ (n : ℕ). IsTrue (among (0 ∷ []) n)) (sym (a.1 ∙ ap code done)) refl
 
 solves : Decides Solve IsEnoughToRefute (10 ∷ 20 ∷ [])

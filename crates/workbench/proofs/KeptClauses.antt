@@ -1,15 +1,15 @@
 -- What a reduction keeps is determined.
 use Rattle.std.proofs.Common.{◌≡◌, ◌∙◌, ℕ, List, Option, sym, ap, subst}
 use Rattle.lk_model.specs.Checks.Checks.{Accepts}
-use Rattle.lk_model.specs.Documents.Reading.{IsTextOf}
-use Rattle.lk_model.specs.Formulas.Crossed.{protected_by}
+use Rattle.lk_model.specs.Documents.Reading.{IsTextOfDocument}
+use Rattle.lk_model.specs.Formulas.Crossed.{protected_by, protect_line_of}
 use Rattle.lk_model.specs.Formulas.Formula.{Cnf, clauses_at}
-use Rattle.lk_model.specs.Reduction.{ReducesTo, WritesReduction, IsReduction, protect_line_of}
+use Rattle.lk_model.specs.Reduction.{ReducesTo, WritesReduction, IsReduction}
 use Rattle.lk_model.specs.declared.class.Class.{Class}
 use Rattle.lk_model.specs.declared.document.Document.TheVariants.{Done}
 use Rattle.lk_model.specs.declared.document.DoneDocument.{DoneDocument}
 use Rattle.lk_model.proofs.FaultConverse.{fault_law}
-use Rattle.kernel_laws.proofs.SameKept.{same_kept_law}
+use Rattle.document_laws.proofs.SameKept.{same_kept_law}
 use Rattle.cert_text.proofs.ReadLaws.{of_one_document}
 use Rattle.workbench.specs.KeptClauses.{IsReductionOf, KeepTheSame, KeptLaw}
 
@@ -32,12 +32,12 @@ both_same text class protect d e r s =
     }
 
 -- the document that is written is that of the text
-document_is : (F : Cnf) (class : Class) (listed : Option (List ℕ)) (pivots : ℕ) (written : List ℕ) (d : DoneDocument) (w : WritesReduction F class listed pivots written) → IsTextOf written (Done d) → w.document ≡ d
+document_is : (F : Cnf) (class : Class) (listed : Option (List ℕ)) (pivots : ℕ) (written : List ℕ) (d : DoneDocument) (w : WritesReduction F class listed pivots written) → IsTextOfDocument written (Done d) → w.document ≡ d
 document_is F class listed pivots written d w is =
     let same = of_one_document written (Done w.document) (Done d) (record { form = w.reduces.accepted.form; text = w.written_is }) is in
     cc
 
-is_written : (text : List ℕ) (class : Class) (protect : Option (List ℕ)) (pivots : ℕ) (written : List ℕ) (d : DoneDocument) → ReducesTo text class protect pivots written → IsTextOf written (Done d) → IsReductionOf text class protect d
+is_written : (text : List ℕ) (class : Class) (protect : Option (List ℕ)) (pivots : ℕ) (written : List ℕ) (d : DoneDocument) → ReducesTo text class protect pivots written → IsTextOfDocument written (Done d) → IsReductionOf text class protect d
 is_written text class protect pivots written d r is =
     let w = r.writes in
     subst (IsReductionOf text class protect) (document_is r.formula class protect pivots written d w is) (record {

@@ -1,7 +1,6 @@
 -- What the clauses of a run come to for the command `reduce linear`.
 use Rattle.std.proofs.Common.{◌≡◌, ◌∙◌, ℕ, Bool, true, false, List, [], ◌∷◌, Option, Some, None, refl, sym, subst, inl}
-use Rattle.std.specs.Prelude.{IsSomeAnd, IsTrue, nat_eq}
-use Rattle.std.specs.List.{list_any}
+use Rattle.std.specs.Prelude.{IsSomeAnd, IsTrue}
 use Rattle.lk_model.specs.Formulas.Formula.{Cnf}
 use Rattle.lk_model.specs.Formulas.Crossed.{formula_without}
 use Rattle.lk_model.specs.Linear.LinearRun.{LinearEnd, RunDone, RunWide, RunBudget, linear_run_under, is_too_large_under}
@@ -9,8 +8,7 @@ use Rattle.lk_model.specs.Texts.Dimacs.{Spells}
 use Rattle.lk_model.specs.Texts.Lines.{Word}
 use Rattle.lk_model.specs.declared.class.Class.TheVariants.{Linear}
 use Rattle.lk_model.specs.declared.wide.Wide.{Wide}
-use Rattle.lk_model.proofs.FaultConverse.{fault_law}
-use Rattle.command_endings.specs.Commands.LinearReducing.{protected, status_by, status_of, line_by, line_of}
+use Rattle.command_endings.specs.Commands.ReduceLinear.{protected, status_by, status_of, line_by, line_of}
 use Rattle.status_lines.specs.RunLines.{budget_line, too_wide_line}
 use Rattle.workbench.specs.Endings.{HasValues, IsDecidedFor, IsDecided, Takes}
 use Rattle.command_inputs.specs.Inputs.{Told}
@@ -23,8 +21,9 @@ use Rattle.command_words.specs.declared.command.Command.TheVariants.{ReduceLinea
 use Rattle.status_lines.specs.declared.status.Status.{Status}
 use Rattle.status_lines.specs.declared.status.Status.TheVariants.{Input, Budget, TooWide, TooLarge}
 use Rattle.command_endings.proofs.LinearEndings.{done_silent}
-use Rattle.workbench.proofs.Outcomes.{result_of, only, not_spelled, reduces_to}
+use Rattle.workbench.proofs.Outcomes.{result_of, only, reduces_to}
 use Rattle.workbench.proofs.GeneralOutcomes.{told_text}
+use Rattle.lk_model.specs.Lists.{among}
 
 -- WHAT A STATUS TELLS
 
@@ -46,7 +45,7 @@ large_by false (RunDone kept stages dual units made) e = absurd (let f : ⊥ = c
 large_by false (RunWide made wide) e = absurd (let f : ⊥ = cc e in f)
 large_by false RunBudget e = absurd (let f : ⊥ = cc e in f)
 
-one_of : (large : Bool) (end : LinearEnd) → IsTrue (list_any (nat_eq (code (status_by large end))) (0 ∷ 2 ∷ 3 ∷ 5 ∷ 6 ∷ 7 ∷ 9 ∷ []))
+one_of : (large : Bool) (end : LinearEnd) → IsTrue (among (0 ∷ 2 ∷ 3 ∷ 5 ∷ 6 ∷ 7 ∷ 9 ∷ []) (code (status_by large end)))
 one_of true end = refl
 one_of false (RunDone kept stages dual units made) = refl
 one_of false (RunWide made wide) = refl
@@ -62,7 +61,7 @@ decided_at request told false RunBudget h = h
 
 spelled_text : (told : Option (List ℕ)) → IsFormulaText told → (F : Cnf) × IsSomeAnd told (λ bytes. Spells bytes F)
 spelled_text None h = absurd h
-spelled_text (Some bytes) h = (fault_law.none bytes).0 h
+spelled_text (Some bytes) h = h
 
 -- the run that is asked for, on what is left of a formula without the protected variables
 abbrev rest_of : Options → Cnf → Cnf
@@ -121,10 +120,10 @@ linear_outcomes words shelf out say name options asked = record {
         (subst (Takes say) (r.answers.says ∙ line) e.taken.1, e.taken.0.same r.answers.writes),
       );
   statuses = λ answer e.
-      subst (λ (n : ℕ). IsTrue (list_any (nat_eq n) (0 ∷ 2 ∷ 3 ∷ 5 ∷ 6 ∷ 7 ∷ 9 ∷ []))) (sym e.answer_is)
+      subst (λ (n : ℕ). IsTrue (among (0 ∷ 2 ∷ 3 ∷ 5 ∷ 6 ∷ 7 ∷ 9 ∷ []) n)) (sym e.answer_is)
       (only words shelf _ e.status e.written e.said (0 ∷ 2 ∷ 3 ∷ 5 ∷ 6 ∷ 7 ∷ 9 ∷ []) asked e.allowed
-      (λ is r. subst (λ (s : Status). IsTrue (list_any (nat_eq (code s)) (0 ∷ 2 ∷ 3 ∷ 5 ∷ 6 ∷ 7 ∷ 9 ∷ []))) (sym r.answers.status_is) (one_of (is_large options r.values.0) (end_of options r.values.0))) refl refl refl);
+      (λ is r. subst (λ (s : Status). IsTrue (among (0 ∷ 2 ∷ 3 ∷ 5 ∷ 6 ∷ 7 ∷ 9 ∷ []) (code s))) (sym r.answers.status_is) (one_of (is_large options r.values.0) (end_of options r.values.0))) refl refl refl);
   exact = λ F h. exactly words shelf.told name options F asked h;
   complete = λ h. let s = spelled_text (shelf.told name) h in (s.0, s.1, exactly words shelf.told name options s.0 asked s.1);
-  refuses = λ h. subst (λ (o : Option Request). IsDecided o shelf.told Input) (sym asked) (inl (not_spelled (shelf.told name) h));
+  refuses = λ h. subst (λ (o : Option Request). IsDecided o shelf.told Input) (sym asked) (inl h);
 }

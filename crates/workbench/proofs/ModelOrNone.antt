@@ -3,16 +3,15 @@ use Rattle.std.proofs.Common.{◌≡◌, ℕ, true, not, refl, ap, Option, Some,
 use Rattle.std.specs.Prelude.{IsTrue, find}
 use Rattle.std.proofs.lemmas.Bool.{cases_Bool, both_ways, not-false}
 use Rattle.lk_model.specs.Formulas.Formula.{Cnf, clause_at, is_formula, positions_of}
-use Rattle.lk_model.specs.Formulas.Assignment.{Assignment, satisfies, touches}
+use Rattle.lk_model.specs.Formulas.Assignment.{Assignment, satisfies, touches, IsModel}
 use Rattle.lk_model.specs.Formulas.Lean.{all_of}
 use Rattle.lk_model.specs.Formulas.Minimal.{IsSatisfiable, IsUnsatisfiable}
 use Rattle.lk_model.specs.Held.PartialValues.{assignment_by}
-use Rattle.lk_model.specs.Reduction.{IsModel}
 use Rattle.lk_model.specs.declared.class.Class.TheVariants.{General}
 use Rattle.lk_model.proofs.Founds.{none_at, none_found, is_position}
 use Rattle.kernel_laws.proofs.Assignments.{untouched_unsatisfied}
-use Rattle.kernel_laws.proofs.Existence.Bounded.{values_of, values_length, autarky_by_values, touched_by_values}
-use Rattle.kernel_laws.proofs.Existence.Searching.{IsDecided, search_values}
+use Rattle.document_laws.proofs.Existence.Bounded.{values_of, values_length, autarky_by_values, touched_by_values}
+use Rattle.document_laws.proofs.Existence.Searching.{IsDecided, search_values}
 
 -- it is decided of each assignment whether it is a model
 model_decided : (F : Cnf) (φ : Assignment) → IsDecided (IsModel F (all_of F) φ)

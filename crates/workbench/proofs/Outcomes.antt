@@ -1,7 +1,6 @@
 -- What the clauses of a run come to for each command.
 use Rattle.std.proofs.Common.{◌≡◌, ◌∙◌, ℕ, ◌==◌, if◌then◌else◌, List, [], ◌∷◌, Option, Some, None, refl, ap, sym, subst, ◌⊎◌, inl, inr}
-use Rattle.std.specs.Prelude.{IfSome, IsSome, IsSomeAnd, IsTrue, nat_eq}
-use Rattle.std.specs.List.{list_any}
+use Rattle.std.specs.Prelude.{IfSome, IsSome, IsSomeAnd, IsTrue}
 use Rattle.lk_model.specs.Formulas.Formula.{Cnf}
 use Rattle.lk_model.specs.Texts.Dimacs.{Spells}
 use Rattle.lk_model.specs.Texts.Lines.{Word}
@@ -13,26 +12,26 @@ use Rattle.lk_model.specs.declared.class.Class.TheVariants.{Pure, Matching}
 use Rattle.lk_model.specs.declared.document.Document.{Document}
 use Rattle.lk_model.specs.declared.document.Document.TheVariants.{Done as Finished, Unfinished}
 use Rattle.lk_model.specs.declared.verdict.Why.{Why}
-use Rattle.lk_model.proofs.FaultConverse.{fault_law, faultless}
-use Rattle.lk_model.specs.Documents.Reading.{IsTextOf}
+use Rattle.lk_model.specs.Documents.Reading.{IsTextOfDocument}
 use Rattle.lean_checker.specs.Verdicts.{verdict_by, verdict_of, verdict_words}
 use Rattle.lean_checker.specs.declared.verdict.Verdict.{Verdict}
 use Rattle.lean_checker.specs.declared.verdict.Verdict.TheVariants as verdict
-use Rattle.command_endings.specs.Commands.Reducing as reduce
-use Rattle.command_endings.specs.Commands.Checking as check
+use Rattle.command_endings.specs.Commands.Reduce as reduce
+use Rattle.command_endings.specs.Commands.Check as check
 use Rattle.status_lines.specs.Verdicts.{verdict_status}
-use Rattle.command_endings.specs.Commands.Reporting.{WritesReport}
+use Rattle.command_endings.specs.Commands.Report.{WritesReport}
 use Rattle.workbench.specs.Endings.{Shelved, Sunk, Takes, Ends, Allows, HasResult, IsResult, DeservesStop, IsDecided}
 use Rattle.command_words.specs.Shapes.{inputs_of}
 use Rattle.command_inputs.specs.Inputs.{nothing_known, Told, IsFirstBad}
 use Rattle.command_words.specs.Lawful.{Request, request_of}
-use Rattle.workbench.specs.Outcomes.{IsFormulaText, IsNoFormulaText, IsNoDocumentText, IsProved, IsOpenFor, ReduceMeans, ReduceOutcomes, CheckOutcomes, ReportOutcomes, Reports}
+use Rattle.workbench.specs.Outcomes.{IsFormulaText, IsNoFormulaText, IsNoDocumentText, IsProvedText, IsOpenFor, ReduceMeans, ReduceOutcomes, CheckOutcomes, ReportOutcomes, Reports}
 use Rattle.command_words.specs.Settings.{Options}
 use Rattle.status_lines.specs.Statuses.{code, is_result}
 use Rattle.command_words.specs.declared.command.Command.TheVariants.{ReducePure, ReduceMatching, Check}
 use Rattle.command_inputs.specs.declared.stop.Stop.{Stop}
 use Rattle.status_lines.specs.declared.status.Status.{Status}
 use Rattle.status_lines.specs.declared.status.Status.TheVariants.{Done, Words, Input, ReadFault, WriteFault, Budget, TooWide, TooLarge, Refused, Memory, Satisfiable, Unsatisfiable}
+use Rattle.lk_model.specs.Lists.{among}
 
 -- STATUSES
 
@@ -102,11 +101,11 @@ input_of words shelf out say r e asked =
 
 -- a status is that of a result that may come, or one of a stop
 pub only : (words : List Word) (shelf : Shelved) (r : Request) (s : Status) (written said : List ℕ) (may : List ℕ) → request_of words ≡ Some r → Allows words shelf s written said
-    → (IsTrue (is_result s) → HasResult r shelf.told s written said → IsTrue (list_any (nat_eq (code s)) may)) → IsTrue (list_any (nat_eq 2) may) → IsTrue (list_any (nat_eq 3) may) → IsTrue (list_any (nat_eq 9) may)
-    → IsTrue (list_any (nat_eq (code s)) may)
+    → (IsTrue (is_result s) → HasResult r shelf.told s written said → IsTrue (among may (code s))) → IsTrue (among may 2) → IsTrue (among may 3) → IsTrue (among may 9)
+    → IsTrue (among may (code s))
 only words shelf r s written said may asked h result two three nine = by s h result
   where
-    by : (s : Status) → Allows words shelf s written said → (IsTrue (is_result s) → HasResult r shelf.told s written said → IsTrue (list_any (nat_eq (code s)) may)) → IsTrue (list_any (nat_eq (code s)) may)
+    by : (s : Status) → Allows words shelf s written said → (IsTrue (is_result s) → HasResult r shelf.told s written said → IsTrue (among may (code s))) → IsTrue (among may (code s))
     by Done h result = result refl (result_at words shelf r Done written said asked refl h)
     by Budget h result = result refl (result_at words shelf r Budget written said asked refl h)
     by TooWide h result = result refl (result_at words shelf r TooWide written said asked refl h)
@@ -126,14 +125,9 @@ pub reduces_to : (told : Option (List ℕ)) (class : Class) (F : Cnf) (options :
 reduces_to None class F options text s w = tt
 reduces_to (Some bytes) class F options text s w = record { formula = F; spells = s; writes = w }
 
--- a text without a fault spells a formula, and another spells none
 pub spelled : (told : Option (List ℕ)) → IsFormulaText told → (F : Cnf) × IsSome told × IfSome told (λ bytes. Spells bytes F)
 spelled None h = absurd h
-spelled (Some bytes) h = let s = (fault_law.none bytes).0 h in (s.0, refl, s.1)
-
-pub not_spelled : (told : Option (List ℕ)) → IsNoFormulaText told → IsSomeAnd told (λ bytes. (F : Cnf) → Spells bytes F → ⊥)
-not_spelled None h = h
-not_spelled (Some bytes) h = λ F s. h (faultless bytes F s)
+spelled (Some bytes) h = (h.0, refl, h.1)
 
 -- The request asks for a reduction for the class of the formula under a name: that is read and answered, and any formula is.
 record AsksReduction (request : Request) (class : Class) (name : Word) (options : Options) : Type 0 where
@@ -153,13 +147,13 @@ reduce_means request class words shelf out say name options asks asked = record 
         e.taken.1.same r.2.silent,
       );
   statuses = λ answer e.
-      subst (λ (n : ℕ). IsTrue (list_any (nat_eq n) (0 ∷ 2 ∷ 3 ∷ 9 ∷ []))) (sym e.answer_is)
+      subst (λ (n : ℕ). IsTrue (among (0 ∷ 2 ∷ 3 ∷ 9 ∷ []) n)) (sym e.answer_is)
       (only words shelf request e.status e.written e.said (0 ∷ 2 ∷ 3 ∷ 9 ∷ []) asked e.allowed
-      (λ is h. subst (λ (s : Status). IsTrue (list_any (nat_eq (code s)) (0 ∷ 2 ∷ 3 ∷ 9 ∷ []))) (sym (asks.read shelf.told e.status e.written e.said h).2.status_is) refl) refl refl refl);
+      (λ is h. subst (λ (s : Status). IsTrue (among (0 ∷ 2 ∷ 3 ∷ 9 ∷ []) (code s))) (sym (asks.read shelf.told e.status e.written e.said h).2.status_is) refl) refl refl refl);
   complete = λ h.
       let s = spelled (shelf.told name) h in
       subst (λ (o : Option Request). IsDecided o shelf.told Done) (sym asked) (asks.done shelf.told s.0 s.1 s.2);
-  refuses = λ h. subst (λ (o : Option Request). IsDecided o shelf.told Input) (sym asked) (asks.refused shelf.told (not_spelled (shelf.told name) h));
+  refuses = λ h. subst (λ (o : Option Request). IsDecided o shelf.told Input) (sym asked) (asks.refused shelf.told h);
 }
 
 pub pure_outcomes : ReduceOutcomes ReducePure Pure
@@ -200,27 +194,27 @@ fails_by (Unfinished d) None why e = absurd (let f : ⊥ = cc e in f)
 fails_by d (Some other) why e = cc e
 
 -- where no check fails of a document that is accepted, and of one that is unfinished, with what was read
-proved_by : (formula document : Option (List ℕ)) (F : Cnf) (d : Document) (o : Option Why) → first_failure F d ≡ o → verdict_by d o ≡ verdict.Accepted → IfSome formula (λ b. Spells b F) → IfSome document (λ b. IsTextOf b d)
-    → (first_failure F d ≡ None → check.IsProved F d) → IsProved formula document
+proved_by : (formula document : Option (List ℕ)) (F : Cnf) (d : Document) (o : Option Why) → first_failure F d ≡ o → verdict_by d o ≡ verdict.Accepted → IfSome formula (λ b. Spells b F) → IfSome document (λ b. IsTextOfDocument b d)
+    → (first_failure F d ≡ None → check.IsProvedDocument F d) → IsProvedText formula document
 proved_by formula document F (Finished d) None none e s r p =
     let q = p none in record { accepted = record { F = F; d = d; read = record { spells = s; read = r }; accepts = q.0 }; reduction = q.1 }
 proved_by formula document F (Unfinished d) None none e s r p = absurd (let f : ⊥ = cc e in f)
 proved_by formula document F d (Some why) none e s r p = absurd (let f : ⊥ = cc e in f)
 
 open_by : (formula document : Option (List ℕ)) (F : Cnf) (d : Document) (o : Option Why) (learned : ℕ) → first_failure F d ≡ o → verdict_by d o ≡ verdict.Unfinished learned → IfSome formula (λ b. Spells b F)
-    → IfSome document (λ b. IsTextOf b d) → (first_failure F d ≡ None → check.IsProved F d) → IsOpenFor formula document learned
+    → IfSome document (λ b. IsTextOfDocument b d) → (first_failure F d ≡ None → check.IsProvedDocument F d) → IsOpenFor formula document learned
 open_by formula document F (Finished d) None learned none e s r p = absurd (let f : ⊥ = cc e in f)
 open_by formula document F (Unfinished d) None learned none e s r p = record { F = F; d = d; read = record { spells = s; read = r }; sound = p none; count = sym (cc e) }
 open_by formula document F d (Some why) learned none e s r p = absurd (let f : ⊥ = cc e in f)
 
-checked_status : (v : Verdict) → IsTrue (list_any (nat_eq (code (verdict_status v))) (0 ∷ 2 ∷ 3 ∷ 5 ∷ 8 ∷ 9 ∷ []))
+checked_status : (v : Verdict) → IsTrue (among (0 ∷ 2 ∷ 3 ∷ 5 ∷ 8 ∷ 9 ∷ []) (code (verdict_status v)))
 checked_status verdict.Accepted = refl
 checked_status (verdict.Unfinished learned) = refl
 checked_status (verdict.No why) = refl
 
 pub refuses_some : (formula document : Option (List ℕ)) → IsFormulaText formula × IsNoDocumentText document → (F : Cnf) × IsSomeAnd formula (λ bytes. Spells bytes F)
 refuses_some None document h = absurd h.0
-refuses_some (Some bytes) document h = (fault_law.none bytes).0 h.0
+refuses_some (Some bytes) document h = h.0
 
 pub check_outcomes : CheckOutcomes
 check_outcomes words shelf out say formula document options asked = record {
@@ -248,9 +242,9 @@ check_outcomes words shelf out say formula document options asked = record {
         e.taken.1.same r.answers.silent,
       );
   statuses = λ answer e.
-      subst (λ (n : ℕ). IsTrue (list_any (nat_eq n) (0 ∷ 2 ∷ 3 ∷ 5 ∷ 8 ∷ 9 ∷ []))) (sym e.answer_is)
+      subst (λ (n : ℕ). IsTrue (among (0 ∷ 2 ∷ 3 ∷ 5 ∷ 8 ∷ 9 ∷ []) n)) (sym e.answer_is)
       (only words shelf _ e.status e.written e.said (0 ∷ 2 ∷ 3 ∷ 5 ∷ 8 ∷ 9 ∷ []) asked e.allowed
-      (λ is r. subst (λ (s : Status). IsTrue (list_any (nat_eq (code s)) (0 ∷ 2 ∷ 3 ∷ 5 ∷ 8 ∷ 9 ∷ []))) (sym r.answers.status_is) (checked_status (verdict_of r.values.0 r.values.1.0))) refl refl refl);
+      (λ is r. subst (λ (s : Status). IsTrue (among (0 ∷ 2 ∷ 3 ∷ 5 ∷ 8 ∷ 9 ∷ []) (code s))) (sym r.answers.status_is) (checked_status (verdict_of r.values.0 r.values.1.0))) refl refl refl);
   complete = λ some another h.
       subst (λ (o : Option Request). IsDecided o shelf.told Done) (sym asked)
       (record { told_all = (some, (another, tt)); values = (h.F, (Finished h.d, tt)); read = (h.read.spells, (h.read.read, tt)); decides = sym (ap (λ (o : Option Why). verdict_status (verdict_by (Finished h.d) o)) h.accepts.checks) });
@@ -264,7 +258,7 @@ check_outcomes words shelf out say formula document options asked = record {
 }
   where
     bad : IsNoFormulaText (shelf.told formula) ⊎ (IsFormulaText (shelf.told formula) × IsNoDocumentText (shelf.told document)) → IsDecided (Some (record { command = Check; names = formula ∷ document ∷ []; options = options })) shelf.told Input
-    bad (inl h) = inl (not_spelled (shelf.told formula) h)
+    bad (inl h) = inl h
     bad (inr h) = let s = refuses_some (shelf.told formula) (shelf.told document) h in inr (s.0, s.1, inl h.1)
 
 -- REPORT
@@ -283,11 +277,11 @@ report_outcomes words shelf out say name options asked = record {
         e.taken.1.same r.answers.silent,
       );
   statuses = λ answer e.
-      subst (λ (n : ℕ). IsTrue (list_any (nat_eq n) (0 ∷ 2 ∷ 3 ∷ 9 ∷ []))) (sym e.answer_is)
+      subst (λ (n : ℕ). IsTrue (among (0 ∷ 2 ∷ 3 ∷ 9 ∷ []) n)) (sym e.answer_is)
       (only words shelf _ e.status e.written e.said (0 ∷ 2 ∷ 3 ∷ 9 ∷ []) asked e.allowed
-      (λ is r. subst (λ (s : Status). IsTrue (list_any (nat_eq (code s)) (0 ∷ 2 ∷ 3 ∷ 9 ∷ []))) (sym r.answers.status_is) refl) refl refl refl);
+      (λ is r. subst (λ (s : Status). IsTrue (among (0 ∷ 2 ∷ 3 ∷ 9 ∷ []) (code s))) (sym r.answers.status_is) refl) refl refl refl);
   complete = λ h.
       let s = spelled (shelf.told name) h in
       subst (λ (o : Option Request). IsDecided o shelf.told Done) (sym asked) (record { told_all = (s.1, tt); values = (s.0, tt); read = (s.2, tt); decides = refl });
-  refuses = λ h. subst (λ (o : Option Request). IsDecided o shelf.told Input) (sym asked) (inl (not_spelled (shelf.told name) h));
+  refuses = λ h. subst (λ (o : Option Request). IsDecided o shelf.told Input) (sym asked) (inl h);
 }

@@ -44,7 +44,7 @@ formula_stopped request shelf name s one named h at =
     (subst (λ (grammars : List Grammar). StopsOn shelf.told nothing_known grammars request.names shelf.ailing shelf.current s) (sym one)
     (subst (λ (names : List Word). StopsOn shelf.told nothing_known (Formula ∷ []) names shelf.ailing shelf.current s) (sym named) (formula_stops shelf.told name shelf.ailing shelf.current s h at)))
 
--- there was no memory behind the inputs
+-- memory ran out after the inputs
 pub no_memory : (request : Request) (shelf : Shelved) → HasCause shelf.before shelf.after ⊥ → Performs request shelf (Err stop.Memory)
 no_memory request shelf cause = record {
   ok = tt;

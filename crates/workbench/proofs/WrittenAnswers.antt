@@ -9,18 +9,18 @@ use Rattle.lk_model.specs.declared.verdict.Why.{Why}
 use Rattle.lk_model.proofs.FaultConverse.{fault_law}
 use Rattle.lean_checker.specs.Verdicts.{verdict_words}
 use Rattle.lean_checker.specs.declared.verdict.Verdict.TheVariants as verdict
-use Rattle.answer_check.specs.Answers.{IsAnswerText}
+use Rattle.lk_model.specs.Documents.Answers.{IsAnswerText}
 use Rattle.answer_check.specs.AnswerChecks.{first_failure_of_answer}
-use Rattle.answer_check.specs.declared.answer.Answer.{Answer}
+use Rattle.lk_model.specs.declared.answer.Answer.{Answer}
 use Rattle.answer_check.proofs.AnswerReads.{text_law}
 use Rattle.command_words.specs.Lawful.{Request}
 use Rattle.command_words.specs.Settings.{Options}
 use Rattle.command_words.specs.declared.command.Command.TheVariants.{Solve}
 use Rattle.status_lines.specs.Verdicts.{verdict_status}
-use Rattle.command_endings.specs.Commands.Solving.{WritesAnswer}
-use Rattle.command_endings.specs.Commands.Verifying.{verdict_by}
+use Rattle.command_endings.specs.Commands.Solve.{WritesAnswer}
+use Rattle.command_endings.specs.Commands.Verify.{verdict_by}
 use Rattle.workbench.specs.Endings.{Shelved, Sunk, Takes, IsDecided}
-use Rattle.workbench.specs.SolveOutcomes.{IsSatisfied, IsRefuted, IsUndecided}
+use Rattle.workbench.specs.SolveOutcomes.{IsSatisfiedText, IsRefutedText, IsUndecidedText}
 use Rattle.workbench.specs.WrittenAnswers.{IsVerifiedFor, SolvedIsVerified, AsksVerify, WrittenVerifiesAsAccepted, UnsolvedChecksAsUnfinished}
 use Rattle.workbench.specs.WrittenChecks.{HasWrittenBy, ChecksAs}
 use Rattle.workbench.proofs.Agreement.{unfinished_for}
@@ -42,20 +42,20 @@ solved_verified = record {
 
 -- WHAT STANDS ON `out`
 
-has_solved : (options : Options) (text written : List ℕ) → HasWrittenBy Solve options text 10 written → IsSatisfied text written
+has_solved : (options : Options) (text written : List ℕ) → HasWrittenBy Solve options text 10 written → IsSatisfiedText text written
 has_solved options text written h =
     let d = (solve_outcomes h.words h.shelf h.out h.say h.name options h.asks).satisfiable h.ends in
-    whole (λ bytes t. IsSatisfied bytes t) (h.shelf.told h.name) h.out.before h.out.after text written d.0 h.text_is h.empty h.written_is d.1 d.2.taken
+    whole (λ bytes t. IsSatisfiedText bytes t) (h.shelf.told h.name) h.out.before h.out.after text written d.0 h.text_is h.empty h.written_is d.1 d.2.taken
 
-has_refuted : (options : Options) (text written : List ℕ) → HasWrittenBy Solve options text 20 written → IsRefuted text options written
+has_refuted : (options : Options) (text written : List ℕ) → HasWrittenBy Solve options text 20 written → IsRefutedText text options written
 has_refuted options text written h =
     let d = (solve_outcomes h.words h.shelf h.out h.say h.name options h.asks).unsatisfiable h.ends in
-    whole (λ bytes t. IsRefuted bytes options t) (h.shelf.told h.name) h.out.before h.out.after text written d.0 h.text_is h.empty h.written_is d.1 d.2.taken
+    whole (λ bytes t. IsRefutedText bytes options t) (h.shelf.told h.name) h.out.before h.out.after text written d.0 h.text_is h.empty h.written_is d.1 d.2.taken
 
-has_stopped : (options : Options) (text written : List ℕ) → HasWrittenBy Solve options text 5 written → IsUndecided text options written
+has_stopped : (options : Options) (text written : List ℕ) → HasWrittenBy Solve options text 5 written → IsUndecidedText text options written
 has_stopped options text written h =
     let d = (solve_outcomes h.words h.shelf h.out h.say h.name options h.asks).budget h.ends in
-    whole (λ bytes t. IsUndecided bytes options t) (h.shelf.told h.name) h.out.before h.out.after text written d.0 h.text_is h.empty h.written_is d.1 d.2.taken
+    whole (λ bytes t. IsUndecidedText bytes options t) (h.shelf.told h.name) h.out.before h.out.after text written d.0 h.text_is h.empty h.written_is d.1 d.2.taken
 
 written_verified : (options : Options) (text : List ℕ) (answer : ℕ) (written : List ℕ) → (answer ≡ 10) ⊎ (answer ≡ 20) → HasWrittenBy Solve options text answer written → IsVerifiedFor text written
 written_verified options text answer written (inl e) h = solved_verified.model text written (has_solved options text written (subst (λ (n : ℕ). HasWrittenBy Solve options text n written) e h))

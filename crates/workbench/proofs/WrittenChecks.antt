@@ -6,7 +6,7 @@ use Rattle.lk_model.specs.Formulas.Formula.{Cnf}
 use Rattle.lk_model.specs.Texts.Dimacs.{Spells}
 use Rattle.lk_model.specs.Texts.Lines.{Word}
 use Rattle.lk_model.specs.Texts.PlainText.{line}
-use Rattle.lk_model.specs.Documents.Reading.{IsTextOf}
+use Rattle.lk_model.specs.Documents.Reading.{IsTextOfDocument}
 use Rattle.lk_model.specs.Reduction.{ReducesTo}
 use Rattle.lk_model.specs.declared.class.Class.{Class}
 use Rattle.lk_model.specs.declared.class.Class.TheVariants.{Pure, Matching, Linear, General}
@@ -31,7 +31,7 @@ use Rattle.workbench.proofs.Outcomes.{numbered, result_of, pure_outcomes, matchi
 
 -- WHAT STANDS ON `out`
 
--- what is known of a told text and of what was appended to nothing
+-- what is known of a visible text and of what was appended to nothing
 pub whole : (P : List ℕ → List ℕ → Type 0) (told before after : Option (List ℕ)) (text written appended : List ℕ) → told ≡ Some text → before ≡ Some [] → after ≡ Some written → IfSome told (λ bytes. P bytes appended) → Appends before after appended → P text written
 whole P told before after text written appended is empty all h taken =
     let known : P text appended = subst (λ (o : Option (List ℕ)). IfSome o (λ bytes. P bytes appended)) is h in
@@ -62,7 +62,7 @@ has_stopped options text written h =
 
 -- WHAT THE CHECK COMES TO
 
--- a verdict is told by the status of a result
+-- the status of a verdict is that of a result
 pub told_by : (v : Verdict) → IsTrue (is_result (numbered (code (verdict_status v))))
 told_by verdict.Accepted = refl
 told_by (verdict.Unfinished learned) = refl
@@ -75,20 +75,20 @@ decided_by request told (verdict.Unfinished learned) h = h
 decided_by request told (verdict.No why) h = h
 
 -- where the verdict on the two texts is known
-pub checks_as : (text written : List ℕ) (F : Cnf) (d : Document) (v : Verdict) → Spells text F → IsTextOf written d → verdict_of F d ≡ v → (words : List Word) (shelf : Shelved) (out say : Sunk) → AsksCheck words shelf.told text written
+pub checks_as : (text written : List ℕ) (F : Cnf) (d : Document) (v : Verdict) → Spells text F → IsTextOfDocument written d → verdict_of F d ≡ v → (words : List Word) (shelf : Shelved) (out say : Sunk) → AsksCheck words shelf.told text written
     → ChecksAs words shelf out say v
 checks_as text written F d v spells is known words shelf out say a = record {
   decided = subst (λ (o : Option Request). IsDecided o shelf.told (verdict_status v)) (sym a.asks)
       (decided_by _ shelf.told v (record {
         told_all = (subst (λ (o : Option (List ℕ)). IsSome o) (sym a.text_is) refl, (subst (λ (o : Option (List ℕ)). IsSome o) (sym a.written_is) refl, tt));
         values = (F, (d, tt));
-        read = (subst (λ (o : Option (List ℕ)). IfSome o (λ bytes. Spells bytes F)) (sym a.text_is) spells, (subst (λ (o : Option (List ℕ)). IfSome o (λ bytes. IsTextOf bytes d)) (sym a.written_is) is, tt));
+        read = (subst (λ (o : Option (List ℕ)). IfSome o (λ bytes. Spells bytes F)) (sym a.text_is) spells, (subst (λ (o : Option (List ℕ)). IfSome o (λ bytes. IsTextOfDocument bytes d)) (sym a.written_is) is, tt));
         decides = ap verdict_status (sym known);
       }));
   writes = λ e.
       let r = result_of words shelf out say _ (code (verdict_status v)) e a.asks (told_by v) in
       let formula : r.values.0 ≡ F = fault_law.one text r.values.0 F (subst (λ (o : Option (List ℕ)). IfSome o (λ bytes. Spells bytes r.values.0)) a.text_is r.read.0) spells in
-      let document : r.values.1.0 ≡ d = of_one_document written r.values.1.0 d (subst (λ (o : Option (List ℕ)). IfSome o (λ bytes. IsTextOf bytes r.values.1.0)) a.written_is r.read.1.0) is in
+      let document : r.values.1.0 ≡ d = of_one_document written r.values.1.0 d (subst (λ (o : Option (List ℕ)). IfSome o (λ bytes. IsTextOfDocument bytes r.values.1.0)) a.written_is r.read.1.0) is in
       let same : verdict_of r.values.0 r.values.1.0 ≡ v = (λ i. verdict_of (formula i) (document i)) ∙ known in
       (subst (Takes out) (r.answers.writes ∙ ap (λ (v : Verdict). line (verdict_words v)) same) e.taken.0, e.taken.1.same r.answers.silent);
 }

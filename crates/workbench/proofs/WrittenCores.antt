@@ -10,12 +10,12 @@ use Rattle.lk_model.proofs.Booleans.{and_true}
 use Rattle.text_laws.proofs.Spelling.{spells_law}
 use Rattle.text_laws.proofs.CoreSpelling.{core_spells_law}
 use Rattle.lean_checker.specs.declared.verdict.Verdict.TheVariants as verdict
-use Rattle.answer_check.specs.declared.answer.Answer.TheVariants.{Core}
+use Rattle.lk_model.specs.declared.answer.Answer.TheVariants.{Core}
 use Rattle.answer_check.proofs.AnswerLaws.{answer_law}
 use Rattle.command_words.specs.Settings.{Options}
 use Rattle.command_words.specs.declared.command.Command.TheVariants.{Mus}
 use Rattle.workbench.specs.MusOutcomes.{IsExtracted, IsUnextracted}
-use Rattle.workbench.specs.SolveOutcomes.{IsSatisfied}
+use Rattle.workbench.specs.SolveOutcomes.{IsSatisfiedText}
 use Rattle.workbench.specs.WrittenAnswers.{IsVerifiedFor}
 use Rattle.workbench.specs.WrittenChecks.{HasWrittenBy}
 use Rattle.workbench.specs.WrittenCores.{ExtractedIsVerified, ExtractedVerifiesAsAccepted, UnextractedChecksAsUnfinished}
@@ -60,10 +60,10 @@ has_extracted options text written h =
     let d = (mus_outcomes h.words h.shelf h.out h.say h.name options h.asks).done h.ends in
     whole (λ bytes t. IsExtracted bytes t) (h.shelf.told h.name) h.out.before h.out.after text written d.0 h.text_is h.empty h.written_is d.1 d.2.taken
 
-has_solved : (options : Options) (text written : List ℕ) → HasWrittenBy Mus options text 10 written → IsSatisfied text written
+has_solved : (options : Options) (text written : List ℕ) → HasWrittenBy Mus options text 10 written → IsSatisfiedText text written
 has_solved options text written h =
     let d = (mus_outcomes h.words h.shelf h.out h.say h.name options h.asks).satisfiable h.ends in
-    whole (λ bytes t. IsSatisfied bytes t) (h.shelf.told h.name) h.out.before h.out.after text written d.0 h.text_is h.empty h.written_is d.1 d.2.taken
+    whole (λ bytes t. IsSatisfiedText bytes t) (h.shelf.told h.name) h.out.before h.out.after text written d.0 h.text_is h.empty h.written_is d.1 d.2.taken
 
 has_stopped : (options : Options) (text written : List ℕ) → HasWrittenBy Mus options text 5 written → IsUnextracted text options written
 has_stopped options text written h =

@@ -5,7 +5,7 @@ use Rattle.lk_model.specs.Texts.Dimacs.{Spells}
 use Rattle.lk_model.specs.Reduction.{ReducesTo, StopsUnfinished}
 use Rattle.lk_model.specs.declared.class.Class.{Class}
 use Rattle.lk_model.specs.declared.document.Document.{Document}
-use Rattle.lk_model.specs.Documents.Reading.{IsTextOf}
+use Rattle.lk_model.specs.Documents.Reading.{IsTextOfDocument}
 use Rattle.lean_checker.specs.Verdicts.{verdict_of}
 use Rattle.lean_checker.specs.declared.verdict.Verdict.TheVariants.{Accepted, Unfinished}
 
@@ -14,7 +14,7 @@ pub record IsAcceptedFor (text written : List ℕ) : Type 0 where
   pub F : Cnf
   pub d : Document
   pub spells : Spells text F
-  pub read : IsTextOf written d
+  pub read : IsTextOfDocument written d
   pub accepted : verdict_of F d ≡ Accepted
 
 -- what a reduction of any class writes of a text is accepted for that text
@@ -27,7 +27,7 @@ pub record IsUnfinishedFor (text written : List ℕ) (learned : ℕ) : Type 0 wh
   pub F : Cnf
   pub d : Document
   pub spells : Spells text F
-  pub read : IsTextOf written d
+  pub read : IsTextOfDocument written d
   pub unfinished : verdict_of F d ≡ Unfinished learned
 
 -- what a reduction that used up its budget writes of a text is so for that text

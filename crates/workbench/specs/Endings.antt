@@ -29,7 +29,7 @@ pub record Shelved : Type 0 where
 abbrev pub shelved : Told → ℕ → ℕ → Bool → Option (List ℕ) → Shelved
 shelved told before after ailing current = record { told = told; before = before; after = after; ailing = ailing; current = current }
 
--- what was read of the inputs, as far as they are told, and that the command may answer it so
+-- what was read of the inputs, as far as they are visible, and that the command may answer it so
 pub record HasResult (request : Request) (told : Told) (status : Status) (written said : List ℕ) : Type 0 where
   pub values : Values (inputs_of request.command)
   pub read : AreRead told nothing_known (inputs_of request.command) request.names values
@@ -56,14 +56,15 @@ abbrev pub ReadsNothing : Option Request → Type 0
 ReadsNothing None = ⊤
 ReadsNothing (Some request) = inputs_of request.command ≡ []
 
--- A status that tells neither of a failed call nor of want of memory: where an input is read, the last call did not fail.
+-- A status other than that of a failed call and of memory that ran out: where an input is read, the last call did not
+-- fail.
 abbrev pub IsWell : Status → Option Request → Bool → Type 0
 IsWell status.ReadFault o ailing = ⊤
 IsWell status.Memory o ailing = ⊤
 IsWell answer o ailing = IsTrue ailing → ReadsNothing o
 
 -- With this status the one text may be written and the other said: the refused word, the refusal of an input, a failed read,
--- or want of memory; or else what the command answers.
+-- or memory that ran out; or else what the command answers.
 abbrev pub Allows : List Word → Shelved → Status → List ℕ → List ℕ → Type 0
 Allows words shelf status.Words written said = (i : ℕ) × IsRefusedAt words i × Tells (stop.Words i) written said
 Allows words shelf status.Input written said = (s : Stop) × DeservesStop (request_of words) shelf.told s × Tells s written said
@@ -100,8 +101,8 @@ pub record IsCut (sink : Sunk) (text : List ℕ) : Type 0 where
 abbrev pub TakesBoth : Sunk → Sunk → List ℕ → List ℕ → Type 0
 TakesBoth out say written said = Takes out written × Takes say said
 
--- one of them failed in its text: the first, and the other is as it was before, its bytes and as a whole; or the second behind
--- the whole of the first text
+-- one of them failed in its text: the first, and the other is as it was before, its bytes and as a whole; or the second
+-- after the whole of the first text
 abbrev pub IsCutIn : Sunk → Sunk → List ℕ → List ℕ → Type 0 → Type 0
 IsCutIn out say written said SayIsSame =
     (IsCut out written × (say.after ≡ say.before) × SayIsSame) ⊎ (Takes out written × IsCut say said)
@@ -134,7 +135,7 @@ pub record IsCutOff (words : List Word) (shelf : Shelved) (out say : Sunk) (OutI
 
 -- WHAT IS DECIDED BEFOREHAND
 
--- the inputs are told and read, and decide the status
+-- the inputs are visible and read, and decide the status
 pub record HasValues (request : Request) (told : Told) (status : Status) : Type 0 where
   pub told_all : AreTold told request.names
   pub values : Values (inputs_of request.command)
@@ -145,8 +146,8 @@ abbrev pub IsDecidedFor : Request → Told → Status → Type 0
 IsDecidedFor request told status.Input = HasBad told nothing_known (inputs_of request.command) request.names
 IsDecidedFor request told answer = HasValues request told answer
 
--- the words and the told inputs decide the status: unlawful words, an input outside its grammar, or what the command makes of
--- what is read
+-- the words and the visible inputs decide the status: unlawful words, an input outside its grammar, or what the command
+-- makes of what is read
 abbrev pub IsDecided : Option Request → Told → Status → Type 0
 IsDecided None told answer = answer ≡ status.Words
 IsDecided (Some request) told answer = IsDecidedFor request told answer
@@ -160,7 +161,7 @@ IsUnlessFailed answer decided ShelfFailed SinkFailed =
     ⊎ ((answer ≡ code status.WriteFault) × SinkFailed)
     ⊎ (answer ≡ code status.Memory)
 
--- WHAT STANDS BEHIND A STOP
+-- WHAT A STOP SHOWS
 
 -- as the inputs are read
 abbrev pub StopsAsRead : Option Request → Told → Bool → Option (List ℕ) → Stop → Type 0

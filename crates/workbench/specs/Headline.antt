@@ -8,9 +8,9 @@
 -- What it does not say. A program that always ends with 9, out of memory, meets all of it: no contract
 -- tells when memory runs out. Tests show that 9 does not come. With a smaller budget than `solves`,
 -- `extracts` and `keeps` ask for, these commands may end with 5, and `reduce linear` may end with 5, 6 or
--- 7. What stands on `out` then, what `demo` writes, what `say` has, and the verdicts of `check` and
--- `verify` with 5 and 8 are in the other laws. Nothing is said of bytes that no contract shows, such as
--- those of files (docs/CLAIM.md).
+-- 7. Over lawful inputs `check` and `extend` end with 0, 5 or 8, and `verify` with 0 or 8. The other laws
+-- say which of these comes, what stands on `out` with 5 and 8, what `demo` writes, and what `say` has.
+-- Nothing is said of bytes that no contract shows, such as those of files (docs/CLAIM.md).
 use Rattle.std.specs.Prelude.{◌≡◌, ◌≢◌, ◌⊎◌, ◌↔◌, ⊤, ℕ, ℤ, ◌≤◌, List, [], ◌∷◌, ◌++◌, length, map, codes}
 use Rattle.std.specs.Prelude.{Option, Some, None, Ok, IsTrue, false, unwrap_or}
 use Rattle.std.specs.List.{flat_map}
@@ -18,12 +18,11 @@ use Rattle.lk_model.specs.Lists.{among}
 use Rattle.lk_model.specs.Limits.{max_bytes}
 use Rattle.lk_model.specs.Formulas.Literal.{variable}
 use Rattle.lk_model.specs.Formulas.Formula.{Cnf, clauses_at, positions_of, variables_to}
-use Rattle.lk_model.specs.Formulas.Assignment.{assignment_of, extended, extended_value}
-use Rattle.lk_model.specs.Formulas.Autarky.{Within}
-use Rattle.lk_model.specs.Formulas.Crossed.{protected_by}
-use Rattle.lk_model.specs.Formulas.Lean.{all_of, are_positions, Kernel}
+use Rattle.lk_model.specs.Formulas.Assignment.{assignment_of, extended, extended_value, IsModel}
+use Rattle.lk_model.specs.Formulas.Crossed.{protected_by, protect_line_of}
+use Rattle.lk_model.specs.Formulas.Lean.{all_of, are_positions}
 use Rattle.lk_model.specs.Formulas.Minimal.{IsUnsatisfiable, IsMinimallyUnsatisfiable}
-use Rattle.lk_model.specs.Reduction.{IsModel, ReducesBy, protect_line_of}
+use Rattle.lk_model.specs.Formulas.Protected.{ReducesBy}
 use Rattle.lk_model.specs.Texts.Dimacs.{Spells}
 use Rattle.lk_model.specs.Texts.Lines.{Word}
 use Rattle.lk_model.specs.Texts.ModelText.{model_of}
@@ -32,17 +31,16 @@ use Rattle.lk_model.specs.Chains.Rounds.{used_positions}
 use Rattle.lk_model.specs.Documents.Text.{class_word, comment, first_lines, text_of}
 use Rattle.lk_model.specs.Checks.Checks.{Accepts}
 use Rattle.lk_model.specs.declared.class.Class.{Class}
-use Rattle.lk_model.specs.declared.class.Class.TheVariants.{General}
 use Rattle.lk_model.specs.declared.document.DoneDocument.{DoneDocument}
 use Rattle.lk_model.specs.declared.document.Document.TheVariants.{Done as Finished}
 use Rattle.lk_model.specs.declared.document.MusAnswer.{MusAnswer}
 use Rattle.lk_model.specs.declared.document.Round.{Round}
 use Rattle.lk_outside.specs.Causes.{Rose}
-use Rattle.kernel_laws.specs.General.RefutationLaw.{IsRefutation}
-use Rattle.answer_check.specs.Answers.{IsAnswerText}
+use Rattle.lk_model.specs.Checks.RoundChecks.{IsRefutation}
+use Rattle.lk_model.specs.Documents.Answers.{IsAnswerText}
 use Rattle.answer_check.specs.AnswerLaw.{ShowsCore}
-use Rattle.answer_check.specs.declared.answer.Answer.{Answer}
-use Rattle.answer_check.specs.declared.answer.Answer.TheVariants.{Model, Refuted, Core}
+use Rattle.lk_model.specs.declared.answer.Answer.{Answer}
+use Rattle.lk_model.specs.declared.answer.Answer.TheVariants.{Model, Refuted, Core}
 use Rattle.edit_text.specs.Edits.{states}
 use Rattle.edit_text.specs.EditText.{IsEdits}
 use Rattle.edit_text.specs.LiveClauses.{live_of}
@@ -54,13 +52,13 @@ use Rattle.command_words.specs.declared.command.Command.{Command}
 use Rattle.command_words.specs.declared.command.Command.TheVariants as command
 use Rattle.command_words.specs.declared.shape.Grammar.{Grammar}
 use Rattle.command_inputs.specs.Inputs.{Told, Known, nothing_known, ValueOf, IsTextOf, known_behind}
-use Rattle.command_endings.specs.Commands.Editing.{WritesKernels}
-use Rattle.command_endings.specs.Commands.Extending.{model_line}
-use Rattle.command_endings.specs.Commands.GeneralReducing.{IsEnough}
-use Rattle.command_endings.specs.Commands.Measuring.{WritesDeficiency}
-use Rattle.command_endings.specs.Commands.Reporting.{WritesReport}
-use Rattle.command_endings.specs.Commands.Solving.{IsEnoughToRefute}
-use Rattle.command_endings.specs.Commands.Verifying.{AreInKernel}
+use Rattle.command_endings.specs.Commands.Edits.{WritesKernels}
+use Rattle.command_endings.specs.Commands.Extend.{model_line}
+use Rattle.command_endings.specs.Commands.ReduceGeneral.{IsEnoughToReduce}
+use Rattle.command_endings.specs.Commands.Deficiency.{WritesDeficiency}
+use Rattle.command_endings.specs.Commands.Report.{WritesReport}
+use Rattle.command_endings.specs.Commands.Solve.{IsEnoughToRefute}
+use Rattle.command_endings.specs.Commands.Verify.{AreInKernel}
 use Rattle.status_lines.specs.declared.status.Status.{Status}
 use Rattle.workbench.specs.Endings.{Shelved, Sunk, Ends, IsDecided, IsUnlessFailed}
 
@@ -99,7 +97,7 @@ pub record Ran (words : List Word) (inputs : List Input) (status : ℕ) (written
   pub empty : out.before ≡ Some []
   pub written_is : out.after ≡ Some written
 
--- So it did, no call on the shelf or a sink failed, and there was memory.
+-- So it did, no call on the shelf or a sink failed, and the status is not 9, out of memory.
 pub record RanWell (words : List Word) (inputs : List Input) (status : ℕ) (written : List ℕ) : Type 0 where
   pub ran : Ran words inputs status written
   pub could_read : Rose ran.shelf.before ran.shelf.after → ⊥
@@ -271,6 +269,6 @@ pub record Headline : Type 0 where
       → (c ≡ command.ReducePure) ⊎ (c ≡ command.ReduceMatching) ⊎ (c ≡ command.Report)
       ⊎ (c ≡ command.Deficiency) ⊎ (c ≡ command.Edits)
       → RunsWell c inputs options status → status ≢ 1 → AreLawful c inputs → status ≡ 0
-  pub keeps : Decides command.ReduceGeneral IsEnough (0 ∷ [])
+  pub keeps : Decides command.ReduceGeneral IsEnoughToReduce (0 ∷ [])
   pub solves : Decides command.Solve IsEnoughToRefute (10 ∷ 20 ∷ [])
   pub extracts : Decides command.Mus IsEnoughToRefute (0 ∷ 10 ∷ [])

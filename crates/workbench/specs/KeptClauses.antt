@@ -2,9 +2,10 @@
 use Rattle.std.specs.Prelude.{◌≡◌, ℕ, List, Option}
 use Rattle.lk_model.specs.Checks.Checks.{Accepts}
 use Rattle.lk_model.specs.Documents.Documents.{class_of}
-use Rattle.lk_model.specs.Documents.Reading.{IsTextOf}
+use Rattle.lk_model.specs.Documents.Reading.{IsTextOfDocument}
 use Rattle.lk_model.specs.Formulas.Formula.{Cnf}
-use Rattle.lk_model.specs.Reduction.{IsReduction, ReducesTo, protect_line_of}
+use Rattle.lk_model.specs.Reduction.{IsReduction, ReducesTo}
+use Rattle.lk_model.specs.Formulas.Crossed.{protect_line_of}
 use Rattle.lk_model.specs.Texts.Dimacs.{Spells}
 use Rattle.lk_model.specs.declared.class.Class.{Class}
 use Rattle.lk_model.specs.declared.document.Document.TheVariants.{Done}
@@ -32,4 +33,4 @@ pub record KeptLaw : Type 0 where
   pub same : (text : List ℕ) (class : Class) (protect : Option (List ℕ)) (d e : DoneDocument)
       → IsReductionOf text class protect d → IsReductionOf text class protect e → KeepTheSame d e
   pub written : (text : List ℕ) (class : Class) (protect : Option (List ℕ)) (pivots : ℕ) (written : List ℕ) (d : DoneDocument)
-      → ReducesTo text class protect pivots written → IsTextOf written (Done d) → IsReductionOf text class protect d
+      → ReducesTo text class protect pivots written → IsTextOfDocument written (Done d) → IsReductionOf text class protect d

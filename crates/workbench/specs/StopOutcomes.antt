@@ -13,7 +13,7 @@ abbrev pub SaysOnly : Sunk → Sunk → Stop → Type 0
 SaysOnly out say s = Takes say (line_of s) × (out.after ≡ out.before)
 
 -- With status 1 the line of the refused word is said, with 2 that of the first input outside its grammar, with 3 that of a
--- failed read, with 9 that of want of memory.
+-- failed read, with 9 that of memory that ran out.
 pub record StopsMean (words : List Word) (shelf : Shelved) (out say : Sunk) : Type 0 where
   pub refused : Ends words shelf out say 1 → (i : ℕ) × IsRefusedAt words i × SaysOnly out say (stop.Words i)
   pub input : Ends words shelf out say 2 → (s : Stop) × DeservesStop (request_of words) shelf.told s × IsWell status.Input (request_of words) shelf.ailing × SaysOnly out say s

@@ -4,16 +4,16 @@ use Rattle.lk_model.specs.Formulas.Formula.{Cnf}
 use Rattle.lk_model.specs.Texts.Dimacs.{Spells}
 use Rattle.lk_model.specs.Texts.Lines.{Word}
 use Rattle.lean_checker.specs.declared.verdict.Verdict.TheVariants.{Accepted, Unfinished}
-use Rattle.answer_check.specs.Answers.{IsAnswerText}
+use Rattle.lk_model.specs.Documents.Answers.{IsAnswerText}
 use Rattle.answer_check.specs.AnswerChecks.{first_failure_of_answer}
-use Rattle.answer_check.specs.declared.answer.Answer.{Answer}
+use Rattle.lk_model.specs.declared.answer.Answer.{Answer}
 use Rattle.command_inputs.specs.Inputs.{Told}
 use Rattle.command_words.specs.Settings.{Options}
 use Rattle.command_words.specs.declared.command.Command.TheVariants.{Solve, Verify}
 use Rattle.workbench.specs.Agreement.{IsUnfinishedFor}
 use Rattle.workbench.specs.Endings.{Shelved, Sunk}
 use Rattle.workbench.specs.Outcomes.{AskFor}
-use Rattle.workbench.specs.SolveOutcomes.{IsSatisfied, IsRefuted, IsUndecided}
+use Rattle.workbench.specs.SolveOutcomes.{IsSatisfiedText, IsRefutedText, IsUndecidedText}
 use Rattle.workbench.specs.WrittenChecks.{HasWrittenBy, AsksCheck, ChecksAs}
 
 -- OF THE TEXTS
@@ -28,9 +28,9 @@ pub record IsVerifiedFor (text written : List ℕ) : Type 0 where
 
 -- so it is of a model that is written, and of a refutation; and of what is written where the budget is used up no check fails
 pub record SolvedIsVerified : Type 0 where
-  pub model : (text written : List ℕ) → IsSatisfied text written → IsVerifiedFor text written
-  pub refutation : (text : List ℕ) (options : Options) (written : List ℕ) → IsRefuted text options written → IsVerifiedFor text written
-  pub unfinished : (text : List ℕ) (options : Options) (written : List ℕ) → IsUndecided text options written → IsUnfinishedFor text written options.conflicts
+  pub model : (text written : List ℕ) → IsSatisfiedText text written → IsVerifiedFor text written
+  pub refutation : (text : List ℕ) (options : Options) (written : List ℕ) → IsRefutedText text options written → IsVerifiedFor text written
+  pub unfinished : (text : List ℕ) (options : Options) (written : List ℕ) → IsUndecidedText text options written → IsUnfinishedFor text written options.conflicts
 
 -- OF RUNS
 

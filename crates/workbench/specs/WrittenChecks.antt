@@ -24,8 +24,8 @@ reducing Matching = ReduceMatching
 reducing Linear = ReduceLinear
 reducing General = ReduceGeneral
 
--- Some run of a command over one input, with these options, ended with this answer: it read the one text, which was told, and
--- the other is all that stands on its `out`.
+-- Some run of a command over one input, with these options, ended with this answer: it read the one text, which was
+-- visible, and the other is all that stands on its `out`.
 pub record HasWrittenBy (command : Command) (options : Options) (text : List ℕ) (answer : ℕ) (written : List ℕ) : Type 0 where
   pub words : List Word
   pub shelf : Shelved

@@ -6,10 +6,10 @@ ghost use Rattle.workbench.specs.Endings.{shelved};
 ghost use Rattle.workbench.specs.Performing.{Performs};
 
 mod check;
+mod deficiency_command;
 mod edits;
 mod extend;
-mod extract;
-mod measure;
+mod mus;
 mod reduce;
 mod reduce_general;
 mod report;
@@ -56,8 +56,8 @@ pub(crate) fn perform<R: Threads + Sync, H: Shelf, G: Gate>(
         Command::Demo => Ok(demo::answer(rt, alloc, gate, options.number)?),
         Command::Solve => solve::perform(rt, alloc, gate, shelf, names, options),
         Command::Verify => verify::perform(alloc, shelf, names, options),
-        Command::Deficiency => measure::perform(alloc, shelf, names, options),
+        Command::Deficiency => deficiency_command::perform(alloc, shelf, names, options),
         Command::Edits => edits::perform(alloc, shelf, names, options),
-        Command::Mus => extract::perform(alloc, shelf, names, options),
+        Command::Mus => mus::perform(alloc, shelf, names, options),
     }
 }

@@ -22,7 +22,8 @@ ghost use Rattle.workbench.specs.WrittenCores.{ExtractedIsVerified, ExtractedVer
 ghost use Rattle.workbench.specs.WrittenCores.{UnextractedChecksAsUnfinished};
 
 /// The claim of leank in one record: what a run with a result has written, that `check` and `verify` accept it, and which
-/// status comes. It speaks of the runs of which `run` ensures `runs`, where the inputs are told and `out` is empty at first.
+/// status comes. It speaks of the runs of which `run` ensures `runs`, where the inputs are visible and `out` is empty
+/// at first.
 pub fn headline_law()
     ensures { Headline }
 {}
@@ -38,27 +39,27 @@ pub fn reduce_law()
     ensures general { GeneralOutcomes }
 {}
 
-/// Of `check`: with status 0 the document is accepted, and so a reduction; with 8 a check of it fails. Told
+/// Of `check`: with status 0 the document is accepted, and so a reduction; with 8 a check of it fails. Visible
 /// texts decide between these and 2, unless a call or memory fails.
 pub fn check_law()
     ensures { CheckOutcomes }
 {}
 
 /// Of `extend`: with status 0 the model, extended, satisfies the formula; with 8 a check fails, and with 5 the
-/// document is unfinished. Told texts decide between these and 2, unless a call or memory fails. A model of
+/// document is unfinished. Visible texts decide between these and 2, unless a call or memory fails. A model of
 /// the kept clauses of an accepted document is extended.
 pub fn extend_law()
     ensures { ExtendOutcomes }
 {}
 
-/// Of `report`: with status 0 the numbers of the formula stand on `out`; each text without a fault is told
-/// of, and each other one refused, unless a call or memory fails.
+/// Of `report`: with status 0 the numbers of the formula stand on `out`; each text without a fault is reported
+/// on, and each other one refused, unless a call or memory fails.
 pub fn report_law()
     ensures { ReportOutcomes }
 {}
 
 /// Where a run ends without a result: with status 1 `say` has the line of the refused word, with 2 that of the first
-/// input outside its grammar, with 3 that of a failed read, with 9 that of want of memory; and `out` has nothing.
+/// input outside its grammar, with 3 that of a failed read, with 9 that of memory that ran out; and `out` has nothing.
 pub fn stop_law()
     ensures { StopOutcomes }
 {}
@@ -77,7 +78,7 @@ pub fn demo_law()
 {}
 
 /// What `reduce` writes of a text with status 0, for any class, is accepted for that text, and of what it writes with
-/// status 5 no check fails. So where the one text is told and the other as well, `check` of the two is decided: status
+/// status 5 no check fails. So if both texts are visible, `check` of the two is decided: status
 /// 0 and `accepted`, or 5 and `unfinished` with the number of learned clauses.
 pub fn written_law()
     ensures done { WrittenIsAccepted }
@@ -94,7 +95,7 @@ pub fn solve_law()
 {}
 
 /// Of `verify`: with status 0 no check of the answer fails, and so its literals satisfy the formula, or this has no
-/// model, and a core is minimally unsatisfiable; with 8 a check of it fails. Told texts decide between these and 2,
+/// model, and a core is minimally unsatisfiable; with 8 a check of it fails. Visible texts decide between these and 2,
 /// unless a call or memory fails.
 pub fn verify_law()
     ensures { VerifyOutcomes }
@@ -107,16 +108,16 @@ pub fn deficiency_law()
     ensures { DeficiencyOutcomes }
 {}
 
-/// Of `edits`: with status 0 the matching kernel of the formula stands on `out`, and behind it that of what is live
-/// behind each edit, by the numbers of the clauses. Told texts are refused exactly where the first has a fault, or else
-/// the second a faulty line, and then `say` has that line alone; the others are answered, unless a call or memory
+/// Of `edits`: with status 0 the matching kernel of the formula stands on `out`, and after it that of what is live
+/// after each edit, by the numbers of the clauses. Visible texts are refused exactly where the first has a fault, or
+/// else the second a faulty line, and then `say` has that line alone; the others are answered, unless a call or memory
 /// fails.
 pub fn edits_law()
     ensures { EditsOutcomes }
 {}
 
 /// What `solve` writes of a text with status 10 or 20 is an answer for that text of which no check fails, and of what
-/// it writes with 5 no check fails either. So where the one text is told and the other as well, `verify` of the two is
+/// it writes with 5 no check fails either. So if both texts are visible, `verify` of the two is
 /// decided: status 0 and `accepted`; and `check` of the two: 5, and `unfinished` with the number of learned clauses.
 pub fn solved_law()
     ensures texts { SolvedIsVerified }
@@ -132,8 +133,8 @@ pub fn mus_law()
     ensures { MusOutcomes }
 {}
 
-/// What `mus` writes of a text with status 0 or 10 is an answer for that text of which no check fails. So where the one
-/// text is told and the other as well, `verify` of the two is decided: status 0 and `accepted`. Up to 2^30 bytes, a
+/// What `mus` writes of a text with status 0 or 10 is an answer for that text of which no check fails. So if both
+/// texts are visible, `verify` of the two is decided: status 0 and `accepted`. Up to 2^30 bytes, a
 /// core that it writes is DIMACS of the core's clauses, and `check` of what it writes with 5 as the formula and as the
 /// document is decided: 5, and `unfinished` with the number of learned clauses.
 pub fn extracted_law()

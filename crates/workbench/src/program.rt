@@ -23,19 +23,14 @@ use status_lines::{Ending, Status, code_of_failure, ending_of};
 use std::alloc::Global;
 use std::thread::Threads;
 
-/// Does what the command line asks for, and answers the status with which the program ends. What that means is in
-/// `specs/Headline.antt`, where the shelf tells its inputs and `out` is empty at first: `headline_law` proves it of every
-/// run that is as `runs` says. Where the bytes of an input are not told, what is said of 0, 5, 6, 7, 8, 10 and 20 holds of
-/// some formula, document, model, answer or edits, and of 2 nothing is said. The laws beside that one say the rest.
-///
-/// - 0: the result stands on `out`; of `check` and `verify`, what was read is accepted. `say` has nothing.
-/// - 1: the command line is not valid, and 2: an input is outside its grammar. `say` has the first fault.
-/// - 3: a call on the shelf failed, and 4: a call on `out` or `say`. Its count of faults rose.
-/// - 5: a budget was used up, and an unfinished document may stand on `out`; or the document that was read is unfinished.
-/// - 6, 7: a number of the linear run is too wide, or its rows are too large.
-/// - 8: a check fails. `out` has the first one, and of `extend` `say`.
-/// - 9: out of memory.
-/// - 10, 20: `out` has a model of the formula that was read, or a refutation of it. `say` has nothing.
+/// Does what the command line asks for, and answers the status. `headline_law` (`specs/Headline.antt`) says what that
+/// means if the inputs are visible and `out` is empty, the laws beside it the rest. If an input is not visible, what is
+/// said of 0, 5, 6, 7, 8, 10 and 20 is true of some formula, document, model, answer or edits; of 2 nothing is said.
+/// - 0, 10, 20: `out` has the result, a model, a refutation; `check` and `verify` accept the input. `say` has nothing.
+/// - 1, 2: the command line is not valid, or an input is outside its grammar. `say` has the first fault.
+/// - 3, 4, 9: a call failed on the shelf, or on `out` or `say`, whose count of faults rose; memory ran out.
+/// - 5: a budget was used up, and `out` may have an unfinished document; or the document that was read is unfinished.
+/// - 6, 7, 8: the linear run has too wide a number; too large rows; a check fails: `out` has it, of `extend` `say`.
 pub fn run<R: Threads + Sync, H: Shelf, O: Sink, E: Sink, G: Gate>(
     rt: &R,
     alloc: Global,
@@ -46,7 +41,7 @@ pub fn run<R: Threads + Sync, H: Shelf, O: Sink, E: Sink, G: Gate>(
     gate: &G,
 ) -> u8
     // The run is one of which `headline_law` speaks: with each status but 4 the sinks took the texts of an ending that
-    // the words and the inputs allow; where words and told inputs decide the status, it is that one; or 3, and the
+    // the words and the inputs allow; if words and visible inputs decide the status, it is that one; or 3, and the
     // shelf's count of faults rose; or 4, and a sink's did; or 9.
     ensures runs { IsRun (map (λ w. w.now) words.now)
         (shelved (H.told shelf.old) (H.faults shelf.old) (H.faults shelf.new) (H.ailing shelf.new)
@@ -86,7 +81,7 @@ pub fn run<R: Threads + Sync, H: Shelf, O: Sink, E: Sink, G: Gate>(
     }
 }
 
-/// How the run ends. There may be no memory for a line that tells it.
+/// How the run ends. Memory may run out for a line that says it.
 fn ending<R: Threads + Sync, H: Shelf, G: Gate>(
     rt: &R,
     alloc: Global,

@@ -22,7 +22,7 @@ pub(crate) fn put_entry_line(
     put_number(out, u64::from(last), b'\n')
 }
 
-/// Appends numbers, each with a space behind it.
+/// Appends numbers, each with a space after it.
 fn put_numbers(out: &mut Vec<u8>, numbers: &[u32]) -> Result<(), OutOfMemory>
     ensures { OnOk result (out.new.items ≡ out.old.items ++ spaced (number_words numbers.now)) }
 {

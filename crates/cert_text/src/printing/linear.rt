@@ -43,7 +43,7 @@ fn put_stage(out: &mut Vec<u8>, stage: &Stage) -> Result<(), OutOfMemory>
     put_closing_zero(out)
 }
 
-/// Appends weights with their variables, each word with a space behind it.
+/// Appends weights with their variables, each word with a space after it.
 fn put_weights(out: &mut Vec<u8>, weights: &[Weight]) -> Result<(), OutOfMemory>
     ensures { OnOk result (out.new.items ≡ out.old.items ++ spaced (weight_words weights.now)) }
 {
@@ -89,7 +89,7 @@ fn put_unit(out: &mut Vec<u8>, unit: &Unit) -> Result<(), OutOfMemory>
     put_closing_zero(out)
 }
 
-/// Appends the words of a unit between its keyword and its closing 0, each with a space behind it.
+/// Appends the words of a unit between its keyword and its closing 0, each with a space after it.
 fn put_unit_words(out: &mut Vec<u8>, unit: &Unit) -> Result<(), OutOfMemory>
     ensures { OnOk result (out.new.items ≡ out.old.items ++ spaced (unit_words unit.now)) }
 {
@@ -97,7 +97,7 @@ fn put_unit_words(out: &mut Vec<u8>, unit: &Unit) -> Result<(), OutOfMemory>
     put_shares(out, unit.shares.as_slice())
 }
 
-/// Appends shares with their positions, each word with a space behind it.
+/// Appends shares with their positions, each word with a space after it.
 fn put_shares(out: &mut Vec<u8>, shares: &[Share]) -> Result<(), OutOfMemory>
     ensures { OnOk result (out.new.items ≡ out.old.items ++ spaced (share_words shares.now)) }
 {

@@ -37,7 +37,7 @@ names_of s = s.first ∷ map (λ (t : Turn). t.with) s.turns
 abbrev pub without : List ℤ → ℤ → List ℤ
 without c l = filter (λ k. not (int_eq k l)) c
 
--- the resolvent on t of a clause that holds t and one that holds its complement
+-- the resolvent on t of a clause that contains t and one that contains its complement
 abbrev pub resolvent : ℤ → List ℤ → List ℤ → Option (List ℤ)
 resolvent t c d = if contains c t && contains d (complement t) then Some (without c t ++ without d (complement t)) else None
 
@@ -55,8 +55,8 @@ chain_clause from first turns = option_and_then (λ c. after_turns from c turns)
 unfoldable pub states_its_clause : Premises → Step → Bool
 states_its_clause from s = option_map_or (is_same_set s.clause) (chain_clause from s.first s.turns) false
 
--- A clause is learned if it is not empty, holds no two complementary literals, and contains no non-empty crossed clause
--- of the part and no clause of an earlier step.
+-- A clause is learned if it is not empty, contains no two complementary literals, and contains no non-empty crossed
+-- clause of the part and no clause of an earlier step.
 unfoldable pub is_learned : Premises → List ℤ → Bool
 is_learned from c = not (is_empty c) && not (is_tautology c)
     && not (list_any (λ p. not (is_empty (crossed_at from p)) && is_within (crossed_at from p) c) from.part)

@@ -1,5 +1,5 @@
--- Rounds of refutations: each whole round blocks the variables that the clauses of its refutation still hold.
-use Rattle.std.specs.Prelude.{ℕ, Bool, true, false, not, if◌then◌else◌, ◌&&◌, ◌||◌, List, [], ◌∷◌, ◌++◌, map, filter, length, nat_lt, IsTrue}
+-- Rounds of refutations: each whole round blocks the variables that the clauses of its refutation still contain.
+use Rattle.std.specs.Prelude.{ℕ, Bool, true, false, not, if◌then◌else◌, ◌&&◌, ◌||◌, List, [], ◌∷◌, ◌++◌, map, filter, length, nat_lt, IsTrue, ◌+◌}
 use Rattle.std.specs.List.{flat_map, list_all}
 use Rattle.lk_model.specs.Lists.{among, is_empty, with_earlier}
 use Rattle.lk_model.specs.Formulas.Literal.{variable}
@@ -26,7 +26,7 @@ is_refutation (s ∷ t ∷ later) = is_refutation (t ∷ later)
 abbrev pub used_positions : Cnf → Round → List ℕ
 used_positions F r = filter (among (reached r.steps)) (positions_of F)
 
--- the variables that the used clauses hold uncrossed
+-- the variables that the used clauses contain uncrossed
 abbrev pub variables_used : Cnf → Variables → Round → List ℕ
 variables_used F blocked r = flat_map (λ p. map variable (crossed_out blocked (clause_at F p))) (used_positions F r)
 
@@ -75,3 +75,7 @@ is_trimmed r = list_all (λ (s : Step). among (reached r.steps) s.number) r.step
 pub record AreNeeded (F : Cnf) (blocked : Variables) (rounds : List Round) : Type 0 where
   pub trimmed : IsTrue (list_all is_trimmed rounds)
   pub progress : IsTrue (has_progress F blocked rounds)
+
+-- the one step of the empty clause at a position
+abbrev pub empty_round : Cnf → ℕ → Round
+empty_round F p = record { steps = record { number = length F.clauses + 1; clause = []; first = p; turns = [] } ∷ [] }

@@ -15,8 +15,8 @@ use Rattle.lk_model.specs.declared.document.MatchRow.{MatchRow}
 use Rattle.lk_model.specs.declared.document.DoneDocument.{DoneDocument}
 use Rattle.lk_model.specs.declared.verdict.Kind.TheVariants.{BadOwner, BadRow}
 
--- the clause at the position holds no literal on the variable that the set line makes true, or an earlier line has the
--- variable
+-- the clause at the position contains no literal on the variable that the set line makes true, or an earlier line has
+-- the variable
 abbrev pub owner_fails : Cnf → DoneDocument → List Own → ℕ → Bool
 owner_fails F d own p = line_fails (not (among d.kept p)) (own_of own p) (λ o.
     not (list_any (λ l. makes_true (assignment_of d.set) l && (variable l == o.var)) (clause_at F p))

@@ -13,8 +13,8 @@ use Rattle.lk_model.specs.declared.document.Pair.{Pair}
 use Rattle.lk_model.specs.declared.document.DoneDocument.{DoneDocument}
 use Rattle.lk_model.specs.declared.verdict.Kind.TheVariants.{BadOrder, BadPair}
 
--- The literal stands earlier in the order, or is not in the set line, or some clause holds its complement and no earlier
--- literal of the order.
+-- The literal stands earlier in the order, or is not in the set line, or some clause contains its complement and no
+-- earlier literal of the order.
 abbrev pub breaks_order : Cnf → List ℤ → List ℤ → ℤ → Bool
 breaks_order F set earlier l = contains earlier l || not (contains set l)
     || list_any (λ c. contains c (complement l) && not (list_any (contains c) earlier)) F.clauses

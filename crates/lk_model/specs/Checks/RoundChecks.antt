@@ -1,10 +1,10 @@
 -- The checks of rounds: of a general document, and of an unfinished one. Before the first round the variables of P are
 -- blocked.
-use Rattle.std.specs.Prelude.{ℕ, not, ◌&&◌, ◌==◌, List, [], ◌∷◌, filter, length}
+use Rattle.std.specs.Prelude.{ℕ, not, ◌&&◌, ◌==◌, List, [], ◌∷◌, filter, length, ◌≡◌, None, IsTrue}
 use Rattle.lk_model.specs.Lists.{is_empty}
 use Rattle.lk_model.specs.Formulas.Literal.{is_same_list}
 use Rattle.lk_model.specs.Formulas.Formula.{Cnf, positions_of, variables_to, clause_at}
-use Rattle.lk_model.specs.Formulas.Crossed.{Variables}
+use Rattle.lk_model.specs.Formulas.Crossed.{Variables, no_variable}
 use Rattle.lk_model.specs.Formulas.PureRun.{occurs_outside}
 use Rattle.lk_model.specs.Chains.Chain.{states_its_clause, is_learned}
 use Rattle.lk_model.specs.Chains.Rounds.{steps_in_rounds, blocked_after}
@@ -15,6 +15,7 @@ use Rattle.lk_model.specs.declared.document.Round.{Round}
 use Rattle.lk_model.specs.declared.document.DoneDocument.{DoneDocument}
 use Rattle.lk_model.specs.declared.document.OpenDocument.{OpenDocument}
 use Rattle.lk_model.specs.declared.verdict.Kind.TheVariants.{KeptClause, BadCount, BadStep, NotBlocked, NotLearned}
+use Rattle.lk_model.specs.Documents.Form.{are_steps, is_whole}
 
 -- a number of the chain stands for nothing, a turn can't be made, or the chain's clause is not the stated one
 unfoldable pub bad_step : Variables → Cnf → List ℕ → List Round → Check
@@ -43,3 +44,10 @@ bad_count d = fails BadCount (0 ∷ []) (λ _. not (length (learned_steps d.roun
 unfoldable pub not_learned : Variables → Cnf → List ℕ → List Round → Check
 not_learned P F part rounds = fails_at_step NotLearned (steps_in_rounds F part P rounds)
     (λ s. not (is_empty s.step.clause) && not (is_learned s.premises s.step.clause))
+
+-- The steps are numbered from the formula's number of clauses plus 1, and each states the clause of its chain, over the
+-- clauses at the positions with no variable blocked. The last clause is empty, and no other.
+pub record IsRefutation (F : Cnf) (part : List ℕ) (r : Round) : Type 0 where
+  pub steps : IsTrue (are_steps F.vars (length F.clauses) r.steps)
+  pub whole : IsTrue (is_whole r)
+  pub stated : (bad_step no_variable F part (r ∷ [])).place ≡ None

@@ -1,4 +1,5 @@
--- Documents as contracts see them: the types of src/document.rt, with lists for their list fields. Words on their parts.
+-- Documents as contracts see them: the types of src/document.rt, with lists for their list fields. Words on their
+-- fields.
 use Rattle.std.specs.Prelude.{ℕ, ◌==◌, List, [], map, find, zip, ℤ, pos, Option}
 use Rattle.std.specs.List.{flat_map}
 use Rattle.std.specs.Option.{option_map_or}
@@ -60,3 +61,10 @@ shares_at u = map (λ (s : Share). (s.pos, s.z)) u.shares
 -- all steps, through all rounds
 abbrev pub steps_of : List Round → List Step
 steps_of rounds = flat_map (λ (r : Round). r.steps) rounds
+
+-- the rounds of a general certificate; those of another class have none
+abbrev pub rounds_in : Body → List Round
+rounds_in (General rounds) = rounds
+rounds_in (Pure order pairs) = []
+rounds_in (Matching own rows) = []
+rounds_in (Linear stages dual units) = []

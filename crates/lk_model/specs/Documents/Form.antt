@@ -52,8 +52,8 @@ is_stage n s = rises_within 0 n (map (λ (w : Weight). w.var) s.weights) && list
 abbrev pub are_duals : ℕ → List Dual → Bool
 are_duals m dual = rises_within 0 m (map (λ (y : Dual). y.pos) dual) && list_all (λ (y : Dual). is_in_range y.y) dual
 
-abbrev pub is_unit : ℕ → Unit → Bool
-is_unit m u = is_in_range u.d && rises_within 0 m (map (λ (s : Share). s.pos) u.shares) && list_all (λ (s : Share). is_weight s.z) u.shares
+abbrev pub is_linear_unit : ℕ → Unit → Bool
+is_linear_unit m u = is_in_range u.d && rises_within 0 m (map (λ (s : Share). s.pos) u.shares) && list_all (λ (s : Share). is_weight s.z) u.shares
 
 abbrev pub is_turn : ℕ → ℕ → Turn → Bool
 is_turn n number t = is_literal n t.lit && is_between 1 (number - 1) t.with
@@ -89,7 +89,7 @@ is_body n m (Pure order pairs) =
     list_all (is_literal n) order && rises_within 0 n (map (λ (q : Pair). q.var) pairs) && list_all (is_pair m) pairs
 is_body n m (Matching own rows) = are_own n m own && are_rows n m rows
 is_body n m (Linear stages dual units) =
-    list_all (is_stage n) stages && are_duals m dual && rises_within 0 n (map (λ (u : Unit). u.var) units) && list_all (is_unit m) units
+    list_all (is_stage n) stages && are_duals m dual && rises_within 0 n (map (λ (u : Unit). u.var) units) && list_all (is_linear_unit m) units
 is_body n m (General rounds) = are_steps n m (steps_of rounds) && list_all is_whole rounds
 
 -- THE CLAUSE LINES

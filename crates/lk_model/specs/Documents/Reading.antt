@@ -5,7 +5,7 @@ use Rattle.lk_model.specs.Documents.Form.{is_in_form}
 use Rattle.lk_model.specs.Documents.Text.{text_of, text_lines}
 
 -- the bytes are the text of the document, which is in form
-pub record IsTextOf (bytes : List ℕ) (d : Document) : Type 0 where
+pub record IsTextOfDocument (bytes : List ℕ) (d : Document) : Type 0 where
   pub form : IsTrue (is_in_form d)
   pub text : bytes ≡ text_of d
 
@@ -46,4 +46,4 @@ pub record StopsAs (Texts : List ℕ → Type 0) (bytes : List ℕ) (line : ℕ)
 
 -- the texts of documents
 abbrev pub IsDocumentText : List ℕ → Type 0
-IsDocumentText bytes = (d : Document) × IsTextOf bytes d
+IsDocumentText bytes = (d : Document) × IsTextOfDocument bytes d

@@ -1,5 +1,5 @@
 -- Partial assignments (Handbook of Satisfiability, Kleine Büning and Kullmann).
-use Rattle.std.specs.Prelude.{ℕ, suc, Bool, true, false, if◌then◌else◌, not, List, ℤ, pos, negsuc, neg_ℤ, Option, Some, None, is_some, unwrap_or, map, ◌&&◌, find}
+use Rattle.std.specs.Prelude.{ℕ, suc, Bool, true, false, if◌then◌else◌, not, List, ℤ, pos, negsuc, neg_ℤ, Option, Some, None, is_some, unwrap_or, map, ◌&&◌, find, IsTrue}
 use Rattle.std.specs.List.{list_any}
 use Rattle.lk_model.specs.Lists.{is_between}
 use Rattle.lk_model.specs.Formulas.Literal.{variable, literal_of, contains}
@@ -21,6 +21,10 @@ touches φ c = list_any (λ l. is_some (φ (variable l))) c
 -- a literal of the clause is true
 abbrev pub satisfies : Assignment → List ℤ → Bool
 satisfies φ c = list_any (makes_true φ) c
+
+-- the assignment satisfies each clause of S
+abbrev pub IsModel : Cnf → (ℕ → Bool) → Assignment → Type 0
+IsModel F S φ = (p : ℕ) → IsTrue (S p) → IsTrue (satisfies φ (clause_at F p))
 
 -- the assignment that makes these literals true and sets nothing else
 abbrev pub assignment_of : List ℤ → Assignment

@@ -22,7 +22,7 @@ Within T S = (p : ℕ) → IsTrue (T p) → IsTrue (S p)
 abbrev pub IsAutarky : Cnf → Positions → Assignment → Type 0
 IsAutarky F S φ = (p : ℕ) → IsTrue (S p) → IsTrue (touches φ (clause_at F p)) → IsTrue (satisfies φ (clause_at F p))
 
--- Each clause of S that holds the complement of a literal of the order also holds an earlier literal of it.
+-- Each clause of S that contains the complement of a literal of the order also contains an earlier literal of it.
 abbrev pub HasEarlier : Cnf → Positions → List ℤ → List ℤ → Type 0
 HasEarlier F S earlier [] = ⊤
 HasEarlier F S earlier (l ∷ order) =

@@ -9,17 +9,17 @@ use Rattle.lk_model.specs.Formulas.Formula.{Cnf, clause_at}
 abbrev pub Weighting : Type 0
 Weighting = ℕ → ℤ
 
--- the weights of the variables that the clause holds, less those of the variables whose complement it holds
+-- the weights of the variables that the clause contains, less those of the variables whose complement it contains
 abbrev pub balance : Weighting → List ℤ → ℤ
 balance x [] = pos 0
 balance x (pos v ∷ c) = x v +ℤ balance x c
 balance x (negsuc k ∷ c) = neg_ℤ (x (suc k)) +ℤ balance x c
 
--- 1 where the clause holds v and not -v, -1 where it holds -v and not v, else 0
+-- 1 where the clause contains v and not -v, -1 where it contains -v and not v, else 0
 abbrev pub incidence : List ℤ → ℕ → ℤ
 incidence c v = (if contains c (pos v) then pos 1 else pos 0) -ℤ (if contains c (complement (pos v)) then pos 1 else pos 0)
 
--- Of numbers at positions, in a variable: those at the clauses that hold it, less those at the clauses that hold its
--- complement.
+-- Of numbers at positions, in a variable: those at the clauses that contain it, less those at the clauses that contain
+-- its complement.
 abbrev pub balance_in : Cnf → List (ℕ × ℤ) → ℕ → ℤ
 balance_in F ys v = sum_of (map (λ (p, y). y *ℤ incidence (clause_at F p) v) ys)

@@ -1,5 +1,5 @@
 -- Sets of variables, and clauses and formulas in which the literals on the variables of a set are crossed out.
-use Rattle.std.specs.Prelude.{ℕ, Bool, false, not, List, ℤ, filter, map, Option, Some, None, IsTrue}
+use Rattle.std.specs.Prelude.{ℕ, Bool, false, not, List, ℤ, filter, map, Option, Some, None, IsTrue, option_map}
 use Rattle.lk_model.specs.Lists.{among, is_between}
 use Rattle.lk_model.specs.Formulas.Literal.{variable}
 use Rattle.lk_model.specs.Formulas.Formula.{Cnf, variables_to}
@@ -33,3 +33,7 @@ protected_by (Some vars) = among vars
 -- of the listed numbers those that are variables of the formula, each once, ascending
 abbrev pub protected_of : Cnf → List ℕ → List ℕ
 protected_of F listed = filter (among listed) (variables_to F.vars)
+
+-- the protected variables of a document are those of the formula that are listed, if there is a list
+abbrev pub protect_line_of : Cnf → Option (List ℕ) → Option (List ℕ)
+protect_line_of F listed = option_map (protected_of F) listed

@@ -1,8 +1,8 @@
 -- A formula in conjunctive normal form (DIMACS CNF 1993). Positions count from 1, and equal clauses at two positions are
 -- two clauses.
-use Rattle.std.specs.Prelude.{ℕ, zero, suc, ◌≤◌, Bool, ℤ, List, [], ◌∷◌, ◌++◌, ◌-◌, length, take, map, filter, sum_by, slice_index_or}
+use Rattle.std.specs.Prelude.{ℕ, zero, suc, ◌≤◌, Bool, ℤ, List, [], ◌∷◌, ◌++◌, ◌-◌, length, take, map, filter, sum_by, slice_index_or, find, Option}
 use Rattle.std.specs.List.{list_any, list_all}
-use Rattle.lk_model.specs.Lists.{up_to}
+use Rattle.lk_model.specs.Lists.{up_to, is_empty}
 use Rattle.lk_model.specs.Limits.{max_vars, max_clauses, max_literals}
 use Rattle.lk_model.specs.Formulas.Literal.{is_clause, contains, mentions}
 
@@ -27,7 +27,7 @@ positions_of F = up_to (length F.clauses)
 abbrev pub variables_to : ℕ → List ℕ
 variables_to n = up_to n
 
--- how many literals the clauses hold together
+-- how many literals the clauses contain together
 abbrev pub literal_count : Cnf → ℕ
 literal_count F = sum_by length F.clauses
 
@@ -63,3 +63,7 @@ with_clause F c = record F { clauses = F.clauses ++ c ∷ [] }
 -- the formula without its last clause
 abbrev pub without_last : Cnf → Cnf
 without_last F = record F { clauses = take (length F.clauses - 1) F.clauses }
+
+-- the least position of an empty clause
+abbrev pub first_empty : Cnf → Option ℕ
+first_empty F = find (λ p. is_empty (clause_at F p)) (positions_of F)

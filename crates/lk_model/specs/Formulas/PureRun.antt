@@ -30,7 +30,7 @@ RunsOn F done (l ∷ order) = (least_pure F (untouched F done) ≡ Some l) × Ru
 abbrev pub IsPureRun : Cnf → List ℤ → Type 0
 IsPureRun F order = RunsOn F [] order
 
--- the least of the positions whose clause holds the literal
+-- the least of the positions whose clause contains the literal
 abbrev pub least_with : Cnf → List ℕ → ℤ → Option ℕ
 least_with F ps l = find (λ p. contains (clause_at F p) l) ps
 

@@ -27,7 +27,8 @@ stop text = unwrap_or (option_map first_of_line (find is_end_mark (lines_of text
 abbrev pub numbers_of : List Piece → List ℤ
 numbers_of words = filter_map number (texts words)
 
--- The faults of a word that writes this number, or none, behind these numbers. They stand in the order in which they are told.
+-- The faults of a word that writes this number, or none, after these numbers. They stand in the order in which they are
+-- reported.
 abbrev pub number_faults : ℕ → ℕ → List ℤ → Option ℤ → ℕ → List Fault
 number_faults vars clauses earlier None place = fault_if true BadToken place
 number_faults vars clauses earlier (Some x) place =
@@ -38,7 +39,7 @@ number_faults vars clauses earlier (Some x) place =
 abbrev pub word_faults : ℕ → ℕ → List Piece × Piece → List Fault
 word_faults vars clauses (earlier, word) = number_faults vars clauses (numbers_of earlier) (number word.bytes) word.last
 
--- the faults behind a problem line, where the numbers go on to the place at the end
+-- the faults after a problem line, where the numbers go on to the place at the end
 abbrev pub body_faults : ℕ → ℕ → List Piece → ℕ → List Fault
 body_faults vars clauses lines end =
     flat_map (λ line. fault_if true SecondHeader (first_of_line line)) (filter is_problem lines)

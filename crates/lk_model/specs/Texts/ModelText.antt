@@ -1,4 +1,4 @@
--- The model that a text gives, as solvers print one: `s SATISFIABLE` and lines of literals behind `v`.
+-- The model that a text gives, as solvers print one: `s SATISFIABLE` and lines of literals after `v`.
 use Rattle.std.specs.Prelude.{ℕ, Bool, true, false, if◌then◌else◌, not, ◌&&◌, ◌||◌, List, [], ◌∷◌, length, map, filter, take, ℤ, Option, Some, None, Result, Ok, Err, codes, ◌==◌, nat_le, flat_map, filter_map, find, slice_index}
 use Rattle.std.specs.List.{list_all}
 use Rattle.std.specs.Option.{option_map_or}
@@ -34,7 +34,7 @@ abbrev pub line_numbers : List Word → List ℤ
 line_numbers [] = []
 line_numbers (first ∷ words) = if bytes_eq first (codes "v") then filter_map number words else []
 
--- nothing stands behind the first 0
+-- nothing stands after the first 0
 abbrev pub ends_at_zero : List ℤ → Bool
 ends_at_zero [] = true
 ends_at_zero (x ∷ xs) = if is_zero x then is_empty xs else ends_at_zero xs

@@ -12,7 +12,7 @@ use lk_outside::Shelf;
 use status_lines::Ending;
 use std::alloc::Global;
 
-/// Writes the matching kernels of the formula under the first name, and behind each edit under the second.
+/// Writes the matching kernels of the formula under the first name, and after each edit under the second.
 pub(crate) fn perform<H: Shelf>(
     alloc: Global,
     shelf: &mut H,

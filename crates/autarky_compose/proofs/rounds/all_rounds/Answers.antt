@@ -1,7 +1,7 @@
 use Rattle.std.proofs.Common.{◌≡◌, ℕ, ◌-◌, ◌++◌, ◌∙◌, List, [], length, map, ap, arith}
 use Rattle.lk_model.specs.Documents.Documents.{steps_of}
 use Rattle.lk_model.specs.declared.document.Round.{Round}
-use Rattle.kernel_laws.specs.General.JoinLaw.{moved, renumbered_round}
+use Rattle.general_laws.specs.JoinLaw.{moved, renumbered_round}
 use Rattle.autarky_compose.proofs.JoinedRounds.{rounds_more, count_more}
 use Rattle.autarky_compose.proofs.rounds.all_rounds.Goals as goal
 

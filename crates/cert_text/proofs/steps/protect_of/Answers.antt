@@ -4,7 +4,7 @@ use Rattle.std.specs.Str.{bytes_eq}
 use Rattle.lk_model.specs.Texts.Lines.{Word}
 use Rattle.cert_text.proofs.steps.protect_of.Goals as goal
 
--- a word against one that is told
+-- a word against a known one
 compared : (word read one : Word) (b c : Bool) → read ≡ one → b ≡ bytes_eq word read → b ≡ c → bytes_eq word one ≡ c
 compared word read one b c same is e = ap (bytes_eq word) (sym same) ∙ sym is ∙ e
 

@@ -1,7 +1,7 @@
 use Rattle.std.proofs.Common.{◌∙◌, ap, sym, arith}
 use Rattle.lk_model.specs.Lists.{is_empty}
 use Rattle.lk_model.specs.Formulas.Literal.{is_tautology}
-use Rattle.command_endings.specs.Commands.Reporting.{is_unit}
+use Rattle.command_endings.specs.Commands.Report.{is_unit_clause}
 use Rattle.command_endings.specs.declared.counts.Counts.{Counts}
 use Rattle.command_endings.proofs.Counted.{counted, few}
 use Rattle.command_endings.proofs.counts.counts_of.Goals as goal
@@ -11,7 +11,7 @@ pub add-requires-clause-empty : goal.add-requires-clause-empty
 add-requires-clause-empty c = omega (arith, few is_empty c.args.f.now.clauses c.loop-i.i, ap (λ (k : Counts). k.empty) c.loop-i.invariant.counted, c.len-i-end.ensures.limits.clauses)
 
 pub add-requires-clause-units : goal.add-requires-clause-units
-add-requires-clause-units c = omega (arith, few is_unit c.args.f.now.clauses c.loop-i.i, ap (λ (k : Counts). k.units) c.loop-i.invariant.counted, c.len-i-end.ensures.limits.clauses)
+add-requires-clause-units c = omega (arith, few is_unit_clause c.args.f.now.clauses c.loop-i.i, ap (λ (k : Counts). k.units) c.loop-i.invariant.counted, c.len-i-end.ensures.limits.clauses)
 
 pub add-requires-clause-tautologies : goal.add-requires-clause-tautologies
 add-requires-clause-tautologies c = omega (arith, few is_tautology c.args.f.now.clauses c.loop-i.i, ap (λ (k : Counts). k.tautologies) c.loop-i.invariant.counted, c.len-i-end.ensures.limits.clauses)

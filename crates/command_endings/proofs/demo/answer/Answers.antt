@@ -1,5 +1,5 @@
 use Rattle.std.proofs.Common.{◌≡◌, ℕ, rules, subst}
-use Rattle.command_endings.specs.Commands.Demonstrating.{conflicts}
+use Rattle.command_endings.specs.Commands.Demo.{conflicts}
 use Rattle.part_kernels.specs.ByParts.{IsFirstUnfinished}
 use Rattle.reductions.specs.Founds.{IsStopOf}
 use Rattle.reductions.specs.declared.find.GeneralStop.{GeneralStop}

@@ -4,7 +4,7 @@ use Rattle.lean_checker.specs.Verdicts.{verdict_words}
 use Rattle.lk_model.specs.Checks.Checks.{Accepts}
 use Rattle.lk_model.specs.Texts.PlainText.{line}
 use Rattle.lk_model.specs.declared.document.DoneDocument.{DoneDocument}
-use Rattle.command_endings.specs.Commands.Reporting.{row, row_line}
+use Rattle.command_endings.specs.Commands.Report.{row, row_line}
 use Rattle.command_endings.proofs.DemoEndings.{reduces_formula, writes_demo}
 use Rattle.command_endings.proofs.demo.lines_of.Goals as goal
 

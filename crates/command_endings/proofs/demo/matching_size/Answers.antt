@@ -1,6 +1,6 @@
 use Rattle.lk_model.specs.Formulas.Formula.{positions_of}
 use Rattle.lk_model.specs.declared.class.Class.TheVariants.{Matching}
-use Rattle.kernel_laws.proofs.Matching.MatchingReductions.{matching_result_law}
+use Rattle.matching_laws.proofs.MatchingReductions.{matching_result_law}
 use Rattle.command_endings.proofs.KernelSizes.{size_of_all}
 use Rattle.command_endings.proofs.demo.matching_size.Goals as goal
 

@@ -2,7 +2,7 @@ use Rattle.std.proofs.Common.{refl, List, subst}
 use Rattle.edit_text.specs.LiveClauses.{LiveClauses, live_of}
 use Rattle.edit_text.specs.Edits.{states}
 use Rattle.edit_text.specs.declared.edit.Edit.{Edit}
-use Rattle.command_endings.specs.Commands.Editing.{WritesKernels}
+use Rattle.command_endings.specs.Commands.Edits.{WritesKernels}
 use Rattle.command_endings.proofs.edits.answer.Goals as goal
 
 pub returns : goal.returns

@@ -1,7 +1,7 @@
 use Rattle.std.proofs.Common.{◌≡◌, ◌∙◌, ℤ, List, Ok, ap, sym}
 use Rattle.lk_model.specs.Formulas.Assignment.{assignment_of, extended, extended_literals}
 use Rattle.lk_model.specs.Held.PartialValues.{assignment_by}
-use Rattle.command_endings.specs.Commands.Extending.{extension, model_line}
+use Rattle.command_endings.specs.Commands.Extend.{extension, model_line}
 use Rattle.command_endings.proofs.Extensions.{set_rises, tells_failure, tells_extension}
 use Rattle.command_endings.proofs.extend.told_of_done.Goals as goal
 

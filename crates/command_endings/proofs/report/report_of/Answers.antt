@@ -1,7 +1,7 @@
 use Rattle.std.proofs.Common.{◌≡◌, ◌∙◌, ◌∷◌, [], length}
 use Rattle.std.proofs.lemmas.Result.{IfOk-weaker}
 use Rattle.std.specs.Prelude.{codes, flat_map}
-use Rattle.command_endings.specs.Commands.Reporting.{WritesReport, row, row_line}
+use Rattle.command_endings.specs.Commands.Report.{WritesReport, row, row_line}
 use Rattle.command_endings.proofs.report.report_of.Goals as goal
 
 pub returns : goal.returns

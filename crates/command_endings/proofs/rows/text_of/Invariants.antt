@@ -1,6 +1,6 @@
 use Rattle.std.proofs.Common.{◌≡◌, take, map}
 use Rattle.std.specs.Prelude.{flat_map}
-use Rattle.command_endings.specs.Commands.Reporting.{row_line}
+use Rattle.command_endings.specs.Commands.Report.{row_line}
 use Rattle.command_endings.specs.Counting.{seen}
 use Rattle.command_endings.proofs.rows.text_of.Given as goal
 

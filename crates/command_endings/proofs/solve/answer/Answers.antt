@@ -5,8 +5,8 @@ use Rattle.lk_model.specs.declared.document.Document.TheVariants.{Unfinished}
 use Rattle.kernel_solve.specs.Solutions.{IsSolved}
 use Rattle.kernel_solve.specs.declared.solving.Solved.{Solved}
 use Rattle.reductions.specs.Founds.{open_document_of}
-use Rattle.answer_check.specs.Answers.{answer_text}
-use Rattle.answer_check.specs.declared.answer.Answer.TheVariants.{Model, Refuted}
+use Rattle.lk_model.specs.Documents.Answers.{answer_text}
+use Rattle.lk_model.specs.declared.answer.Answer.TheVariants.{Model, Refuted}
 use Rattle.command_words.specs.OptionRows.{values_of}
 use Rattle.command_words.specs.declared.command.Command.TheVariants.{Solve}
 use Rattle.command_endings.specs.Answering.{IsAnswer}

@@ -1,7 +1,7 @@
 use Rattle.std.proofs.Common.{◌≡◌, ◌+◌, ◌≤◌, ◌++◌, ◌∷◌, [], ◌∙◌, ℕ, List, sym, ap, subst, arith, length}
 use Rattle.lk_model.specs.declared.document.Step.{Step}
 use Rattle.lk_model.specs.declared.document.Without.{Without}
-use Rattle.minimal_laws.specs.CoreLaw.{IsCore}
+use Rattle.general_laws.specs.CoreLaw.{IsCore}
 use Rattle.empty_clauses.proofs.EmptyCores.{empty_step, empty_line, empty_core}
 use Rattle.empty_clauses.proofs.empty_clause.empty_core.Goals as goal
 

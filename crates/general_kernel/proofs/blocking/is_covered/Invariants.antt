@@ -2,7 +2,7 @@ use Rattle.std.proofs.Common.{◌≡◌, true, take}
 use Rattle.std.specs.List.{list_all}
 use Rattle.lk_model.specs.Formulas.Formula.{clause_at}
 use Rattle.lk_model.specs.Held.VariableSets.{is_in}
-use Rattle.kernel_laws.specs.General.Found.{has_only}
+use Rattle.general_laws.specs.Found.{has_only}
 use Rattle.general_kernel.proofs.blocking.is_covered.Given as goal
 
 -- those so far have

@@ -3,8 +3,8 @@ use Rattle.lk_model.specs.Lists.{rises_within}
 use Rattle.lk_model.specs.Formulas.Literal.{variable}
 use Rattle.lk_model.specs.Formulas.Assignment.{assignment_of, extended, extended_literals}
 use Rattle.lk_model.specs.Held.PartialValues.{assignment_by}
-use Rattle.kernel_laws.specs.Matching.MatchingResults.{set_line}
-use Rattle.kernel_laws.proofs.Matching.SetLines.{set_rises}
+use Rattle.matching_laws.specs.MatchingResults.{set_line}
+use Rattle.matching_laws.proofs.SetLines.{set_rises}
 use Rattle.kernel_solve.specs.Solutions.{IsTotalModel}
 use Rattle.kernel_solve.proofs.SolveResults.{both_ok, joinable, joined_rises, total_model}
 use Rattle.kernel_solve.proofs.model.model_of.Goals as goal

@@ -6,7 +6,7 @@ use Rattle.lk_model.specs.Formulas.Formula.{Cnf}
 use Rattle.lk_model.specs.declared.document.Round.{Round}
 use Rattle.kernel_solve.specs.KernelParts.{IsFilledPart}
 use Rattle.kernel_solve.specs.Answers.{Answer, AreAnswers, IsAmongAnswers, models}
-use Rattle.kernel_solve.specs.Solutions.{IsRefuted}
+use Rattle.kernel_solve.specs.Solutions.{IsRefutedWithin}
 use Rattle.kernel_solve.specs.declared.solving.Solved.{Solved}
 use Rattle.kernel_solve.proofs.EmptyClauses.{by_empty}
 use Rattle.kernel_solve.proofs.SolveResults.{searched, all_filled, kernel_models, solved_by}
@@ -15,7 +15,7 @@ use Rattle.kernel_solve.proofs.solving.solve.Goals as goal
 pub returns-in-Some : goal.returns-in-Some
 returns-in-Some g c =
     let F = c.args.f.now in
-    subst (λ (r : Round). IsRefuted F c.args.conflicts r) (sym c.in_ok-empty_round.ensures)
+    subst (λ (r : Round). IsRefutedWithin F c.args.conflicts r) (sym c.in_ok-empty_round.ensures)
     (by_empty F c.in-Some.position c.args.conflicts c.in-Some.ensures.limits (sym c.in-Some.ensures.first))
 
 -- the answers on the list that was read

@@ -3,7 +3,7 @@ use Rattle.lk_model.specs.Documents.Form.{is_in_form}
 use Rattle.lk_model.specs.declared.document.Document.{Document}
 use Rattle.std.proofs.Common.{◌≡◌, true}
 use Rattle.lean_checker.specs.Accepted.{IsReducedBy}
-use Rattle.kernel_laws.proofs.Protected.AcceptedLaws.{accepted_law}
+use Rattle.document_laws.proofs.AcceptedLaws.{accepted_law}
 use Rattle.lean_checker.proofs.checking.check.Goals as goal
 
 pub returns-in-None-clause-reduction : goal.returns-in-None-clause-reduction

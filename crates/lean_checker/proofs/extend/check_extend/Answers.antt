@@ -3,7 +3,7 @@ use Rattle.lk_model.specs.Lists.{rises_within}
 use Rattle.lk_model.specs.Formulas.Crossed.{protected_by}
 use Rattle.lk_model.specs.Held.PartialValues.{assignment_by}
 use Rattle.kernel_laws.proofs.Passed.{in_form}
-use Rattle.kernel_laws.proofs.Protected.ModelLaws.{model_law}
+use Rattle.document_laws.proofs.ExtensionLaws.{extension_law}
 use Rattle.lean_checker.proofs.ExtendFailures.{common_refuses, model_refuses, none_refuses, protected_keep}
 use Rattle.lean_checker.proofs.extend.check_extend.Goals as goal
 
@@ -28,7 +28,7 @@ returns-in-None-clause-extends c = λ _.
     let d = c.args.d.now in
     let ψ = assignment_by c.args.psi.now in
     let passes = none_refuses F d ψ (sym c.in_default.is ∙ c.in_ok-why.ensures.first) c.in-None.ensures in
-    model_law.extends (protected_by d.protect) F d ψ c.in_ok-why.ensures.formula (sym passes)
+    extension_law.extends (protected_by d.protect) F d ψ c.in_ok-why.ensures.formula (sym passes)
 
 pub returns-in-None-clause-protected : goal.returns-in-None-clause-protected
 returns-in-None-clause-protected c = λ _ v within.

@@ -1,4 +1,4 @@
-use Rattle.linear_laws.specs.MovesLaw.{room}
+use Rattle.linear_run_laws.specs.MovesLaw.{room}
 use Rattle.linear_kernel.proofs.Moments.{GoesOn}
 use Rattle.linear_kernel.proofs.kernel.linear_kernel.Given as goal
 

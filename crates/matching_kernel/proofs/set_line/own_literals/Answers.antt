@@ -1,9 +1,9 @@
 use Rattle.std.proofs.Common.{◌≡◌, ◌∙◌, ℕ, ◌+◌, ◌-◌, ◌<◌, length, drop, get_or, ap, subst, arith, None}
 use Rattle.lk_model.specs.Formulas.Formula.{clause_at}
 use Rattle.lk_model.specs.declared.document.Own.{Own}
-use Rattle.kernel_laws.specs.Matching.MatchingResults.{literal_on}
 use Rattle.kernel_laws.specs.FirstTables.{IsFirstTable}
 use Rattle.kernel_laws.proofs.FirstTables.{first_more}
+use Rattle.matching_laws.specs.MatchingResults.{literal_on}
 use Rattle.matching_kernel.proofs.OwnLiterals.{own_placed}
 use Rattle.matching_kernel.proofs.set_line.own_literals.Goals as goal
 

@@ -1,8 +1,8 @@
 use Rattle.std.proofs.Common.{drop, None}
 use Rattle.lk_model.specs.Formulas.Formula.{clause_at}
 use Rattle.lk_model.specs.declared.document.Own.{Own}
-use Rattle.kernel_laws.specs.Matching.MatchingResults.{literal_on}
 use Rattle.kernel_laws.specs.FirstTables.{IsFirstTable}
+use Rattle.matching_laws.specs.MatchingResults.{literal_on}
 use Rattle.matching_kernel.proofs.set_line.own_literals.Given as goal
 
 -- the table of the lines so far, which stand last

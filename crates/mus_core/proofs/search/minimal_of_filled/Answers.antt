@@ -1,6 +1,6 @@
 use Rattle.std.proofs.Common.{◌∙◌, List, ℕ, [], ◌∷◌, ap, subst}
 use Rattle.lk_model.specs.Formulas.Formula.{clauses_at}
-use Rattle.kernel_laws.specs.General.Found.{IsUnfinished}
+use Rattle.general_laws.specs.Found.{IsUnfinished}
 use Rattle.part_formula.specs.Decisions.{IsDecision}
 use Rattle.part_formula.specs.declared.deciding.Decision.{Decision}
 use Rattle.mus_core.proofs.Telling.{open_here}

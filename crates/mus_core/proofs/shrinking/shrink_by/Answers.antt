@@ -1,6 +1,6 @@
 use Rattle.std.proofs.Common.{◌∙◌, ℕ, not, is_some, find, sym, ap, subst}
-use Rattle.mus_core.specs.declared.shrinking.Turned.{Turned}
-use Rattle.mus_core.specs.Shrinking.{IsTurned}
+use Rattle.mus_core.specs.declared.shrinking.LeftOut.{LeftOut}
+use Rattle.mus_core.specs.Shrinking.{IsLeftOut}
 use Rattle.mus_core.specs.WitnessValues.{witness_at}
 use Rattle.mus_core.proofs.ShrunkCores.{next}
 use Rattle.mus_core.proofs.shrinking.shrink_by.Goals as goal
@@ -9,15 +9,15 @@ pub told_core-requires-clause-each : goal.told_core-requires-clause-each
 told_core-requires-clause-each c =
     ap (find (λ (p : ℕ). not (is_some (witness_at c.turns.witnesses p)))) (sym c.as_slice.ensures) ∙ sym c.first_open.ensures ∙ c.in-None.is
 
-pub turn-requires-clause-next : goal.turn-requires-clause-next
-turn-requires-clause-next c =
+pub leave_out-requires-clause-next : goal.leave_out-requires-clause-next
+leave_out-requires-clause-next c =
     next c.args.core.now c.turns.refutation c.turns.witnesses c.in-Some.p c.turns.invariant
     (ap (find (λ (p : ℕ). not (is_some (witness_at c.turns.witnesses p)))) (sym c.as_slice.ensures) ∙ sym c.first_open.ensures ∙ c.in-Some.is)
 
 pub turns-smaller : goal.turns-smaller
 turns-smaller c =
-    (subst (λ (t : Turned). IsTurned c.args.core.now c.args.conflicts c.turns.refutation c.turns.witnesses c.turn.new.witnesses t) c.in-On.is c.in_ok-turn-in-Some.ensures).1
+    (subst (λ (t : LeftOut). IsLeftOut c.args.core.now c.args.conflicts c.turns.refutation c.turns.witnesses c.leave_out.new.witnesses t) c.in-On.is c.in_ok-leave_out-in-Some.ensures).1
 
 pub turns-preserved : goal.turns-preserved
 turns-preserved c =
-    (subst (λ (t : Turned). IsTurned c.args.core.now c.args.conflicts c.turns.refutation c.turns.witnesses c.turn.new.witnesses t) c.in-On.is c.in_ok-turn-in-Some.ensures).0
+    (subst (λ (t : LeftOut). IsLeftOut c.args.core.now c.args.conflicts c.turns.refutation c.turns.witnesses c.leave_out.new.witnesses t) c.in-On.is c.in_ok-leave_out-in-Some.ensures).0

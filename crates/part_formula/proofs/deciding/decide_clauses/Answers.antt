@@ -5,7 +5,7 @@ use Rattle.lk_model.specs.Held.PartialValues.{assignment_by}
 use Rattle.refutation_log.specs.Trimmed.{trimmed, names_positions_below}
 use Rattle.general_kernel.specs.SetLiterals.{literals_on}
 use Rattle.general_kernel.proofs.Turns.{IsTurn}
-use Rattle.kernel_laws.specs.General.Found.{IsUnfinished}
+use Rattle.general_laws.specs.Found.{IsUnfinished}
 use Rattle.part_formula.specs.Decisions.{are_filled, IsPartModel, IsPartRefuted}
 use Rattle.part_formula.proofs.DecidedClauses.{first, model_found, names_low, refutation_found, stopped_found}
 use Rattle.part_formula.proofs.deciding.decide_clauses.Goals as goal

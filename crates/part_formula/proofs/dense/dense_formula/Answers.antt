@@ -6,7 +6,7 @@ use Rattle.lk_model.specs.Limits.{max_vars}
 use Rattle.lk_model.specs.Formulas.Formula.{Cnf, clause_at}
 use Rattle.lk_model.proofs.Lists.{among_at}
 use Rattle.lk_model.proofs.Rising.{rising_bounds, rising_count, rises_to}
-use Rattle.kernel_laws.specs.General.Found.{has_only}
+use Rattle.general_laws.specs.Found.{has_only}
 use Rattle.lk_model.specs.Lists.{among}
 use Rattle.part_formula.specs.Names.{AreNames}
 use Rattle.part_formula.proofs.Copying.{IsCopied, IsNext, next_clause, copied_more, few_copied, few_literals_copied, dense, named_variables}

@@ -8,7 +8,7 @@ use Rattle.lk_model.specs.Documents.Documents.{steps_of}
 use Rattle.lk_model.specs.Documents.Form.{are_steps}
 use Rattle.lk_model.specs.declared.document.Round.{Round}
 use Rattle.lk_model.specs.declared.result.GeneralResult.{GeneralResult}
-use Rattle.kernel_laws.specs.General.Found.{IsDone, IsUnfinished, IsFound}
+use Rattle.general_laws.specs.Found.{IsDone, IsUnfinished, IsFound}
 use Rattle.lk_model.specs.declared.result.General.{General}
 use Rattle.lk_model.specs.declared.result.General.TheVariants.{Done, Unfinished}
 use Rattle.renaming_laws.specs.Renaming.{IsDense, renamed_result, renamed_round}

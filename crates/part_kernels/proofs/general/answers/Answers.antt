@@ -2,7 +2,7 @@ use Rattle.std.proofs.Common.{rules, ◌≡◌, ◌∙◌, ℕ, ◌<◌, List, [
 use Rattle.std.proofs.lemmas.Result.{IfOk-weaker, IfOk-at_ok}
 use Rattle.std.proofs.lemmas.List.{get_or-map, length-map}
 use Rattle.lk_model.specs.declared.list.OutOfMemory.{OutOfMemory}
-use Rattle.kernel_laws.specs.General.Found.{IsFound}
+use Rattle.general_laws.specs.Found.{IsFound}
 use Rattle.lk_model.specs.declared.result.General.{General}
 use Rattle.part_kernels.specs.ByParts.{AreFound}
 use Rattle.part_kernels.proofs.Founds.{nothing, found_from}

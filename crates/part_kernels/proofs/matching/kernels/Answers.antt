@@ -3,7 +3,7 @@ use Rattle.std.proofs.lemmas.Result.{IfOk-weaker, IfOk-at_ok}
 use Rattle.std.proofs.lemmas.List.{get_or-map, length-map}
 use Rattle.lk_model.specs.declared.list.OutOfMemory.{OutOfMemory}
 use Rattle.lk_model.specs.declared.result.MatchingResult.{MatchingResult}
-use Rattle.kernel_laws.specs.Matching.MatchingResults.{IsMatchingResult}
+use Rattle.matching_laws.specs.MatchingResults.{IsMatchingResult}
 use Rattle.autarky_compose.specs.JoinedMatching.{AreMatchingResults}
 use Rattle.autarky_compose.proofs.Sources.{nothing}
 use Rattle.autarky_compose.proofs.Results.{results_from}

@@ -6,13 +6,13 @@ use Rattle.lk_model.specs.Formulas.Formula.{positions_of}
 use Rattle.lk_model.specs.Formulas.Assignment.{assignment_of}
 use Rattle.lk_model.specs.Formulas.Crossed.{no_variable}
 use Rattle.lk_model.specs.Formulas.PureRun.{least_pure}
-use Rattle.lk_model.specs.Reduction.{ReducesBy}
+use Rattle.lk_model.specs.Formulas.Protected.{ReducesBy}
 use Rattle.lk_model.specs.declared.class.Class.TheVariants.{Pure}
 use Rattle.pure_strip.specs.Live.{is_live}
 use Rattle.pure_strip.proofs.Starts.{kept_is}
 use Rattle.pure_strip.proofs.Runs.{live_is_untouched}
-use Rattle.kernel_laws.proofs.Pure.PureLaws.{pure_law}
-use Rattle.kernel_laws.proofs.Pure.Runs.{run_leaves, untouched_rise}
+use Rattle.pure_laws.proofs.PureLaws.{pure_law}
+use Rattle.pure_laws.proofs.Runs.{run_leaves, untouched_rise}
 use Rattle.pure_strip.proofs.kernel.pure_kernel.Goals as goal
 
 pub pure_order-requires-clause-live : goal.pure_order-requires-clause-live

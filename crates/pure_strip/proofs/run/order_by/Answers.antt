@@ -1,7 +1,7 @@
 use Rattle.std.proofs.Common.{◌<◌, ◌∙◌, ◌++◌, [], List, ℤ, length, sym, subst, arith}
 use Rattle.lk_model.proofs.Ranks.{rank_small}
 use Rattle.lk_model.specs.Formulas.PureRun.{untouched, RunsOn}
-use Rattle.kernel_laws.proofs.Pure.PureLiterals.{least_literal}
+use Rattle.pure_laws.proofs.PureLiterals.{least_literal}
 use Rattle.pure_strip.specs.Live.{AreUntouched}
 use Rattle.pure_strip.proofs.PairLemmas.{listed}
 use Rattle.pure_strip.proofs.Runs.{least_is, listed_within, Untouched-more, fewer_untouched, runs_more, runs_end}

@@ -4,7 +4,7 @@ use Rattle.std.specs.List.{filter_map, list_all}
 use Rattle.lk_model.specs.Documents.Form.{is_stage}
 use Rattle.lk_model.specs.Formulas.Formula.{variables_to}
 use Rattle.lk_model.specs.declared.document.Stage.{Stage}
-use Rattle.linear_laws.specs.RunLaw.{sign_literal}
+use Rattle.linear_run_laws.specs.RunLaw.{sign_literal}
 use Rattle.reductions.proofs.Founds.{linear_found, linear_positions, linear_stages}
 use Rattle.reductions.proofs.find.find_linear.Goals as goal
 

@@ -1,5 +1,5 @@
 use Rattle.std.proofs.Common.{◌∙◌, ap}
-use Rattle.kernel_laws.specs.Matching.MatchingResults.{set_line}
+use Rattle.matching_laws.specs.MatchingResults.{set_line}
 use Rattle.reductions.proofs.Founds.{matching_found}
 use Rattle.reductions.proofs.find.find_matching.Goals as goal
 

@@ -1,5 +1,5 @@
 use Rattle.std.proofs.Common.{subst, List, ℤ}
-use Rattle.kernel_laws.specs.Pure.PureResults.{IsSetLine}
+use Rattle.pure_laws.specs.PureResults.{IsSetLine}
 use Rattle.reductions.proofs.Founds.{pure_found}
 use Rattle.reductions.proofs.find.find_pure.Goals as goal
 

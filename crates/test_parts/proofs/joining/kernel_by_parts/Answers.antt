@@ -2,7 +2,7 @@ use Rattle.std.proofs.Common.{ℕ, List, sym, subst}
 use Rattle.std.proofs.lemmas.Result.{IfOk-weaker}
 use Rattle.lk_model.specs.Formulas.Formula.{positions_of}
 use Rattle.lk_model.specs.declared.result.MatchingResult.{MatchingResult}
-use Rattle.kernel_laws.specs.Matching.MatchingResults.{IsMatchingResult}
+use Rattle.matching_laws.specs.MatchingResults.{IsMatchingResult}
 use Rattle.autarky_compose.specs.JoinedMatching.{AreMatchingResults, AreJoined}
 use Rattle.autarky_compose.proofs.JoinedLaws.{joined_matching_law}
 use Rattle.test_parts.proofs.joining.kernel_by_parts.Goals as goal

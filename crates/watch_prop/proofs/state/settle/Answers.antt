@@ -1,10 +1,14 @@
-use Rattle.std.proofs.Common.{◌∙◌, ℤ, refl, sym, ap, subst, set}
+use Rattle.std.proofs.Common.{◌≡◌, ◌∙◌, ℤ, List, true, refl, sym, ap, subst, set, arith}
+use Rattle.std.specs.List.{list_all}
+use Rattle.lk_model.specs.Formulas.Literal.{is_literal}
+use Rattle.lk_model.proofs.Literals.{clause_literals}
 use Rattle.watch_prop.specs.declared.state.State.{State}
 use Rattle.watch_prop.specs.declared.state.Settled.TheVariants.{Moves}
 use Rattle.watch_prop.specs.States.{Leads, Settles}
-use Rattle.watch_prop.specs.Linked.{moved_rows}
-use Rattle.watch_prop.proofs.Demands.{Called, forced, may_be_forced, moves}
+use Rattle.watch_prop.specs.Linked.{moved_rows, clause_at_place}
+use Rattle.watch_prop.proofs.Demands.{Called, clause_of, forced, may_be_forced, moves}
 use Rattle.watch_prop.proofs.Linking.{rank_within, room_to_move}
+use Rattle.watch_prop.proofs.States.{stays_leads}
 use Rattle.watch_prop.proofs.Answering.{reblocked_leads, reblocked_settles, other_is_literal, other_has, blocker_literal, asked, move_leads, move_settles, demands_truth, stays_settled}
 use Rattle.watch_prop.proofs.state.settle.Goals as goal
 
@@ -143,3 +147,52 @@ returns-then-is_true-2-clause-settles c =
       waiting = refl;
       keeps = record { satisfied = refl; head = refl; marks = refl };
     })
+
+pub returns-then-is_true-clause-leads : goal.returns-then-is_true-clause-leads
+returns-then-is_true-clause-leads c = stays_leads c.args.clauses.now c.args.trail.now c.args.state.now c.requires.state
+
+pub other-other-requires : goal.other-other-requires
+other-other-requires c = omega (arith, c.requires.place, c.requires.state.known.linked.places)
+
+pub block-requires-clause-within : goal.block-requires-clause-within
+block-requires-clause-within c = c.requires.within
+
+pub lits-lits-requires : goal.lits-lits-requires
+lits-lits-requires c = c.requires.place
+
+pub demand_of-requires-clause-lits : goal.demand_of-requires-clause-lits
+demand_of-requires-clause-lits c =
+    let clause = clause_of _ _ _ _ c.requires.state c.requires.place in
+    subst (λ (ls : List ℤ). list_all (is_literal c.args.trail.now.vars) ls ≡ true) (sym c.lits-lits.ensures)
+    (clause_literals c.args.trail.now.vars (clause_at_place c.args.clauses.now c.args.place).lits clause)
+
+pub index_mut-requires : goal.index_mut-requires
+index_mut-requires c = omega (arith, c.requires.place, c.requires.state.known.linked.places)
+
+pub shift-requires-clause-from : goal.shift-requires-clause-from
+shift-requires-clause-from c = rank_within _ _ _ _ _ _ c.requires.state.known.linked c.requires.literal
+
+pub shift-requires-clause-apart : goal.shift-requires-clause-apart
+shift-requires-clause-apart c =
+    let r = c.requires in
+    let called : Called c.args.clauses.now c.args.trail.now c.args.state.now c.args.place c.args.l c.args.at =
+    record { state = r.state; literal = r.literal; within = r.within; stands = r.stands; at_head = r.head; row = r.row } in
+    let demand = asked _ _ _ _ _ _ _ _ _ _ called c.lits-lits.ensures c.other-other.ensures c.demand_of.ensures c.in-Move.is in
+    λ same. (moves _ _ _ _ _ _ c.in-Move.found _ called demand).not_it (sym same)
+
+pub shift-requires-clause-within : goal.shift-requires-clause-within
+shift-requires-clause-within c = c.requires.within
+
+pub number-requires : goal.number-requires
+number-requires c = c.requires.place
+
+pub returns-in-Conflict-clause-leads : goal.returns-in-Conflict-clause-leads
+returns-in-Conflict-clause-leads c = stays_leads c.args.clauses.now c.args.trail.now c.args.state.now c.requires.state
+
+pub returns-in-Conflict-clause-settles : goal.returns-in-Conflict-clause-settles
+returns-in-Conflict-clause-settles c =
+    let r = c.requires in
+    let called : Called c.args.clauses.now c.args.trail.now c.args.state.now c.args.place c.args.l c.args.at =
+    record { state = r.state; literal = r.literal; within = r.within; stands = r.stands; at_head = r.head; row = r.row } in
+    let demand = asked _ _ _ _ _ _ _ _ _ _ called c.lits-lits.ensures c.other-other.ensures c.demand_of.ensures c.in-Conflict.is in
+    record { waiting = refl; satisfied = refl; head = refl; others = λ p n. refl; settled = demand; list = tt }

@@ -1,5 +1,5 @@
 use Rattle.std.proofs.Common.{◌≡◌, ◌++◌, map}
-use Rattle.kernel_laws.specs.General.JoinLaw.{moved, renumbered_round}
+use Rattle.general_laws.specs.JoinLaw.{moved, renumbered_round}
 use Rattle.autarky_compose.proofs.rounds.Shift.append.Given as goal
 
 abbrev pub invariant-loop-round : goal.invariant-loop-round

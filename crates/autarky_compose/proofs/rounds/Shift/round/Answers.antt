@@ -2,7 +2,7 @@ use Rattle.std.proofs.Common.{◌≡◌, ◌+◌, ◌++◌, ◌∙◌, List, sym
 use Rattle.std.proofs.lemmas.List.{get_or_default}
 use Rattle.std.proofs.lemmas.List.Edits.{map_over_more}
 use Rattle.lk_model.specs.declared.document.Step.{Step}
-use Rattle.kernel_laws.specs.General.JoinLaw.{moved, renumbered}
+use Rattle.general_laws.specs.JoinLaw.{moved, renumbered}
 use Rattle.autarky_compose.proofs.rounds.Shift.round.Goals as goal
 
 pub loop-step-preserved : goal.loop-step-preserved

@@ -1,5 +1,5 @@
 use Rattle.std.proofs.Common.{◌≡◌, ◌++◌, map, take, drop}
-use Rattle.kernel_laws.specs.General.JoinLaw.{moved, renumbered}
+use Rattle.general_laws.specs.JoinLaw.{moved, renumbered}
 use Rattle.autarky_compose.proofs.rounds.Shift.round.Given as goal
 
 abbrev pub invariant-loop-step : goal.invariant-loop-step

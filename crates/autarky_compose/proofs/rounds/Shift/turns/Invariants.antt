@@ -1,5 +1,5 @@
 use Rattle.std.proofs.Common.{◌≡◌, ◌++◌, map, take, drop}
-use Rattle.kernel_laws.specs.General.JoinLaw.{moved, renumbered_turn}
+use Rattle.general_laws.specs.JoinLaw.{moved, renumbered_turn}
 use Rattle.autarky_compose.proofs.rounds.Shift.turns.Given as goal
 
 abbrev pub invariant-loop-turn : goal.invariant-loop-turn

@@ -19,7 +19,7 @@ loop-part-preserved g c =
           ∙ c.loop-part.invariant.2,
     )
 
--- all parts have the list
+-- all pieces have the list
 all_parts : {T : Type 0} (parts given : List (Bor (List T))) (rest items : List T) → given ≡ parts → length rest ≡ 0 → joined parts ++ rest ≡ items → joined given ≡ items
 all_parts parts given rest items same none e = ap joined same ∙ sym (ap (λ (xs : List _). joined parts ++ xs) (nil_from_length rest none) ∙ append-nil (joined parts)) ∙ e
 

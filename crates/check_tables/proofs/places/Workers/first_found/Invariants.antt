@@ -3,7 +3,7 @@ use Rattle.std.specs.Slice.Iter.{chunks_rest}
 use Rattle.check_tables.specs.Places.{joined}
 use Rattle.check_tables.proofs.places.Workers.first_found.Given as goal
 
--- the parts so far and the items that are left are the list
+-- the pieces so far and the items that are left are the list
 abbrev pub invariant-loop-part : goal.invariant-loop-part
 invariant-loop-part g l =
     (goal.iterator-loop-part g).can_next l.part-iterator

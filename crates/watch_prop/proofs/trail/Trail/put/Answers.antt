@@ -1,4 +1,5 @@
 use Rattle.std.proofs.Common.{◌≡◌, ◌∙◌, true, ◌+◌, ◌*◌, ◌-◌, ◌<◌, ◌++◌, ◌∷◌, [], List, Some, None, length, length-set, length-append, refl, ℕ, get_or, set, ap, subst, sym, arith, IsTrue}
+use Rattle.std.proofs.lemmas.Grind.{common_steps}
 use Rattle.lk_model.specs.Formulas.Literal.{variable}
 use Rattle.watch_prop.specs.declared.entry.Entry.{Entry}
 use Rattle.watch_prop.specs.HeldTrail.{seen, AreValues, place_of}
@@ -40,3 +41,45 @@ invariant_of-self c =
       entries_room = omega (arith, n, inv.entries_room, c.push_reserved.ensures.capacity);
       lits_room = omega (arith, n, inv.lits_room, c.push_reserved-2.ensures.capacity);
     }
+
+pub overflow_cast-place : goal.overflow_cast-place
+overflow_cast-place c =
+    let e : Entry = record { lit = c.args.lit; level = c.args.level; reason = c.args.reason } in
+    let p : Path = seen c.self.inside in
+    let f = comes p.vars p.entries e (subst (λ (q : Path). IsTrue (may_come q.vars q.entries e)) (sym c.self.view_is) c.requires) in
+    grind (arith, common_steps, f.high, c.self.invariant.vars)
+
+pub overflow_sub-place : goal.overflow_sub-place
+overflow_sub-place c =
+    let e : Entry = record { lit = c.args.lit; level = c.args.level; reason = c.args.reason } in
+    let p : Path = seen c.self.inside in
+    let f = comes p.vars p.entries e (subst (λ (q : Path). IsTrue (may_come q.vars q.entries e)) (sym c.self.view_is) c.requires) in
+    omega (arith, f.low, c.var.ensures.value)
+
+pub index_mut-requires : goal.index_mut-requires
+index_mut-requires c =
+    let e : Entry = record { lit = c.args.lit; level = c.args.level; reason = c.args.reason } in
+    let p : Path = seen c.self.inside in
+    let f = comes p.vars p.entries e (subst (λ (q : Path). IsTrue (may_come q.vars q.entries e)) (sym c.self.view_is) c.requires) in
+    omega (arith, f.low, f.high, c.var.ensures.value)
+
+pub index_mut-requires-2 : goal.index_mut-requires-2
+index_mut-requires-2 c =
+    let e : Entry = record { lit = c.args.lit; level = c.args.level; reason = c.args.reason } in
+    let p : Path = seen c.self.inside in
+    let f = comes p.vars p.entries e (subst (λ (q : Path). IsTrue (may_come q.vars q.entries e)) (sym c.self.view_is) c.requires) in
+    grind (arith, common_steps, f.low, f.high, c.self.invariant.places)
+
+pub push_reserved-requires : goal.push_reserved-requires
+push_reserved-requires c =
+    let e : Entry = record { lit = c.args.lit; level = c.args.level; reason = c.args.reason } in
+    let p : Path = seen c.self.inside in
+    let f = comes p.vars p.entries e (subst (λ (q : Path). IsTrue (may_come q.vars q.entries e)) (sym c.self.view_is) c.requires) in
+    grind (arith, common_steps, f.low, f.high, c.self.invariant.unset, c.self.invariant.entries_room)
+
+pub push_reserved-requires-2 : goal.push_reserved-requires-2
+push_reserved-requires-2 c =
+    let e : Entry = record { lit = c.args.lit; level = c.args.level; reason = c.args.reason } in
+    let p : Path = seen c.self.inside in
+    let f = comes p.vars p.entries e (subst (λ (q : Path). IsTrue (may_come q.vars q.entries e)) (sym c.self.view_is) c.requires) in
+    grind (arith, common_steps, f.low, f.high, c.self.invariant.unset, c.self.invariant.lits_room)

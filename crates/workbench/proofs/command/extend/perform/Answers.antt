@@ -7,7 +7,7 @@ use Rattle.command_words.proofs.Texts.{text_at}
 use Rattle.command_inputs.specs.Inputs.{nothing_known}
 use Rattle.command_inputs.proofs.ModelReads.{stops_before, stops_behind, model_behind}
 use Rattle.command_inputs.proofs.Streams.{Cause-then}
-use Rattle.command_endings.specs.Commands.Extending.{outcome_of, Tells}
+use Rattle.command_endings.specs.Commands.Extend.{outcome_of, Tells}
 use Rattle.command_endings.proofs.Extensions.{outcome_result}
 use Rattle.workbench.proofs.Names.{three_names}
 use Rattle.workbench.proofs.Performing.{stopped, no_memory, performed}

@@ -1,0 +1,14 @@
+pub mod OneRounds
+pub mod CoreLineForms
+pub mod CoreDraftForms
+pub mod CoreSteps
+pub mod CoreEnds
+pub mod CoreRuns
+pub mod CoreReads
+pub mod WrittenCores
+pub mod PrintedAnswers
+pub mod DraftSteps
+pub mod DraftEnds
+pub mod ReadWords
+pub mod AnswerRuns
+pub mod AnswerReads

@@ -1,0 +1,4 @@
+pub mod ReadAnswers
+pub mod AnswerTextLaw
+pub mod CoreDrafts
+pub mod Drafts

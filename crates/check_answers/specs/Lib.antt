@@ -1,0 +1,2 @@
+pub mod AnswerChecks
+pub mod AnswerLaw

@@ -1,0 +1,15 @@
+use Rattle.std.proofs.Common.{arith}
+use Rattle.std.proofs.lemmas.Grind.{common_steps}
+use Rattle.command_endings.proofs.deficiency_command.put_owns.Goals as goal
+
+pub loop-own-preserved : goal.loop-own-preserved
+loop-own-preserved c = grind (arith, common_steps)
+
+pub loop-own-init : goal.loop-own-init
+loop-own-init c = grind (arith, common_steps)
+
+pub loop-own-smaller : goal.loop-own-smaller
+loop-own-smaller c = grind (arith, common_steps)
+
+pub returns : goal.returns
+returns c = grind (arith, common_steps)

@@ -1,8 +1,0 @@
-use Rattle.std.proofs.Common.{◌≡◌, take, None}
-use Rattle.std.specs.Prelude.{find}
-use Rattle.core_check.proofs.CoreClauses.{is_changed}
-use Rattle.core_check.proofs.clauses.changed_clause.Given as goal
-
--- none of the positions so far has another clause line
-abbrev pub invariant-loop-i : goal.invariant-loop-i
-invariant-loop-i l = find (is_changed l.f l.a) (take l.i l.a.core) ≡ None

@@ -1,5 +1,0 @@
-use Rattle.core_text.proofs.WrittenCores.{last_taken}
-use Rattle.core_text.proofs.draft.last_round.Goals as goal
-
-pub returns : goal.returns
-returns c = last_taken c.args.rounds c.pop.new.self c.pop.result c.pop.ensures.items c.pop.ensures.some

@@ -1,5 +1,0 @@
--- The class matching.
-pub mod MatchingLaws
-pub mod SetLines
-pub mod MatchingResults
-pub mod MatchingReductions

@@ -1,9 +1,0 @@
--- The class pure.
-pub mod PureAutarkies
-pub mod BothSigns
-pub mod PureLiterals
-pub mod Runs
-pub mod Orders
-pub mod Pairs
-pub mod PureLaws
-pub mod PureResults

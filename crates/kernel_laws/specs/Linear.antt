@@ -1,2 +1,0 @@
--- The class linear.
-pub mod LinearLaw

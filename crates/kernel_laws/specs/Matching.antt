@@ -1,3 +1,0 @@
--- The class matching.
-pub mod MatchingLaw
-pub mod MatchingResults

@@ -1,3 +1,0 @@
--- The class pure.
-pub mod PureLaw
-pub mod PureResults

@@ -1,0 +1,4 @@
+pub mod MatchingLaws
+pub mod SetLines
+pub mod MatchingResults
+pub mod MatchingReductions

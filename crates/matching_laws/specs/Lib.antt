@@ -1,0 +1,2 @@
+pub mod MatchingLaw
+pub mod MatchingResults

@@ -1,2 +1,0 @@
-pub mod CopiedMatchings
-pub mod RenamedMatchings

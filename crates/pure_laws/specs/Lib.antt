@@ -1,0 +1,2 @@
+pub mod PureLaw
+pub mod PureResults

@@ -1,3 +1,0 @@
-pub mod StepForms
-pub mod ReachedSteps
-pub mod UsedLaws
