@@ -1,12 +1,14 @@
 #!/usr/bin/env python3
 """Small inputs that might take long.
 
-    bench/traps.py LEANK [--only WORD] [--growth]
+    bench/traps.py LEANK [--only WORD] [--growth | --bounds]
 
 LEANK is the built program (`dist/leank`). Each input has at most 2 MB. For each
 command that takes it stand the processor seconds, the peak of memory in MB and the status; what takes more than 3 seconds
-(5 for forged documents), or gets no answer in 60, is marked. With --growth each is run at a sixteenth and at a quarter of
+(5 for forged documents) or 300 MB, or gets no answer in 60, is marked. With --growth each is run at a sixteenth and at a quarter of
 its size instead, under valgrind, which counts instructions (Debian: valgrind); a growth of more than 5 times is marked.
+With --bounds only those runs are made that have a bound of their own: the most instructions for each byte of the formula, or
+the most bytes of memory for each byte of what is written; what is past its bound is marked.
 """
 import os
 import random
@@ -16,7 +18,7 @@ import subprocess
 import sys
 import tempfile
 
-LIMIT, FORGED_LIMIT, TIME_OUT, MOST_GROWTH = 3.0, 5.0, 60, 5.0
+LIMIT, FORGED_LIMIT, TIME_OUT, MOST_GROWTH, MOST_MEMORY = 3.0, 5.0, 60, 5.0, 300
 
 
 def cnf(n, clauses):
@@ -114,6 +116,18 @@ def many_parts(n):
     return cnf(2 * n, [[s * a, t * (a + 1)] for a in range(1, 2 * n, 2) for s, t in ((1, 1), (1, -1), (-1, 1))])
 
 
+def easy_part_behind(n):
+    """Pigeons in n holes, and behind them the square of a pair of variables."""
+    head, rows = pigeons(n).split("\n", 1)
+    variables, clauses = map(int, head.split()[2:])
+    square = "".join(f"{s * (variables + 1)} {t * (variables + 2)} 0\n" for s in (1, -1) for t in (1, -1))
+    return f"p cnf {variables + 2} {clauses + 4}\n" + rows + square
+
+
+def implications_refuted(n):
+    return cnf(n, [[1]] + [[-i, i + 1] for i in range(1, n)] + [[-n]])
+
+
 def parity_chain(n):
     rows = []
     for i in range(1, n - 1):
@@ -152,6 +166,13 @@ FORMULA_COMMANDS = [
 ]
 
 
+# A formula, its size, a command, the most instructions for each byte of it, the most bytes of memory for each byte written
+BOUNDS = [
+    (many_parts, 40000, ("mus",), 4000, None), (easy_part_behind, 14, ("mus",), 1000000, None),
+    (implications_refuted, 4200, ("mus",), None, 2.5), (implications_refuted, 6000, ("mus",), None, 2.5),
+]
+
+
 # DOCUMENTS, by a size: a formula and a text for `check`
 
 
@@ -165,6 +186,39 @@ def unit_of_many_shares(n):
     duals = "".join(f"c dual {p} 1\n" for p in range(1, m + 1))
     body = "".join(" ".join(map(str, r)) + " 0\n" for r in rows)
     return cnf(9, rows), head + duals + f"c unit 1 1 {shares} 0\np cnf 9 {m}\n" + body
+
+
+def linear_document(n, rows, units):
+    """A formula over n variables of which all clauses are kept, with duals that are all 1."""
+    m = len(rows)
+    kept = " ".join(str(p) for p in range(1, m + 1))
+    head = f"c leank 1 linear\nc formula {n} {m}\nc keep {kept} 0\nc set 0\n"
+    duals = "".join(f"c dual {p} 1\n" for p in range(1, m + 1))
+    lines = "".join("c unit " + " ".join(map(str, unit)) + " 0\n" for unit in units)
+    return cnf(n, rows), head + duals + lines + cnf(n, rows)
+
+
+def units_over_long_clauses(n):
+    """A right unit for each of n variables, with shares of two clauses of n literals that cancel."""
+    rows = [list(range(1, n + 1)), list(range(-1, -n - 1, -1))] + [[s * v] for v in range(1, n + 1) for s in (1, -1)]
+    return linear_document(n, rows, [(v, 1, 1, 1, 2, 1, 2 * v + 1, 1) for v in range(1, n + 1)])
+
+
+def few_units_far_apart(n):
+    """64 right units, of variables that lie far apart among n."""
+    variables = [1 + k * (n // 64) for k in range(64)]
+    rows = [[s * v] for v in variables for s in (1, -1)]
+    return linear_document(n, rows, [(v, 1, 2 * k + 1, 1) for k, v in enumerate(variables)])
+
+
+def learned_among_equal_clauses(n):
+    """n learned clauses, and 3n equal ones that share a literal with each of them."""
+    rows, m, variables = [[1, 2, 3]] * (3 * n), 5 * n, 3 + 2 * n
+    for v in range(4, variables, 2):
+        rows += [[1, v, v + 1], [1, v, -v - 1]]
+    steps = [(m + 1 + k, 1, 4 + 2 * k, 0, 3 * n + 2 * k + 1, 5 + 2 * k, 3 * n + 2 * k + 2) for k in range(n)]
+    head = f"c leank 1 unfinished\nc formula {variables} {m}\nc learned {n}\nc round\n"
+    return cnf(variables, rows), head + "".join("c step " + " ".join(map(str, s)) + " 0\n" for s in steps) + cnf(variables, rows)
 
 
 def long_clause_joined_often(n):
@@ -193,8 +247,49 @@ def comments_alone(n):
     return cnf(1, [[1]]), "c a line that says nothing\n" * n
 
 
-DOCUMENTS = [(unit_of_many_shares, 25000), (long_clause_joined_often, 30000), (many_steps_of_one_clause, 60000),
+DOCUMENTS = [(unit_of_many_shares, 25000), (units_over_long_clauses, 10000), (few_units_far_apart, 1000000),
+             (learned_among_equal_clauses, 20000), (long_clause_joined_often, 30000), (many_steps_of_one_clause, 60000),
              (wrong_in_line_two, 70000), (comments_alone, 70000)]
+DOCUMENT_OPTIONS = [[], ["--workers", "64"]]
+
+
+# EDITS, by a size: a formula and a text for `edits`, whose kernels stay small
+
+
+def added_over_many_variables(n):
+    """No clause over 1,000,000 variables, and n that are added, each with a variable of its own."""
+    return cnf(1000000, []), "".join(f"a {i} {i + 1} 0\n" for i in range(1, n + 1))
+
+
+def path_taken_anew(n):
+    """A path of clauses, in which each clause that is added takes a variable from the first one or the last one on."""
+    edits = "".join(f"a {n if i % 2 else 1} 0\nd {n + i}\n" for i in range(n))
+    return cnf(n, [[i, i + 1] for i in range(1, n)]), edits
+
+
+def drawn_edits(n):
+    """A formula of n clauses of three literals over 2n variables; n edits remove a clause or add one."""
+    draw = random.Random(1)
+    clause = lambda: [v if draw.random() < 0.5 else -v for v in draw.sample(range(1, 2 * n + 1), 3)]
+    rows, live, held, edits = [clause() for _ in range(n)], list(range(1, n + 1)), n, []
+    for _ in range(n):
+        if draw.random() < 0.5:
+            held += 1
+            live.append(held)
+            edits.append("a " + " ".join(map(str, clause())) + " 0\n")
+        else:
+            place = draw.randrange(len(live))
+            live[place], live[-1] = live[-1], live[place]
+            edits.append(f"d {live.pop()}\n")
+    return cnf(2 * n, rows), "".join(edits)
+
+
+def removed_in_order(n):
+    """Clauses that share no variable are removed, the first one first."""
+    return cnf(n, [[i] for i in range(1, n + 1)]), "".join(f"d {i}\n" for i in range(1, n + 1))
+
+
+EDITS = [(added_over_many_variables, 100000), (path_taken_anew, 8000), (drawn_edits, 40000), (removed_in_order, 100000)]
 
 
 # RUNS
@@ -235,9 +330,10 @@ def put(folder, name, text):
 def row(name, words, folder, limit):
     seconds, peak, status = run(words, folder)
     late = status is None or seconds > limit
+    large = peak > MOST_MEMORY
     text = f"{name:28} {' '.join(words[1:]):40} {seconds:7.2f} s {peak:6} MB  {'none' if status is None else status:>4}"
-    print(text + ("  LATE" if late else ""), flush=True)
-    return late
+    print(text + ("  LATE" if late else "") + ("  LARGE" if large else ""), flush=True)
+    return late or large
 
 
 def growth_row(name, words, small, large):
@@ -287,13 +383,39 @@ def formula_rows(program, make, size, judge, folders):
     return marked
 
 
+def bound_row(program, make, size, command, most_instructions, most_memory, folder):
+    """Whether a run is past its bound."""
+    text = make(size)
+    put(folder, "f", text)
+    words = [program] + list(command) + ["f"]
+    if most_instructions:
+        count = instructions(words, folder)
+        ratio, most = (count or float("inf")) / len(text), most_instructions
+    else:
+        _, peak, _ = run(words, folder)
+        ratio, most = peak * 2**20 / os.path.getsize(os.path.join(folder, "out")), most_memory
+    past = ratio > most
+    print(f"{make.__name__:28} {size:6} {' '.join(command):10} {ratio:10.2f} of {most}{'  PAST' if past else ''}", flush=True)
+    return past
+
+
 def document_rows(program, make, size, judge, folders):
     """The check of a document."""
     for folder, part in folders:
         formula, text = make(size // part)
         put(folder, "f", formula)
         put(folder, "d", text)
-    return judge(make.__name__, [program, "check", "f", "d"], FORGED_LIMIT)
+    options = DOCUMENT_OPTIONS if len(folders) == 1 else DOCUMENT_OPTIONS[:1]
+    return sum(judge(make.__name__, [program, "check", "f", "d"] + it, FORGED_LIMIT) for it in options)
+
+
+def edits_rows(program, make, size, judge, folders):
+    """The kernels after each of some edits."""
+    for folder, part in folders:
+        formula, text = make(size // part)
+        put(folder, "f", formula)
+        put(folder, "e", text)
+    return judge(make.__name__, [program, "edits", "f", "e"], LIMIT)
 
 
 def main():
@@ -309,12 +431,20 @@ def main():
         def judge(name, words, limit):
             return growth_row(name, words, small, large) if growth else row(name, words, large, limit)
 
+        if "--bounds" in sys.argv:
+            marked = sum(bound_row(program, *bound, large) for bound in BOUNDS if only in bound[0].__name__)
+            print(f"{marked} past their bounds")
+            sys.exit(1 if marked else 0)
+
         for make, size in FORMULAS:
             if only in make.__name__:
                 marked += formula_rows(program, make, size, judge, folders)
         for make, size in DOCUMENTS:
             if only in make.__name__:
                 marked += document_rows(program, make, size, judge, folders)
+        for make, size in EDITS:
+            if only in make.__name__:
+                marked += edits_rows(program, make, size, judge, folders)
     print(f"{marked} marked")
     sys.exit(1 if marked else 0)
 

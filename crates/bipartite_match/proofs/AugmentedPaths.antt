@@ -11,7 +11,7 @@ use Rattle.bipartite_match.specs.declared.visits.Visit.{Visit}
 use Rattle.bipartite_match.specs.Matchings.{IsMatching, IsUnmatched, pair_count}
 use Rattle.bipartite_match.specs.Ways.{IsStart}
 use Rattle.bipartite_match.specs.Covers.{IsCoverBut, IsAugmented}
-use Rattle.bipartite_match.specs.Visiting.{visit_at, IsRoot, AreVisits, EndsIn, CanSearch, with_own}
+use Rattle.bipartite_match.specs.Visiting.{visit_at, IsRoot, AreVisits, EndsIn, CanVisit, CanSearch, with_own}
 use Rattle.bipartite_match.proofs.Numbers.{rising_once}
 use Rattle.bipartite_match.proofs.Owning.{Owns, owns, some_position, index_within}
 use Rattle.bipartite_match.proofs.Restoring.{IsClosedBut, IsStep, closed_first, closed_next, closed_last}
@@ -20,6 +20,9 @@ use Rattle.bipartite_match.proofs.Restoring.{IsClosedBut, IsStep, closed_first, 
 pub root_unmatched : (F : Cnf) (part : List ℕ) (m : Matching) (from : Start) (p : ℕ) → IsStart F part m from → IsRoot part m from p → IsUnmatched part m p
 root_unmatched F part m (Clause q) p s r = subst (λ x. IsUnmatched part m x) (sym r) s
 root_unmatched F part m (Variable v) p s r = r
+
+pub can_visit : (F : Cnf) (part : List ℕ) (m : Matching) (from : Start) → CanSearch F part m from → CanVisit F part m from
+can_visit F part m from c = record { part_rises = c.part_rises; matching = c.matching; bare = λ p r. root_unmatched F part m from p c.start r }
 
 -- Back along the path: the clause at the place takes v, which is free now.
 pub record Going (F : Cnf) (part : List ℕ) (m : Matching) (from : Start) (q : List Visit) (now : Matching) (v place : ℕ) : Type 0 where

@@ -13,7 +13,7 @@ use Rattle.bipartite_match.specs.declared.visits.Visit.{Visit}
 use Rattle.bipartite_match.specs.Matchings.{IsMaximum, IsUnmatched}
 use Rattle.bipartite_match.specs.Covers.{HasCover, IsAugmented}
 use Rattle.bipartite_match.specs.Visiting.{visit_at, Seen, goal_of, root_visit, met, AreVisits, EndsIn, HasNoEnd, CanSearch, with_own}
-use Rattle.bipartite_match.proofs.AugmentedPaths.{AugmentState, augment_goes, augment_falls, augment_starts, steps_left}
+use Rattle.bipartite_match.proofs.AugmentedPaths.{AugmentState, can_visit, augment_goes, augment_falls, augment_starts, steps_left}
 use Rattle.bipartite_match.proofs.Restoring.{positions_visited, visited_among, among_visited, visited_within}
 use Rattle.bipartite_match.proofs.Roots.{AreRoots, one_root, begins}
 use Rattle.bipartite_match.proofs.Seeking.{IsSeeking, visits_fit}
@@ -44,7 +44,7 @@ scan F part m from s place p items (suc left) n c form e a l = at_test (nat_lt n
         → (AfterMeeting F part m from next place p items (n + 1) → next.end ≡ 0 → Ends F part m from ⊎ Scanned F part m from place p items)
         → Ends F part m from ⊎ Scanned F part m from place p items
     at_test true t more =
-        let r = next_meeting F part m from s place p (variable (get_or items n (pos 0))) items n a c form e (leb-true (suc n) (length items) t) refl in
+        let r = next_meeting F part m from s place p (variable (get_or items n (pos 0))) items n a (can_visit F part m from c) form e (leb-true (suc n) (length items) t) refl in
         elim (cases_eq next.end 0) [
           | inl z ↦ more r z
           | inr y ↦ inl (next.queue, place, next.end, r.stops y)
@@ -78,7 +78,7 @@ sought F part m from q c r form =
 
 -- THE EXCHANGE WITHOUT CODE
 
-augment_all : (F : Cnf) (part : List ℕ) (m : Matching) (from : Start) (q : List Visit) (now : Matching) (v place root fuel : ℕ) → IsTrue (is_formula F) → CanSearch F part m from
+pub augment_all : (F : Cnf) (part : List ℕ) (m : Matching) (from : Start) (q : List Visit) (now : Matching) (v place root fuel : ℕ) → IsTrue (is_formula F) → CanSearch F part m from
     → AreVisits F part m from q → AugmentState F part m from q now v place root → steps_left v place < fuel → (after : Matching) × (first : ℕ) × IsAugmented F part from m after first
 augment_all F part m from q now v place root zero form c a s f = absurd (omega (arith, f))
 augment_all F part m from q now v place root (suc fuel) form c a s f = elim (cases_eq v 0) [

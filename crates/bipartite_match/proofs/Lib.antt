@@ -20,3 +20,5 @@ pub mod Sought
 pub mod Koenig
 pub mod Covering
 pub mod Used
+pub mod Deduped
+pub mod Visited

@@ -157,6 +157,10 @@ closed_last F part m from q now after i v place R t z some more c h = record {
 pub positions_visited : List Visit → List ℕ
 positions_visited q = map (λ (x : Visit). x.pos) q
 
+pub positions_are : (q : List Visit) → positions_visited q ≡ map (λ (x : Visit). x.pos) q
+unfolding positions_visited
+positions_are q = refl
+
 pub visited_among : (q : List Visit) (k : ℕ) → k < length q → among (positions_visited q) (visit_at q k).pos ≡ true
 unfolding positions_visited
 visited_among [] k l = absurd (omega (arith, l))

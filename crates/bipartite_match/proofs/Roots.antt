@@ -12,7 +12,7 @@ use Rattle.bipartite_match.specs.declared.augmenting.Start.TheVariants.{Clause, 
 use Rattle.bipartite_match.specs.declared.matching.Matching.{Matching}
 use Rattle.bipartite_match.specs.declared.visits.Visit.{Visit}
 use Rattle.bipartite_match.specs.Matchings.{IsUnmatched, IsReady}
-use Rattle.bipartite_match.specs.Visiting.{visit_at, Seen, IsRoot, root_visit, roots_of, CanSearch}
+use Rattle.bipartite_match.specs.Visiting.{visit_at, Seen, IsRoot, root_visit, roots_of, CanVisit}
 use Rattle.bipartite_match.proofs.Numbers.{rising_once}
 use Rattle.bipartite_match.proofs.Seeking.{IsVisited, IsSeeking}
 
@@ -60,8 +60,8 @@ all_roots F part m v h = record {
     bare : (k : ℕ) → k < length (map root_visit m.unmatched) → IsUnmatched part m (visit_at (map root_visit m.unmatched) k).pos
     bare k l = subst (λ (x : Visit). IsUnmatched part m x.pos) (sym (at k)) ((h.unmatched (get_or m.unmatched k 0)).0 (among_at m.unmatched k (fits k l)))
 
-pub are_roots : (F : Cnf) (part : List ℕ) (m : Matching) (from : Start) → CanSearch F part m from → IsReady F part m → AreRoots part m from (roots_of m.unmatched from)
-are_roots F part m (Clause p) c h = one_root part m p c.start
+pub are_roots : (F : Cnf) (part : List ℕ) (m : Matching) (from : Start) → CanVisit F part m from → IsReady F part m → AreRoots part m from (roots_of m.unmatched from)
+are_roots F part m (Clause p) c h = one_root part m p (c.bare p refl)
 are_roots F part m (Variable v) c h = all_roots F part m v h
 
 pub begins : (F : Cnf) (part : List ℕ) (m : Matching) (from : Start) (s : Seen) → AreRoots part m from s.queue → s.seen ≡ replicate F.vars false → s.end ≡ 0

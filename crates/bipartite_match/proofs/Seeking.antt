@@ -17,10 +17,9 @@ use Rattle.lk_model.proofs.VariableLists.{is_in_with}
 use Rattle.bipartite_match.specs.declared.augmenting.Start.{Start}
 use Rattle.bipartite_match.specs.declared.matching.Matching.{Matching}
 use Rattle.bipartite_match.specs.declared.visits.Visit.{Visit}
-use Rattle.bipartite_match.specs.Visiting.{no_visit, visit_at, Seen, IsRoot, goal_of, met, AreMarks, AreVisits, EndsIn, CanSearch}
+use Rattle.bipartite_match.specs.Visiting.{no_visit, visit_at, Seen, IsRoot, goal_of, met, AreMarks, AreVisits, EndsIn, CanVisit}
 use Rattle.bipartite_match.proofs.Numbers.{rising_once}
 use Rattle.bipartite_match.proofs.Owning.{index_within}
-use Rattle.bipartite_match.proofs.AugmentedPaths.{root_unmatched}
 use Rattle.bipartite_match.proofs.Marks.{is_some}
 
 -- THE VARIABLES THAT WERE SEEN
@@ -92,11 +91,11 @@ visits_fit F part m from q a =
     below k e = let b = (in_range 0 (length q) k e).1 in omega (arith, b)
 
 -- a variable that was not seen is no visit's
-not_by : (F : Cnf) (part : List ℕ) (m : Matching) (from : Start) (s : Seen) (place v k : ℕ) → CanSearch F part m from → IsSeeking F part m from s place
+not_by : (F : Cnf) (part : List ℕ) (m : Matching) (from : Start) (s : Seen) (place v k : ℕ) → CanVisit F part m from → IsSeeking F part m from s place
     → is_in s.seen v ≡ false → 0 < v → k < length s.queue → get_or m.of_var (v - 1) 0 ≢ 0 → (visit_at s.queue k).pos ≢ get_or m.of_var (v - 1) 0
 not_by F part m from s place v k c h out first inside n e = elim (cases_eq (visit_at s.queue k).by 0) [
   | inl z ↦
-      (let u = root_unmatched F part m from (visit_at s.queue k).pos c.start (h.visits.root k inside z) in
+      (let u = c.bare (visit_at s.queue k).pos (h.visits.root k inside z) in
       let same = rising_once 0 (length F.clauses) part u.index w.0 c.part_rises u.inside here (u.is ∙ e ∙ sym w.1) in
       let f = sym u.none ∙ ap (λ x. get_or m.of_clause x 0) same ∙ w.2 in omega (arith, f))
   | inr y ↦
@@ -123,7 +122,7 @@ pub record IsMet (F : Cnf) (part : List ℕ) (m : Matching) (from : Start) (s ne
   pub goes : next.end ≡ 0 → IsSeeking F part m from next place × IsDoneWith m from next v × ((u : ℕ) → IsDoneWith m from s u → IsDoneWith m from next u)
       × (length s.queue ≤ length next.queue) × ((k : ℕ) → k < length s.queue → visit_at next.queue k ≡ visit_at s.queue k)
 
-met_push : (F : Cnf) (part : List ℕ) (m : Matching) (from : Start) (s : Seen) (place v : ℕ) → CanSearch F part m from → IsSeeking F part m from s place
+met_push : (F : Cnf) (part : List ℕ) (m : Matching) (from : Start) (s : Seen) (place v : ℕ) → CanVisit F part m from → IsSeeking F part m from s place
     → place < length s.queue → IsTrue (mentions (clause_at F (visit_at s.queue place).pos) v) → is_in s.seen v ≡ false
     → 0 < v → v ≤ F.vars → get_or m.of_var (v - 1) 0 ≢ 0
     → IsMet F part m from s (record s { seen = with_variable s.seen v; queue = s.queue ++ record { pos = get_or m.of_var (v - 1) 0; by = v; from = place } ∷ [] }) place v
@@ -244,7 +243,7 @@ met_push F part m from s place v c h inside j out first last n = record {
           ])
     ]
 
-pub is_met : (F : Cnf) (part : List ℕ) (m : Matching) (from : Start) (s : Seen) (place v : ℕ) → IsTrue (is_formula F) → CanSearch F part m from → IsSeeking F part m from s place
+pub is_met : (F : Cnf) (part : List ℕ) (m : Matching) (from : Start) (s : Seen) (place v : ℕ) → IsTrue (is_formula F) → CanVisit F part m from → IsSeeking F part m from s place
     → place < length s.queue → IsTrue (mentions (clause_at F (visit_at s.queue place).pos) v) → IsMet F part m from s (met m.of_var (goal_of from) place v s) place v
 is_met F part m from s place v form c h inside j = at_seen (is_in s.seen v) refl
   where

@@ -9,7 +9,7 @@ use Rattle.bipartite_match.specs.declared.augmenting.Start.TheVariants.{Clause, 
 use Rattle.bipartite_match.specs.declared.matching.Matching.{Matching}
 use Rattle.bipartite_match.specs.declared.visits.Visit.{Visit}
 use Rattle.bipartite_match.specs.Ways.{LeadsTo, here, along, IsWay, HasWay}
-use Rattle.bipartite_match.specs.Visiting.{visit_at, Seen, IsRoot, goal_of, met, AreMarks, AreVisits, EndsIn, HasNoEnd, CanSearch}
+use Rattle.bipartite_match.specs.Visiting.{visit_at, Seen, IsRoot, goal_of, met, AreMarks, AreVisits, EndsIn, HasNoEnd, CanVisit, CanSearch}
 use Rattle.bipartite_match.proofs.Literals.{mentions_at, mentions_index}
 use Rattle.bipartite_match.proofs.Owning.{some_position}
 use Rattle.bipartite_match.proofs.Seeking.{IsVisited, IsDoneWith, IsSeeking, is_met, marked_visited}
@@ -28,7 +28,7 @@ pub record AfterMeeting (F : Cnf) (part : List ℕ) (m : Matching) (from : Start
   pub goes : next.end ≡ 0 → AtVisit F part m from next place p items n
 
 pub next_meeting : (F : Cnf) (part : List ℕ) (m : Matching) (from : Start) (s : Seen) (place p v : ℕ) (items : List ℤ) (n : ℕ) → AtVisit F part m from s place p items n
-    → CanSearch F part m from → IsTrue (is_formula F) → items ≡ clause_at F p → n < length items → v ≡ variable (get_or items n (pos 0))
+    → CanVisit F part m from → IsTrue (is_formula F) → items ≡ clause_at F p → n < length items → v ≡ variable (get_or items n (pos 0))
     → AfterMeeting F part m from (met m.of_var (goal_of from) place v s) place p items (n + 1)
 next_meeting F part m from s place p v items n a c form e h q =
     let j : mentions (clause_at F (visit_at s.queue place).pos) v ≡ true =

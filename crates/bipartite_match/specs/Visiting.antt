@@ -91,7 +91,13 @@ pub record IsSearched (F : Cnf) (part : List ℕ) (m : Matching) (from : Start) 
   pub found : s.end ≢ 0 → EndsIn F part m from s.queue.items s.place s.end
   pub nothing : s.end ≡ 0 → HasNoEnd F part m from s.queue.items
 
--- what a search asks
+-- What going through clauses from the start on asks. Only where a path is looked for must a variable that it begins at be free.
+pub record CanVisit (F : Cnf) (part : List ℕ) (m : Matching) (from : Start) : Type 0 where
+  pub part_rises : IsTrue (are_positions F part)
+  pub matching : IsMatching F part m
+  pub bare : (p : ℕ) → IsRoot part m from p → IsUnmatched part m p
+
+-- what a search for a path asks
 pub record CanSearch (F : Cnf) (part : List ℕ) (m : Matching) (from : Start) : Type 0 where
   pub part_rises : IsTrue (are_positions F part)
   pub matching : IsMatching F part m

@@ -50,13 +50,17 @@ fn take(m: &mut Matching, index: usize, pos: u32, v: u32)
     m.of_var.set(v as usize - 1, pos);
 }
 
-/// The index of a position among positions that rise.
+/// The index of a position among positions that rise. Where all up to it are there, it is read at once.
 pub fn index_of(positions: &[u32], pos: u32) -> usize
     requires rises { (high : ℕ) × (rises_within 0 high positions.now ≡ true) }
     requires there { IsTrue (among positions.now pos) }
     ensures inside { result < length positions.now }
     ensures is { slice_index positions.now result ≡ pos }
 {
+    let first = (pos as usize).saturating_sub(1);
+    if first < positions.len() && positions[first] == pos {
+        return first;
+    }
     match positions.binary_search(&pos) {
         Ok(index) => index,
         Err(index) => index,

@@ -18,4 +18,4 @@ pub use augmenting::{Start, augment};
 pub use laws::cover_law;
 pub use matching::{Matching, maximum};
 pub use steps::Steps;
-pub use walk::{Reached, reach};
+pub use walk::{Reached, reach, reached_positions};

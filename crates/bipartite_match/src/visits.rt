@@ -7,7 +7,7 @@ ghost use Rattle.std.specs.Prelude.{◌≡◌, ◌-◌, ◌<◌, ◌≤◌, [], 
 ghost use Rattle.std.specs.Prelude.{OnOk, OnErr};
 ghost use Rattle.bipartite_match.specs.Matchings.{IsReady};
 ghost use Rattle.bipartite_match.specs.Visiting.{visit_at, seen_of, roots_of, goal_of, met, AreMarks, IsSearched};
-ghost use Rattle.bipartite_match.specs.Visiting.{CanSearch, root_visit};
+ghost use Rattle.bipartite_match.specs.Visiting.{CanVisit, root_visit};
 
 use crate::augmenting::Start;
 use crate::matching::Matching;
@@ -56,7 +56,7 @@ impl Visits {
         m: &mut Matching,
         from: Start,
     ) -> Result<Visits, OutOfMemory>
-        requires can { CanSearch f.now part.now m.old from }
+        requires can { CanVisit f.now part.now m.old from }
         requires ready { IsReady f.now part.now m.old }
         ensures searched { IfOk result (IsSearched f.now part.now m.old from) }
         ensures same { m.new ≡ m.old }
@@ -88,7 +88,7 @@ impl Visits {
         m: &mut Matching,
         from: Start,
     ) -> Result<(), OutOfMemory>
-        requires can { CanSearch f.now _part.now m.old from }
+        requires can { CanVisit f.now _part.now m.old from }
         requires ready { IsReady f.now _part.now m.old }
         requires queue { self.old.queue.items ≡ roots_of m.old.unmatched from }
         requires end { self.old.end ≡ 0 }

@@ -9,13 +9,16 @@
 //! without a search that its clauses are lean for matching autarkies.
 ghost use Rattle.std.specs.Prelude.{◌≡◌, ◌≢◌, ◌+◌, ◌-◌, ◌≤◌, ℕ, length, slice_index, map, IfOk, IsTrue};
 ghost use Rattle.lk_model.specs.Formulas.Lean.{are_positions};
-ghost use Rattle.bipartite_match.specs.Matchings.{IsMaximum};
-ghost use Rattle.bipartite_match.specs.Walks.{IsReached};
+ghost use Rattle.bipartite_match.specs.Matchings.{IsMaximum, IsReady};
+ghost use Rattle.bipartite_match.specs.Walks.{AreReached, IsReached};
+ghost use Rattle.bipartite_match.specs.declared.visits.Visit.{Visit as AVisit};
 ghost use Rattle.bipartite_match.specs.Found.{kept_of, rank_of};
 
+use crate::augmenting::Start;
 use crate::matching::Matching;
 use crate::mates::{Mates, into_positions};
 use crate::search::Search;
+use crate::visits::{Visit, Visits};
 use lk_model::{Formula, List, OutOfMemory};
 use std::alloc::Global;
 
@@ -42,6 +45,35 @@ pub fn reach(alloc: Global, f: &Formula, part: &[u32], m: &Matching) -> Result<R
         rank: List::from_vec(ranks(alloc, &search.layer, &search.escape)?),
         escape: into_positions(part, search.escape),
     })
+}
+
+/// The positions, ascending, that alternating walks from the unmatched clauses of the part reach. It costs what it
+/// visits, and to sort this.
+pub fn reached_positions(
+    alloc: Global,
+    f: &Formula,
+    part: &[u32],
+    m: &mut Matching,
+) -> Result<List<u32>, OutOfMemory>
+    requires positions { IsTrue (are_positions f.now part.now) }
+    requires maximum { IsMaximum f.now part.now m.old }
+    requires ready { IsReady f.now part.now m.old }
+    ensures reached { IfOk result (AreReached f.now part.now m.old) }
+    ensures same { m.new ≡ m.old }
+{
+    // From all unmatched clauses, to any free variable: there is none.
+    let visits = Visits::of(alloc, f, part, m, Start::Variable(0))?;
+    let mut kept = positions_of(alloc, &visits.queue)?;
+    kept.sort_unstable();
+    kept.dedup();
+    Ok(List::from_vec(kept))
+}
+
+// The positions that were visited.
+fn positions_of(alloc: Global, queue: &[Visit]) -> Result<Vec<u32>, OutOfMemory>
+    ensures { IfOk result (λ v. v.items ≡ map (λ (x : AVisit). x.pos) queue.now) }
+{
+    Ok(queue.iter().map(|visit| visit.pos).collect(alloc)?)
 }
 
 // The matching by indices.

@@ -5,32 +5,27 @@ ghost use Rattle.variable_orders.specs.VariableOrders.{IsOrderOver};
 ghost use Rattle.cdcl_core.specs.Decision.{IsDecided};
 ghost use Rattle.cdcl_core.specs.Searching.{IsSearch, GoesOnFrom, decided_by};
 
+use crate::activity::Activity;
 use crate::search::Search;
 use crate::signs::Signs;
-use lk_model::{Crossed, OutOfMemory};
+use lk_model::{Crossed, Decided, OutOfMemory};
 use partial_assign::Partial;
 use refutation_log::Log;
 use std::alloc::Global;
 use variable_orders::ascending;
 use watch_prop::Propagated;
 
-/// What is decided of crossed clauses.
-#[derive(Drop)]
-pub enum Decided {
-    /// A model: it satisfies each clause that is not empty, and sets no blocked variable.
-    Sat(Partial),
-    /// A refutation: its last step states the empty clause.
-    Refuted(Log),
-    /// As many learned clauses as were allowed, where a further conflict stands above level 0.
-    Stopped(Log),
-}
+/// What is decided of crossed clauses: a model, which satisfies each clause that is not empty, and sets no blocked
+/// variable; or a refutation, whose last step states the empty clause; or as many learned clauses as were allowed, where
+/// a further conflict stands above level 0.
+pub type Outcome = Decided<Partial, Log, Log>;
 
 /// Looks for a model of the crossed clauses that are not empty, by learning from conflicts: the least unset variable is
 /// decided, and made true. (No clause says which variable is decided, and with which value; tests do.) The steps of a
 /// log are numbered from `next`, which is above the number of the formula's clauses, and at most `budget` clauses are
 /// learned. Each contains no complementary pair, no crossed clause that is not empty and no earlier learned one. The
 /// error is that there is no memory.
-pub fn decide(alloc: Global, over: &Crossed, next: u64, budget: u64) -> Result<Decided, OutOfMemory>
+pub fn decide(alloc: Global, over: &Crossed, next: u64, budget: u64) -> Result<Outcome, OutOfMemory>
     requires crossed { IsCrossed over.now }
     requires some { 0 < budget }
     requires past { length over.now.formula.now.clauses < next }
@@ -51,7 +46,7 @@ pub fn decide_by(
     signs: &mut Signs,
     next: u64,
     budget: u64,
-) -> Result<Decided, OutOfMemory>
+) -> Result<Outcome, OutOfMemory>
     requires crossed { IsCrossed over.now }
     requires order { IsOrderOver over.now order.items }
     requires past { length over.now.formula.now.clauses < next }
@@ -59,7 +54,8 @@ pub fn decide_by(
     ensures { IfOk result (IsDecided over.now next budget) }
 {
     let mut search = Search::new(alloc, over, order, next)?;
-    let end = run(&mut search, alloc, over, signs, budget);
+    let mut none = Activity::none(alloc);
+    let end = run(&mut search, alloc, over, signs, &mut none, budget);
     let log = search.into_log();
     let end = end?;
     Ok(decided_by(log, end))
@@ -77,11 +73,11 @@ pub(crate) enum End {
 }
 
 /// What is decided by a search that ends so with this log.
-pub(crate) fn decided_by(log: Log, end: End) -> Decided
+pub(crate) fn decided_by(log: Log, end: End) -> Outcome
     ensures { result ≡ decided_by log end }
 {
     match end {
-        End::Model(values) => Decided::Sat(values),
+        End::Model(values) => Decided::Model(values),
         End::Empty => Decided::Refuted(log),
         End::Full => Decided::Stopped(log),
     }
@@ -93,6 +89,7 @@ pub(crate) fn run(
     alloc: Global,
     over: &Crossed,
     signs: &mut Signs,
+    activity: &mut Activity,
     budget: u64,
 ) -> Result<End, OutOfMemory>
     requires crossed { IsCrossed over.now }
@@ -106,7 +103,7 @@ pub(crate) fn run(
     'turns: loop {
         match search.propagator.propagate() {
             Propagated::Quiet => {
-                if !search.assign_next(over, signs)? {
+                if !search.assign_next(over, signs, activity)? {
                     signs.note_all(&search.propagator);
                     return Ok(End::Model(search.model(alloc, over)?));
                 }
@@ -120,7 +117,7 @@ pub(crate) fn run(
                     signs.note_all(&search.propagator);
                     return Ok(End::Full);
                 }
-                search.learn(alloc, over, signs, conflict)?;
+                search.learn(alloc, over, signs, activity, conflict)?;
             }
         }
     }

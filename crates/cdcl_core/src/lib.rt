@@ -1,15 +1,15 @@
 //! Clause learning: whether clauses have a model.
 #![tactic(auto)]
 
+mod activity;
 mod analysis;
 mod decided;
-mod marks;
 mod order;
 mod players;
+mod schedule;
 mod search;
 mod signs;
-mod turns;
 
-pub use decided::{Decided, decide, decide_by};
+pub use decided::{Outcome, decide, decide_by};
+pub use schedule::{By, Schedule, decide_by_schedule};
 pub use signs::Signs;
-pub use turns::{By, Turns, decide_by_turns};

@@ -4,12 +4,16 @@ ghost use Rattle.lk_model.specs.Held.VariableSets.{IsCrossed};
 ghost use Rattle.cdcl_core.specs.Searching.{decided_by};
 ghost use Rattle.cdcl_core.specs.Players.{AreWithin, IsWithin, IsWonBy, WentOn, WentOnEach};
 
-use crate::decided::{Decided, End, decided_by, run};
+use crate::activity::Activity;
+use crate::decided::{End, Outcome, decided_by, run};
+use crate::schedule::{By, Schedule};
 use crate::search::Search;
 use crate::signs::Signs;
-use crate::turns::{By, Turns};
 use lk_model::{Crossed, OutOfMemory};
 use std::alloc::Global;
+
+/// Beside a search by activity the others learn one clause where it learns so many.
+const SHARE: u64 = 4;
 
 /// Which steps a search may make.
 #[derive(Clone, Copy)]
@@ -33,7 +37,7 @@ pub(crate) fn play(
     players: &mut Vec<Player>,
     alloc: Global,
     over: &Crossed,
-    turns: &Turns,
+    schedule: &Schedule,
     bounds: Bounds,
 ) -> Result<Won, OutOfMemory>
     requires crossed { IsCrossed over.now }
@@ -42,15 +46,15 @@ pub(crate) fn play(
     requires room { bounds.next + bounds.budget < 2 ^ 64 - 1 }
     ensures { IfOk result (IsWonBy over.now bounds.next bounds.budget players.new.items) }
 {
-    let first = turns.first.min(bounds.budget);
-    begin(players, alloc, over, turns, turns.by, bounds.next)?;
+    let first = schedule.first.min(bounds.budget);
+    begin(players, alloc, over, schedule, schedule.by, bounds.next)?;
     if let Some(won) = go_on_each(players, alloc, over, first, bounds)? {
         return Ok(won);
     }
     if first < bounds.budget {
-        begin_others(players, alloc, over, turns, bounds.next)?;
+        begin_others(players, alloc, over, schedule, bounds.next)?;
     }
-    alternate(players, alloc, over, turns.further, first, bounds)
+    alternate(players, alloc, over, schedule.further, first, bounds)
 }
 
 /// Begins the searches that take turns with the first one.
@@ -58,7 +62,7 @@ fn begin_others(
     players: &mut Vec<Player>,
     alloc: Global,
     over: &Crossed,
-    turns: &Turns,
+    schedule: &Schedule,
     next: u64,
 ) -> Result<(), OutOfMemory>
     requires crossed { IsCrossed over.now }
@@ -67,9 +71,9 @@ fn begin_others(
     ensures within { (pause : ℕ) → AreWithin over.now next pause players.old.items →
         OnOk result (AreWithin over.now next pause players.new.items) }
 {
-    begin(players, alloc, over, turns, turns.second, next)?;
-    if let Some(third) = turns.third {
-        begin(players, alloc, over, turns, third, next)?;
+    begin(players, alloc, over, schedule, schedule.second, next)?;
+    if let Some(third) = schedule.third {
+        begin(players, alloc, over, schedule, third, next)?;
     }
     Ok(())
 }
@@ -79,7 +83,7 @@ fn begin(
     players: &mut Vec<Player>,
     alloc: Global,
     over: &Crossed,
-    turns: &Turns,
+    schedule: &Schedule,
     by: By,
     next: u64,
 ) -> Result<(), OutOfMemory>
@@ -90,12 +94,11 @@ fn begin(
     ensures within { (pause : ℕ) → AreWithin over.now next pause players.old.items →
         OnOk result (AreWithin over.now next pause players.new.items) }
 {
-    players.push(Player::new(alloc, over, turns, by, next)?)?;
+    players.push(Player::new(alloc, over, schedule, by, next)?)?;
     Ok(())
 }
 
-/// Goes on by turns, where no search has learned more clauses than it may before its first pause. If all use up the
-/// budget, the one at place 0 tells so.
+/// Goes on by turns. If all use up the budget, the one at place 0 tells so.
 fn alternate(
     players: &mut Vec<Player>,
     alloc: Global,
@@ -106,13 +109,13 @@ fn alternate(
 ) -> Result<Won, OutOfMemory>
     requires crossed { IsCrossed over.now }
     requires some { 0 < length players.old.items }
-    requires players { AreWithin over.now bounds.next first players.old.items }
+    requires players { AreWithin over.now bounds.next bounds.budget players.old.items }
     requires most { first ≤ bounds.budget }
     requires room { bounds.next + bounds.budget < 2 ^ 64 - 1 }
     ensures { IfOk result (IsWonBy over.now bounds.next bounds.budget players.new.items) }
 {
     let mut pause = first;
-    'turns: loop {
+    'slices: loop {
         if let Some(won) = go_on_each(players, alloc, over, pause, bounds)? {
             return Ok(won);
         }
@@ -126,7 +129,7 @@ fn alternate(
     }
 }
 
-/// Lets one search after the other go on, until so many clauses are learned by each or one ends.
+/// Lets one search after the other go on, until so many clauses are learned by each, fewer by the slow ones, or one ends.
 fn go_on_each(
     players: &mut Vec<Player>,
     alloc: Global,
@@ -135,7 +138,7 @@ fn go_on_each(
     bounds: Bounds,
 ) -> Result<Option<Won>, OutOfMemory>
     requires crossed { IsCrossed over.now }
-    requires players { AreWithin over.now bounds.next pause players.old.items }
+    requires players { AreWithin over.now bounds.next bounds.budget players.old.items }
     requires most { pause ≤ bounds.budget }
     requires room { bounds.next + bounds.budget < 2 ^ 64 - 1 }
     ensures length { length players.new.items ≡ length players.old.items }
@@ -154,6 +157,11 @@ fn go_on_each(
 pub(crate) struct Player {
     search: Search,
     signs: Signs,
+    activity: Activity,
+    /// How many clauses it learns in its first turn.
+    first: u64,
+    /// Whether it learns less in a turn than one by activity does.
+    is_slow: bool,
 }
 
 impl Player {
@@ -161,7 +169,7 @@ impl Player {
     fn new(
         alloc: Global,
         over: &Crossed,
-        turns: &Turns,
+        schedule: &Schedule,
         by: By,
         next: u64,
     ) -> Result<Player, OutOfMemory>
@@ -169,15 +177,20 @@ impl Player {
         requires past { length over.now.formula.now.clauses < next }
         ensures { IfOk result (λ p. IsWithin over.now next 0 p.search) }
     {
-        let signs = turns.signs(alloc, by, over.formula.vars())?;
+        let signs = schedule.signs(alloc, by, over.formula.vars())?;
         let order = by.variables(alloc, over)?;
+        let activity = by.activity(alloc, over.formula.vars(), order.as_slice())?;
         Ok(Player {
             search: Search::new(alloc, over, order, next)?,
             signs,
+            activity,
+            first: schedule.first,
+            is_slow: schedule.is_slow(by),
         })
     }
 
-    /// Searches on, until so many clauses are learned in all. Where a further one would be learned, it pauses.
+    /// Searches on, by activity from level 0, until so many clauses are learned in all, or fewer if it is slow. Where a
+    /// further one would be learned, it pauses.
     fn go_on(
         &mut self,
         alloc: Global,
@@ -186,20 +199,51 @@ impl Player {
         bounds: Bounds,
     ) -> Result<Option<End>, OutOfMemory>
         requires crossed { IsCrossed over.now }
-        requires within { IsWithin over.now bounds.next pause self.old.search }
+        requires within { IsWithin over.now bounds.next bounds.budget self.old.search }
         requires most { pause ≤ bounds.budget }
         requires room { bounds.next + bounds.budget < 2 ^ 64 - 1 }
         ensures { IfOk result (WentOn over.now bounds.next pause bounds.budget self.new.search) }
     {
-        match run(&mut self.search, alloc, over, &mut self.signs, pause)? {
+        if !self.activity.is_empty() {
+            self.search
+                .begin_anew(over, &mut self.signs, &mut self.activity);
+        }
+        let until = self.until(pause, bounds.budget);
+        match run(
+            &mut self.search,
+            alloc,
+            over,
+            &mut self.signs,
+            &mut self.activity,
+            until,
+        )? {
             End::Model(values) => Ok(Some(End::Model(values))),
             End::Empty => Ok(Some(End::Empty)),
             End::Full => Ok(None),
         }
     }
 
+    /// How many clauses are learned when it pauses.
+    fn until(&self, pause: u64, budget: u64) -> u64
+        requires pause { pause ≤ budget }
+        requires few { length self.now.search.log.steps ≤ budget }
+        ensures few { length self.now.search.log.steps ≤ result }
+        ensures most { result ≤ budget }
+        ensures ends { pause ≡ budget → result ≡ budget }
+    {
+        if pause == budget {
+            return budget;
+        }
+        let goal = if self.is_slow {
+            (pause / SHARE).max(self.first)
+        } else {
+            pause
+        };
+        goal.min(budget).max(self.search.log.len() as u64)
+    }
+
     /// What this search decides, which ends so, and its values.
-    pub(crate) fn into_answer(self, end: End) -> (Decided, Signs)
+    pub(crate) fn into_answer(self, end: End) -> (Outcome, Signs)
         ensures { result.0 ≡ decided_by self.search.log end }
     {
         (decided_by(self.search.into_log(), end), self.signs)

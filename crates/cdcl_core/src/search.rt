@@ -1,6 +1,7 @@
 //! A search for a model.
 ghost use Rattle.std.specs.Prelude.{◌≡◌, ◌+◌, ◌-◌, ◌<◌, ◌^◌, ◌≤◌, [], ℕ, None, true, false, slice_index_or, length};
-ghost use Rattle.std.specs.Prelude.{IfOk, OnOk, IsTrue};
+ghost use Rattle.std.specs.Prelude.{IfOk, IfSome, IsNone, OnOk, IsTrue};
+ghost use Rattle.std.specs.List.{list_all};
 ghost use Rattle.lk_model.specs.Held.VariableSets.{IsCrossed};
 ghost use Rattle.lk_model.specs.Chains.Rounds.{is_refutation};
 ghost use Rattle.refutation_log.specs.Derivation.{next_number};
@@ -10,15 +11,15 @@ ghost use Rattle.watch_prop.specs.Propagation.{assigned, is_quiet, IsAnswered};
 ghost use Rattle.learning_laws.specs.SolveLaw.{IsRoundOver};
 ghost use Rattle.cdcl_core.specs.Decision.{IsModelOver};
 ghost use Rattle.refutation_log.specs.Trimmed.{are_filled_before_last};
-ghost use Rattle.cdcl_core.specs.Orders.{are_set};
+ghost use Rattle.cdcl_core.specs.Orders.{are_set, may_decide, IsPlacedAt};
 ghost use Rattle.variable_orders.specs.VariableOrders.{IsOrderOver};
 ghost use Rattle.cdcl_core.specs.Searching.{IsSearch};
 
+use crate::activity::Activity;
 use crate::analysis::{analyze, level_below};
-use crate::marks::Marks;
 use crate::order::Order;
 use crate::signs::Signs;
-use lk_model::{Crossed, Lit, OutOfMemory};
+use lk_model::{Crossed, Lit, OutOfMemory, VarSet};
 use partial_assign::Partial;
 use refutation_log::Log;
 use std::alloc::Global;
@@ -31,7 +32,7 @@ pub(crate) struct Search {
     pub propagator: Propagator,
     pub log: Log,
     pub order: Order,
-    pub marks: Marks,
+    pub marks: VarSet,
 }
 
 impl Search {
@@ -50,7 +51,7 @@ impl Search {
         ensures steps { IfOk result (λ s. s.log.steps ≡ []) }
     {
         // The propagator comes last: what is larger to drop is better not held where the others fail.
-        let marks = Marks::new(alloc, over.formula.vars())?;
+        let marks = VarSet::new(alloc, over.formula.vars())?;
         let order = Order::new(alloc, order);
         Ok(Search {
             propagator: Propagator::new(alloc, over)?,
@@ -60,8 +61,14 @@ impl Search {
         })
     }
 
-    /// Sets the first unset variable of the order at a new level, and answers whether there was one.
-    pub fn assign_next(&mut self, over: &Crossed, signs: &Signs) -> Result<bool, OutOfMemory>
+    /// Sets an unset variable at a new level, and answers whether there was one.
+    pub fn assign_next(
+        &mut self,
+        over: &Crossed,
+        signs: &Signs,
+        activity: &mut Activity,
+    ) -> Result<bool, OutOfMemory>
+        requires crossed { IsCrossed over.now }
         requires search { IsSearch over.now self.old }
         requires quiet { IsTrue (is_quiet (assigned self.old.propagator) self.old.propagator.clauses) }
         ensures search { OnOk result (IsSearch over.now self.new) }
@@ -72,13 +79,27 @@ impl Search {
         ensures none { IfOk result (λ b. b ≡ false → (self.new.propagator ≡ self.old.propagator) ×
             IsTrue (are_set self.new.propagator.trail self.new.order.vars.items)) }
     {
-        match self.order.next(&self.propagator) {
+        match next_unset(over, &self.propagator, &mut self.order, activity) {
             Some(v) => {
                 self.order.open()?;
                 self.propagator.assign(Lit::from_var(v, signs.of(v)));
                 Ok(true)
             }
             None => Ok(false),
+        }
+    }
+
+    /// Goes back to level 0, with all that is learned. The values that are taken back are noted.
+    pub fn begin_anew(&mut self, over: &Crossed, signs: &mut Signs, activity: &mut Activity)
+        requires search { IsSearch over.now self.old }
+        ensures search { IsSearch over.now self.new }
+        ensures log { self.new.log ≡ self.old.log }
+    {
+        if self.propagator.present_level() > 0 {
+            signs.note_above(&self.propagator, 0);
+            activity.put_back_above(&self.propagator, 0);
+            self.propagator.retract(0);
+            self.order.back(0);
         }
     }
 
@@ -89,6 +110,7 @@ impl Search {
         alloc: Global,
         over: &Crossed,
         signs: &mut Signs,
+        activity: &mut Activity,
         conflict: u64,
     ) -> Result<(), OutOfMemory>
         requires crossed { IsCrossed over.now }
@@ -104,9 +126,11 @@ impl Search {
         let turns = analyze(alloc, &self.propagator, conflict, &mut self.marks)?;
         let number = self.log.push_chain(over, conflict, &turns)?;
         let clause = self.log.last_clause();
-        self.marks.remove_all(clause);
+        self.marks.remove_clause(clause);
+        activity.meet(turns.as_slice(), clause);
         let level = level_below(&self.propagator, clause);
         signs.note_above(&self.propagator, level);
+        activity.put_back_above(&self.propagator, level);
         self.propagator.retract(level);
         self.order.back(level);
         self.propagator.add(number, clause)?;
@@ -153,6 +177,29 @@ impl Search {
     {
         Ok(values_of(alloc, over.formula.vars(), &self.propagator)?)
     }
+}
+
+// An unset variable: the one that the activity suggests, and else the first one of the order.
+fn next_unset(
+    over: &Crossed,
+    p: &Propagator,
+    order: &mut Order,
+    activity: &mut Activity,
+) -> Option<u32>
+    requires crossed { IsCrossed over.now }
+    requires formula { p.now.vars ≡ over.now.formula.now.vars }
+    requires variables { IsTrue (list_all (may_decide over.now) order.old.vars.items) }
+    requires placed { IsPlacedAt p.now.trail order.old }
+    ensures vars { order.new.vars ≡ order.old.vars }
+    ensures placed { IsPlacedAt p.now.trail order.new }
+    ensures within { IfSome result (λ v. IsTrue (may_decide over.now v)) }
+    ensures unset { IfSome result (λ v. IsNone (assigned p.now v)) }
+    ensures all { IsNone result → IsTrue (are_set p.now.trail order.new.vars.items) }
+{
+    if let Some(v) = activity.suggest(over, p) {
+        return Some(v);
+    }
+    order.next(p)
 }
 
 // The values along the trail.

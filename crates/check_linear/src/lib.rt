@@ -2,6 +2,7 @@
 #![tactic(auto)]
 
 mod linear;
+mod number_list;
 mod units;
 
 pub use linear::{bad_balance, bad_dual, bad_sign, bad_stage};

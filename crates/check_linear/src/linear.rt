@@ -2,7 +2,7 @@
 ghost use Rattle.std.specs.Prelude.{◌≡◌, ◌≤◌, ◌<◌, ◌-◌, ◌+◌, ◌^◌, ◌++◌, ◌∷◌, ℕ, pos, [], find, length, map};
 ghost use Rattle.std.specs.Prelude.{slice_index_or, IfOk, OnOk, IsTrue};
 ghost use Rattle.std.specs.List.{list_all};
-ghost use Rattle.lk_model.specs.Lists.{is_nonzero, rises_within, sum_of};
+ghost use Rattle.lk_model.specs.Lists.{rises_within};
 ghost use Rattle.lk_model.specs.Limits.{is_in_range};
 ghost use Rattle.lk_model.specs.Formulas.Literal.{is_literal, variable};
 ghost use Rattle.lk_model.specs.Formulas.Formula.{clause_at};
@@ -18,10 +18,11 @@ ghost use Rattle.check_linear.specs.Linear.{is_bad_stage, least_stage, weights_a
 ghost use Rattle.check_linear.specs.Linear.{is_bad_sign, AreDuals, signed, AreNumbers, AddsNumbers};
 ghost use Rattle.check_linear.specs.Linear.{is_unbalanced, numbers_of};
 
+use crate::number_list::Numbers;
 use check_places::{is_bad_dual, is_positive};
 use check_tables::{Span, Workers, kept_flags, occurring_at};
 use exact_rows::sign_of_sum;
-use lk_model::{DoneDocument, Dual, Formula, List, Lit, OutOfMemory, Stage, VarSet, Weight};
+use lk_model::{DoneDocument, Dual, Formula, Lit, OutOfMemory, Stage, VarSet, Weight};
 use lk_outside::Gate;
 use partial_assign::{Partial, assignment_of};
 use std::alloc::Global;
@@ -83,7 +84,7 @@ pub fn bad_balance<R: Threads + Sync, G: Gate>(
 }
 
 /// For each variable the numbers of the duals at its literals, with the signs of these.
-fn dual_numbers(alloc: Global, f: &Formula, dual: &[Dual]) -> Result<Vec<List<i128>>, OutOfMemory>
+fn dual_numbers(alloc: Global, f: &Formula, dual: &[Dual]) -> Result<Vec<Numbers>, OutOfMemory>
     requires { IsTrue (are_duals (length f.now.clauses) dual.now) }
     ensures { IfOk result (λ table. AreNumbers f.now (duals_at dual.now) table.items) }
 {
@@ -96,20 +97,20 @@ fn dual_numbers(alloc: Global, f: &Formula, dual: &[Dual]) -> Result<Vec<List<i1
 }
 
 /// An empty list for each variable.
-pub(crate) fn no_numbers(alloc: Global, n: u32) -> Result<Vec<List<i128>>, OutOfMemory>
+pub(crate) fn no_numbers(alloc: Global, n: u32) -> Result<Vec<Numbers>, OutOfMemory>
     ensures size { IfOk result (λ table. length table.items ≡ n) }
     ensures none { IfOk result (λ table. (v : ℕ) → numbers_of table.items v ≡ []) }
 {
     let mut table = Vec::new(alloc);
     for _ in 0..n {
-        table.push(List::new(alloc))?;
+        table.push(Numbers::new(alloc))?;
     }
     Ok(table)
 }
 
 /// Appends a number of a clause to the list of each variable of the clause, with the sign of its literal.
 pub(crate) fn add_numbers(
-    table: &mut [List<i128>],
+    table: &mut [Numbers],
     n: u32,
     clause: &[Lit],
     y: i128,
@@ -134,20 +135,13 @@ fn signed(l: Lit, y: i128) -> i128
 }
 
 /// Whether a variable occurs, and the sum of its numbers is not 0.
-pub(crate) fn is_unbalanced(occurring: &VarSet, table: &[List<i128>], v: u32) -> bool
+pub(crate) fn is_unbalanced(occurring: &VarSet, table: &[Numbers], v: u32) -> bool
     requires first { 0 < v }
     requires occurring { v ≤ length occurring.now }
     requires table { v ≤ length table.now }
     ensures { result ≡ is_unbalanced occurring.now table.now v }
 {
-    occurring.has(v) && has_sum(table[v as usize - 1].as_slice())
-}
-
-/// Whether the sum of some numbers is not 0.
-fn has_sum(numbers: &[i128]) -> bool
-    ensures { result ≡ is_nonzero (sum_of numbers.now) }
-{
-    sign_of_sum(numbers) != Ordering::Equal
+    occurring.has(v) && table[v as usize - 1].has_sum()
 }
 
 /// For each variable the first stage that is not 0 on it, counted from 0, and the weight there; the number

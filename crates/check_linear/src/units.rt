@@ -22,11 +22,13 @@ ghost use Rattle.check_linear.specs.Linear.{ClearsNumbers, ClearsShares, numbers
 ghost use Rattle.check_linear.specs.Linear.{is_unbalanced_share, is_bad_unit_line};
 
 use crate::linear::{add_numbers, is_unbalanced, no_numbers};
+use crate::number_list::Numbers;
 use check_places::is_amiss;
 use check_tables::{Span, Workers, kept_flags, occurring_at};
-use lk_model::{DoneDocument, Formula, List, Lit, OutOfMemory, Share, Unit, VarSet};
+use lk_model::{DoneDocument, Formula, Lit, OutOfMemory, Share, Unit, VarSet};
 use lk_outside::Gate;
 use std::alloc::Global;
+use std::mem::size_of;
 use std::thread::Threads;
 
 /// What the units are checked by.
@@ -62,7 +64,20 @@ pub fn bad_unit<R: Threads + Sync, G: Gate>(
         occurring: occurring_at(alloc, f, kept)?,
         numbers: unit_places(alloc, n, units)?,
     };
-    workers.least_found(n, &|span| bad_unit_in(alloc, f, &tables, units, span))
+    let items = share_count(units).saturating_add(units.len());
+    let bytes = n as usize * size_of::<Numbers>();
+    workers
+        .for_work(items, bytes)
+        .least_found(n, &|span| bad_unit_in(alloc, f, &tables, units, span))
+}
+
+/// How many shares units have together, or the greatest number.
+fn share_count(units: &[Unit]) -> usize {
+    let mut count: usize = 0;
+    for unit in units {
+        count = count.saturating_add(unit.shares.len());
+    }
+    count
 }
 
 /// The first such variable in a range.
@@ -87,7 +102,7 @@ fn bad_unit_in(
 {
     let mut numbers = no_numbers(alloc, f.vars())?;
     for v in span.first..span.first + span.count {
-        if is_bad_unit(alloc, f, tables, units, v, &mut numbers)? {
+        if is_bad_unit(f, tables, units, v, &mut numbers)? {
             return Ok(Some(v));
         }
     }
@@ -97,12 +112,11 @@ fn bad_unit_in(
 /// Whether the unit of a variable is missing, not wanted or bad. The table of numbers is empty before and
 /// behind.
 fn is_bad_unit(
-    alloc: Global,
     f: &Formula,
     tables: &UnitTables,
     units: &[Unit],
     v: u32,
-    numbers: &mut Vec<List<i128>>,
+    numbers: &mut Vec<Numbers>,
 ) -> Result<bool, OutOfMemory>
     requires occurring { length tables.now.occurring ≡ f.now.vars }
     requires numbers { AreUnitPlaces f.now.vars units.now tables.now.numbers.items }
@@ -123,14 +137,7 @@ fn is_bad_unit(
         return Ok(false);
     }
     let unit = unit_numbered(units, k);
-    is_bad_line(
-        alloc,
-        f,
-        tables.kept.as_slice(),
-        &tables.occurring,
-        unit,
-        numbers,
-    )
+    is_bad_line(f, tables.kept.as_slice(), &tables.occurring, unit, numbers)
 }
 
 /// The unit of a number.
@@ -157,12 +164,11 @@ fn unit_places(alloc: Global, n: u32, units: &[Unit]) -> Result<Vec<usize>, OutO
 
 /// Whether a unit is bad. The table of numbers is empty before and behind.
 fn is_bad_line(
-    alloc: Global,
     f: &Formula,
     kept: &[bool],
     occurring: &VarSet,
     unit: &Unit,
-    numbers: &mut Vec<List<i128>>,
+    numbers: &mut Vec<Numbers>,
 ) -> Result<bool, OutOfMemory>
     requires first { 0 < unit.now.var }
     requires last { unit.now.var ≤ f.now.vars }
@@ -179,8 +185,8 @@ fn is_bad_line(
     fill(f, unit.shares.as_slice(), numbers)?;
     numbers[v].push(opposite(unit.d))?;
     let mut unbalanced = is_unbalanced(occurring, numbers, unit.var);
-    unbalanced |= clear_shares(alloc, f, occurring, unit.shares.as_slice(), numbers);
-    numbers[v] = List::new(alloc);
+    unbalanced |= clear_shares(f, occurring, unit.shares.as_slice(), numbers);
+    numbers[v].clear();
     Ok(unbalanced)
 }
 
@@ -218,7 +224,7 @@ fn is_flagged(kept: &[bool], p: u32) -> bool
 }
 
 /// Gives each variable its numbers by shares.
-fn fill(f: &Formula, shares: &[Share], numbers: &mut Vec<List<i128>>) -> Result<(), OutOfMemory>
+fn fill(f: &Formula, shares: &[Share], numbers: &mut Vec<Numbers>) -> Result<(), OutOfMemory>
     requires rising { IsTrue (rises_within 0 (length f.now.clauses) (map (λ (s : Share). s.pos) shares.now)) }
     requires weights { IsTrue (list_all (λ (s : Share). is_weight s.z) shares.now) }
     requires none { AreNone f.now.vars numbers.old.items }
@@ -235,11 +241,10 @@ fn fill(f: &Formula, shares: &[Share], numbers: &mut Vec<List<i128>>) -> Result<
 
 /// Whether a variable of a share's clause is out of balance. The numbers of these variables are taken away.
 fn clear_shares(
-    alloc: Global,
     f: &Formula,
     occurring: &VarSet,
     shares: &[Share],
-    numbers: &mut Vec<List<i128>>,
+    numbers: &mut Vec<Numbers>,
 ) -> bool
     requires rising { IsTrue (rises_within 0 (length f.now.clauses) (map (λ (s : Share). s.pos) shares.now)) }
     requires occurring { length occurring.now ≡ f.now.vars }
@@ -249,20 +254,14 @@ fn clear_shares(
 {
     let mut unbalanced = false;
     for i in 0..shares.len() {
-        unbalanced |= clear_clause(alloc, f.vars(), occurring, f.clause(shares[i].pos), numbers);
+        unbalanced |= clear_clause(f.vars(), occurring, f.clause(shares[i].pos), numbers);
     }
     unbalanced
 }
 
 /// Whether a variable of a clause is out of balance. The numbers of these variables are taken away, each list as soon
 /// as it is summed, so that a variable that stands in many clauses is summed once.
-fn clear_clause(
-    alloc: Global,
-    n: u32,
-    occurring: &VarSet,
-    clause: &[Lit],
-    numbers: &mut Vec<List<i128>>,
-) -> bool
+fn clear_clause(n: u32, occurring: &VarSet, clause: &[Lit], numbers: &mut Vec<Numbers>) -> bool
     requires clause { IsTrue (list_all (is_literal n) clause.now) }
     requires occurring { length occurring.now ≡ n }
     requires size { length numbers.old.items ≡ n }
@@ -272,7 +271,7 @@ fn clear_clause(
     let mut unbalanced = false;
     for l in clause {
         unbalanced |= is_unbalanced(occurring, numbers, l.var());
-        numbers[l.var() as usize - 1] = List::new(alloc);
+        numbers[l.var() as usize - 1].clear();
     }
     unbalanced
 }

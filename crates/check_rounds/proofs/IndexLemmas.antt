@@ -1,14 +1,15 @@
 -- Clauses that are found by lists, and what the lists of one literal more change.
-use Rattle.std.proofs.Common.{◌≡◌, ◌∙◌, ℕ, zero, suc, ◌+◌, ◌-◌, ◌<◌, ◌≤◌, Bool, true, false, not, ◌&&◌, ◌||◌, nat_le, nat_lt, List, [], ◌∷◌, ◌++◌, length, get_or, take, refl, sym, ap, subst, arith, ℤ, ◌⊎◌, inl, inr, slice_index, slice_index_or, get_or-set_same, get_or-set_other}
+use Rattle.std.proofs.Common.{◌≡◌, ◌∙◌, ℕ, zero, suc, ◌+◌, ◌-◌, ◌<◌, ◌≤◌, Bool, true, false, not, ◌&&◌, ◌||◌, nat_le, nat_lt, List, [], ◌∷◌, ◌++◌, length, get_or, take, replicate, refl, sym, ap, subst, arith, ℤ, ◌⊎◌, inl, inr, slice_index, slice_index_or, get_or-set_same, get_or-set_other}
 use Rattle.std.specs.Prelude.{slice_set}
 use Rattle.std.specs.List.{list_all, All}
 use Rattle.std.specs.Ordering.{int_eq}
 use Rattle.std.proofs.lemmas.Bool.{cases_eq, leb-true, le-leb, le-ltb, ltb-false, not-true}
 use Rattle.std.proofs.lemmas.Bool.Decides.{Decides-int_eq}
 use Rattle.std.proofs.lemmas.List.{take_more, take_all, get_or_default, length-take, get_or-take}
+use Rattle.std.proofs.lemmas.List.Elements.{All-get_or, All-replicate, All-set}
 use Rattle.std.proofs.lemmas.List.Folds.{list_all-append}
-use Rattle.lk_model.specs.Lists.{among, is_empty}
-use Rattle.lk_model.specs.Formulas.Literal.{variable, contains, is_literal, rank_of}
+use Rattle.lk_model.specs.Lists.{among, is_between, is_empty}
+use Rattle.lk_model.specs.Formulas.Literal.{variable, contains, is_literal, is_same_list, rank_of}
 use Rattle.lk_model.specs.Formulas.Formula.{Cnf, clause_at}
 use Rattle.lk_model.specs.Formulas.Crossed.{Variables, crossed_out}
 use Rattle.lk_model.specs.declared.document.Step.{Step}
@@ -20,8 +21,9 @@ use Rattle.lk_model.proofs.ListTests.{passes_each}
 use Rattle.lk_model.proofs.Literals.{some_literal}
 use Rattle.lk_model.proofs.Ranks.{literal_bounds}
 use Rattle.lk_model.proofs.Lists.{among_front, among_last}
+use Rattle.kernel_laws.proofs.Lists.{same_list}
 use Rattle.check_rounds.specs.Blocking.{is_before}
-use Rattle.check_rounds.specs.Index.{list_of, block_of, IsListed, AreClausesListed, AreStepsListed, AreRoundsListed, KeepsListed}
+use Rattle.check_rounds.specs.Index.{list_of, block_of, IsListed, IsClauseListed, AreClausesListed, AreLast, is_clause_of, AreStepsListed, AreRoundsListed, KeepsListed}
 
 -- a variable is not blocked before a round up to its number
 before_is : (n k : ℕ) (blocks : List ℕ) (l : ℤ) → length blocks ≡ n → is_literal n l ≡ true → is_before k blocks (variable l) ≡ nat_lt (block_of blocks l) k
@@ -136,10 +138,50 @@ pub steps_kept : (blocks : List ℕ) (before after : List (List ℕ)) (steps : L
 steps_kept blocks before after steps keeps h =
     all_later (λ (s : Step). IsListed blocks before s.clause s.number) (λ (s : Step). IsListed blocks after s.clause s.number) steps (λ s one. keeps s.clause s.number one) h
 
--- one position more
-pub clauses_next : (blocks : List ℕ) (before after : List (List ℕ)) (F : Cnf) (i : ℕ) → KeepsListed blocks before after → AreClausesListed blocks before F i → IsListed blocks after (clause_at F (i + 1)) (i + 1)
-    → AreClausesListed blocks after F (i + 1)
-clauses_next blocks before after F i keeps h here p low high = elim (cases_eq p (i + 1)) [
-  | inl same ↦ subst (λ (q : ℕ). IsListed blocks after (clause_at F q) q) (sym same) here
-  | inr other ↦ keeps (clause_at F p) p (h p low (omega (arith, high, other)))
+-- a table without a position
+pub last_none : (blocks : List ℕ) (lists : List (List ℕ)) (F : Cnf) (n : ℕ) (table : List ℕ) → table ≡ replicate n 0 → AreLast blocks lists F table
+last_none blocks lists F n table none =
+    subst (λ (ps : List ℕ). AreLast blocks lists F ps) (sym none) (All-replicate (λ (p : ℕ). 1 ≤ p → p ≤ length F.clauses → IsListed blocks lists (clause_at F p) p) n 0 (λ low _. absurd (omega (arith, low))))
+
+-- a position of it more
+pub last_more : (blocks : List ℕ) (lists : List (List ℕ)) (F : Cnf) (table : List ℕ) (place p : ℕ) (clause : List ℤ) → AreLast blocks lists F table → clause ≡ clause_at F p → IsListed blocks lists clause p
+    → AreLast blocks lists F (slice_set table place p)
+last_more blocks lists F table place p clause h is here =
+    All-set (λ (q : ℕ). 1 ≤ q → q ≤ length F.clauses → IsListed blocks lists (clause_at F q) q) table place p (λ _ _. subst (λ (c : List ℤ). IsListed blocks lists c p) is here) h
+
+-- the clause at one of its positions is listed for each that is equal
+pub listed_by : (blocks : List ℕ) (lists : List (List ℕ)) (F : Cnf) (table : List ℕ) (place at p : ℕ) (clause : List ℤ) (same : Bool) → AreLast blocks lists F table → place < length table → at ≡ get_or table place at
+    → clause ≡ clause_at F p → same ≡ is_clause_of F at clause → same ≡ true → IsClauseListed blocks lists F p
+listed_by blocks lists F table place at p clause same h inside is own test passed =
+    let both = and_true (is_between 1 (length F.clauses) at) (is_same_list (clause_at F at) clause) (sym test ∙ passed) in
+    let bounds = and_true (nat_le 1 at) (nat_le at (length F.clauses)) both.0 in
+    let low : 1 ≤ at = leb-true 1 at bounds.0 in
+    let high : at ≤ length F.clauses = leb-true at (length F.clauses) bounds.1 in
+    record {
+      at = at;
+      least = low;
+      most = high;
+      same = same_list (clause_at F at) clause both.1 ∙ own;
+      listed = subst (λ (q : ℕ). 1 ≤ q → q ≤ length F.clauses → IsListed blocks lists (clause_at F q) q) (sym is)
+          (All-get_or (λ (q : ℕ). 1 ≤ q → q ≤ length F.clauses → IsListed blocks lists (clause_at F q) q) table place at inside h) low high;
+    }
+
+-- it is listed itself
+pub listed_itself : (blocks : List ℕ) (lists : List (List ℕ)) (F : Cnf) (p : ℕ) (clause : List ℤ) → 1 ≤ p → p ≤ length F.clauses → clause ≡ clause_at F p → IsListed blocks lists clause p → IsClauseListed blocks lists F p
+listed_itself blocks lists F p clause low high is here = record { at = p; least = low; most = high; same = refl; listed = subst (λ (c : List ℤ). IsListed blocks lists c p) is here }
+
+-- positions of a table are listed still
+pub last_kept : (blocks : List ℕ) (before after : List (List ℕ)) (F : Cnf) (table : List ℕ) → KeepsListed blocks before after → AreLast blocks before F table → AreLast blocks after F table
+last_kept blocks before after F table keeps h =
+    all_later (λ (p : ℕ). 1 ≤ p → p ≤ length F.clauses → IsListed blocks before (clause_at F p) p) (λ (p : ℕ). 1 ≤ p → p ≤ length F.clauses → IsListed blocks after (clause_at F p) p) table
+    (λ p one low high. keeps (clause_at F p) p (one low high)) h
+
+-- one position more, listed by an equal clause
+pub clauses_next : (blocks : List ℕ) (before after : List (List ℕ)) (F : Cnf) (i : ℕ) → KeepsListed blocks before after → AreClausesListed blocks before F (i - 1) → IsClauseListed blocks after F i
+    → AreClausesListed blocks after F i
+clauses_next blocks before after F i keeps h here p low high = elim (cases_eq p i) [
+  | inl same ↦ subst (λ (q : ℕ). IsClauseListed blocks after F q) (sym same) here
+  | inr other ↦
+      let w = h p low (omega (arith, high, other)) in
+      record { at = w.at; least = w.least; most = w.most; same = w.same; listed = keeps (clause_at F w.at) w.at w.listed }
 ]

@@ -84,10 +84,13 @@ clauses_found over known c flags form h s =
     let at = passing holds (positions_of F) e in
     let both = and_true (not (is_empty (left at.0))) (is_within (left at.0) c) at.2 in
     let range = up_to_bounds (length F.clauses) at.0 at.1 in
-    let found = h.clauses at.0 range.0 range.1 over.round (not-true (is_empty (left at.0)) both.0) in
-    let there : contains c found.0 ≡ true = passes_each (contains c) (left at.0) found.0 both.1 found.1 in
+    let one = h.clauses at.0 range.0 range.1 in
+    let as_one : left at.0 ≡ left one.at = ap (crossed_out b) (sym one.same) in
+    let found = one.listed over.round (ap is_empty (sym as_one) ∙ not-true (is_empty (left at.0)) both.0) in
+    let there : contains c found.0 ≡ true = passes_each (contains c) (left at.0) found.0 both.1 (ap (λ (d : List ℤ). contains d found.0) as_one ∙ found.1) in
+    let held : is_clause_within over flags one.at ≡ true = ap (λ (d : List ℤ). list_all (has_literal flags) d && not (is_empty d)) (sym as_one) ∙ rw (told at.0 ∙ both.1) both.0 in
     passes_one (λ l. list_any (is_clause_within over flags) (list_of known.clauses l)) c found.0 there
-    (passes_among (is_clause_within over flags) (list_of known.clauses found.0) at.0 found.2 (rw (told at.0 ∙ both.1) both.0)))
+    (passes_among (is_clause_within over flags) (list_of known.clauses found.0) one.at found.2 held))
   where
     in_formula : (F : Cnf) (b : Variables) (p : ℕ) → not (is_empty (crossed_out b (clause_at F p))) ≡ true → (1 ≤ p) × (p ≤ length F.clauses)
     in_formula F b zero e = absurd (let f : ⊥ = cc in f)

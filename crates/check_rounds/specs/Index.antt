@@ -1,8 +1,8 @@
 -- Lists by literals, by which clauses are found that stand within another one.
-use Rattle.std.specs.Prelude.{◌≡◌, ◌≤◌, ◌-◌, ℕ, true, false, List, [], ℤ, slice_index, slice_index_or}
+use Rattle.std.specs.Prelude.{◌≡◌, ◌≤◌, ◌-◌, ℕ, Bool, true, false, ◌&&◌, List, [], length, ℤ, slice_index, slice_index_or}
 use Rattle.std.specs.List.{All}
-use Rattle.lk_model.specs.Lists.{among, is_empty}
-use Rattle.lk_model.specs.Formulas.Literal.{variable, contains, rank_of}
+use Rattle.lk_model.specs.Lists.{among, is_between, is_empty}
+use Rattle.lk_model.specs.Formulas.Literal.{variable, contains, is_same_list, rank_of}
 use Rattle.lk_model.specs.Formulas.Formula.{Cnf, clause_at}
 use Rattle.lk_model.specs.Formulas.Crossed.{crossed_out}
 use Rattle.lk_model.specs.declared.document.Step.{Step}
@@ -23,9 +23,24 @@ abbrev pub IsListed : List ℕ → List (List ℕ) → List ℤ → ℕ → Type
 IsListed blocks lists clause number = (k : ℕ) → is_empty (crossed_out (is_before k blocks) clause) ≡ false
     → (l : ℤ) × (contains (crossed_out (is_before k blocks) clause) l ≡ true) × (among (list_of lists l) number ≡ true)
 
--- so of the clauses of a formula, by their positions
+-- so of the clauses of a formula, by the position of one of those that are equal
+pub record IsClauseListed (blocks : List ℕ) (lists : List (List ℕ)) (F : Cnf) (p : ℕ) : Type 0 where
+  pub at : ℕ
+  pub least : 1 ≤ at
+  pub most : at ≤ length F.clauses
+  pub same : clause_at F at ≡ clause_at F p
+  pub listed : IsListed blocks lists (clause_at F at) at
+
 abbrev pub AreClausesListed : List ℕ → List (List ℕ) → Cnf → ℕ → Type 0
-AreClausesListed blocks lists F last = (p : ℕ) → 1 ≤ p → p ≤ last → IsListed blocks lists (clause_at F p) p
+AreClausesListed blocks lists F last = (p : ℕ) → 1 ≤ p → p ≤ last → IsClauseListed blocks lists F p
+
+-- the position is one of the formula, and this is the clause there
+abbrev pub is_clause_of : Cnf → ℕ → List ℤ → Bool
+is_clause_of F p c = is_between 1 (length F.clauses) p && is_same_list (clause_at F p) c
+
+-- positions of a table at which there are clauses are listed
+abbrev pub AreLast : List ℕ → List (List ℕ) → Cnf → List ℕ → Type 0
+AreLast blocks lists F table = All (λ p. 1 ≤ p → p ≤ length F.clauses → IsListed blocks lists (clause_at F p) p) table
 
 -- and of those of steps, by their numbers
 abbrev pub AreStepsListed : List ℕ → List (List ℕ) → List Step → Type 0

@@ -23,7 +23,7 @@ ghost use Rattle.check_rounds.specs.Chains.{IsRoundAt, IsWork, IsMade, premises_
 ghost use Rattle.check_rounds.specs.Steps.{AreRounds, first_step, is_step_place};
 
 use crate::blocking::{blocks_of, is_before};
-use crate::steps::{Rounds, StepPlace, number_of, round_at, step_places};
+use crate::steps::{Rounds, StepPlace, flag_count, number_of, round_at, step_places, turn_count};
 use crate::work::Work;
 use check_tables::{Workers, kept_flags};
 use lk_model::{Formula, Lit, OutOfMemory, Round, Step, Turn};
@@ -70,7 +70,12 @@ pub fn bad_step<'a, R: Threads + Sync, G: Gate>(
         blocked_at: blocks,
         rounds,
     };
-    workers.first_found(places.as_slice(), &|part| bad_step_in(alloc, &over, part))
+    workers
+        .for_work(
+            turn_count(rounds).saturating_add(places.len()),
+            flag_count(f),
+        )
+        .first_found(places.as_slice(), &|part| bad_step_in(alloc, &over, part))
 }
 
 /// The number of the first step of a round that does not state the clause of its chain, or none. Chains

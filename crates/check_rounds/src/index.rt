@@ -5,15 +5,18 @@
 //! Subsumption Removal and On-the-Fly CNF Simplification", 2005). Here the literal is one on a variable that is blocked
 //! last, so that the same lists serve all rounds: where this literal is crossed out, all of the clause is. Among such
 //! literals it is the one with the shortest list so far, so that no list grows long where clauses have rare literals.
-ghost use Rattle.std.specs.Prelude.{◌≡◌, ◌≤◌, ◌<◌, ◌+◌, ◌*◌, ◌⊎◌, ℕ, ℤ, List, [], true, nat_le, length, IfOk, OnOk};
+//! Of equal clauses of the formula one is listed for most: a table has at a place, to which a clause is led by its
+//! literals, the last clause that was listed from there.
+ghost use Rattle.std.specs.Prelude.{◌≡◌, ◌≤◌, ◌<◌, ◌+◌, ◌-◌, ◌*◌, ◌⊎◌, ℕ, ℤ, List, [], true, nat_le, length, IfOk, OnOk};
 ghost use Rattle.std.specs.Prelude.{IsTrue, MatchOption};
 ghost use Rattle.std.specs.List.{list_all};
-ghost use Rattle.lk_model.specs.Formulas.Literal.{is_literal, contains, rank_of};
+ghost use Rattle.lk_model.specs.Formulas.Literal.{is_literal, is_same_list, contains, rank_of};
+ghost use Rattle.lk_model.specs.Formulas.Formula.{clause_at};
 ghost use Rattle.lk_model.specs.Documents.Documents.{steps_of};
 ghost use Rattle.lk_model.specs.Documents.Form.{are_steps};
 ghost use Rattle.lk_model.specs.declared.document.Step.{Step as AStep};
 ghost use Rattle.check_rounds.specs.Index.{block_of, list_of, AreClausesListed, AreRoundsListed, AreStepsListed};
-ghost use Rattle.check_rounds.specs.Index.{IsListed, KeepsListed};
+ghost use Rattle.check_rounds.specs.Index.{AreLast, IsListed, KeepsListed, is_clause_of};
 
 use lk_model::{Formula, List, Lit, LitTable, OutOfMemory, Round, Step};
 use std::alloc::Global;
@@ -51,10 +54,42 @@ impl Index {
         ensures found { IfOk result (λ t. AreClausesListed blocks.now t f.now (length f.now.clauses)) }
     {
         let mut index = Index::new(alloc, f.vars())?;
+        let mut last = vec![in alloc; 0u32; f.len() as usize + 1]?;
         for i in 0..f.len() {
-            index.add(f.vars(), blocks, f.clause(i + 1), u64::from(i + 1))?;
+            index.add_once(f, blocks, i + 1, &mut last)?;
         }
         Ok(index)
+    }
+
+    /// Lists the clause at a position behind those that were gone through, unless the last listed one of its place in
+    /// a table is the same list of literals.
+    fn add_once(
+        &mut self,
+        f: &Formula,
+        blocks: &[usize],
+        p: u32,
+        last: &mut Vec<u32>,
+    ) -> Result<(), OutOfMemory>
+        requires blocks { length blocks.now ≡ f.now.vars }
+        requires size { length self.old ≡ 2 * f.now.vars + 2 }
+        requires least { 0 < p }
+        requires most { p ≤ length f.now.clauses }
+        requires places { 0 < length last.old.items }
+        requires last { AreLast blocks.now self.old f.now last.old.items }
+        requires found { AreClausesListed blocks.now self.old f.now (p - 1) }
+        ensures size { OnOk result (length self.new ≡ length self.old) }
+        ensures places { length last.new.items ≡ length last.old.items }
+        ensures last { OnOk result (AreLast blocks.now self.new f.now last.new.items) }
+        ensures found { OnOk result (AreClausesListed blocks.now self.new f.now p) }
+    {
+        let clause = f.clause(p);
+        let place = mix(clause) % last.len();
+        if is_clause_at(f, last[place], clause) {
+            return Ok(());
+        }
+        self.add(f.vars(), blocks, clause, u64::from(p))?;
+        last[place] = p;
+        Ok(())
     }
 
     /// The clauses of the steps of rounds by the steps' numbers.
@@ -157,4 +192,28 @@ impl Index {
     {
         self.lists[l].as_slice()
     }
+}
+
+/// Whether a position is one of the formula, and this list of literals is the clause there.
+fn is_clause_at(f: &Formula, p: u32, clause: &[Lit]) -> bool
+    ensures { result ≡ is_clause_of f.now p clause.now }
+{
+    1 <= p && p <= f.len() && is_same_list(f.clause(p), clause)
+}
+
+/// Whether two clauses are the same literals in the same order.
+fn is_same_list(one: &[Lit], other: &[Lit]) -> bool
+    ensures { result ≡ is_same_list one.now other.now }
+{
+    one == other
+}
+
+/// A number that depends on a clause alone, and differs for most others.
+fn mix(clause: &[Lit]) -> usize {
+    let mut sum: u64 = 0;
+    for l in clause {
+        sum = (sum ^ l.rank() as u64).wrapping_mul(0x9E37_79B9_7F4A_7C15);
+        sum ^= sum >> 29;
+    }
+    sum as usize
 }

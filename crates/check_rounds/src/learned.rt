@@ -26,7 +26,7 @@ ghost use Rattle.check_rounds.specs.Steps.{AreRounds, first_step, is_step_place}
 use crate::blocking::is_before;
 use crate::chains::{RoundAt, earlier};
 use crate::index::Index;
-use crate::steps::{Rounds, StepPlace, number_of, round_at, step_places};
+use crate::steps::{Rounds, StepPlace, flag_count, number_of, round_at, step_places};
 use check_tables::{LiteralSet, Workers, kept_flags};
 use lk_model::{Formula, Lit, OutOfMemory, Round};
 use lk_outside::Gate;
@@ -91,7 +91,7 @@ pub fn not_learned<'a, R: Threads + Sync, G: Gate>(
         blocked_at: blocks,
         rounds,
     };
-    workers.first_found(
+    workers.for_work(places.len(), flag_count(f)).first_found(
         places.as_slice(),
         &|part| not_learned_in(alloc, &over, &known, part),
     )

@@ -6,7 +6,7 @@ ghost use Rattle.std.specs.Prelude.{◌≡◌, ◌<◌, ◌++◌, length, IfOk, 
 ghost use Rattle.check_rounds.specs.Steps.{IsRoundOf, is_step_place, places_from, places_in_round, step_at};
 
 use crate::chains::RoundAt;
-use lk_model::{Formula, OutOfMemory, Round};
+use lk_model::{Formula, OutOfMemory, Round, Step};
 use std::alloc::Global;
 
 /// The rounds of a document, and what their chains may name: the clauses of a formula at the positions of a
@@ -46,6 +46,29 @@ fn add_places(round: usize, count: usize, places: &mut Vec<StepPlace>) -> Result
         places.push(StepPlace { round, index })?;
     }
     Ok(())
+}
+
+/// How many flags a set of literals over the formula's variables has.
+pub(crate) fn flag_count(f: &Formula) -> usize {
+    2 * f.vars() as usize + 2
+}
+
+/// How many turns the chains of rounds have together, or the greatest number.
+pub(crate) fn turn_count(rounds: &[Round]) -> usize {
+    let mut count: usize = 0;
+    for round in rounds {
+        count = count.saturating_add(turns_of(round.steps.as_slice()));
+    }
+    count
+}
+
+/// So many the chains of steps have.
+fn turns_of(steps: &[Step]) -> usize {
+    let mut count: usize = 0;
+    for step in steps {
+        count = count.saturating_add(step.turns.len());
+    }
+    count
 }
 
 /// The steps of the round at an index, and what their chains may name.

@@ -2,7 +2,7 @@
 //!
 //! The places from 1 on are cut into a range for each worker. Each range is searched from its front, and of what the
 //! ranges find the first counts, so the answer is the same for every number of workers.
-ghost use Rattle.std.specs.Prelude.{◌≡◌, ◌+◌, ◌^◌, ◌<◌, ℕ, Bool, find, option_map, IfOk};
+ghost use Rattle.std.specs.Prelude.{◌≡◌, ◌+◌, ◌^◌, ◌<◌, ◌≤◌, ℕ, Bool, find, option_map, IfOk};
 ghost use Rattle.std.specs.Fn.{FnReturns};
 ghost use Rattle.lk_model.specs.Lists.{up_to};
 ghost use Rattle.check_tables.specs.Places.{AcceptsParts, AcceptsPlaces, AcceptsSpans, AreCut, Decides, Finds};
@@ -14,6 +14,9 @@ use par_halves::{Gate, map_halves};
 use std::alloc::Global;
 use std::marker::Model;
 use std::thread::Threads;
+
+/// A worker more has to have an item of work for each so many bytes of its tables.
+const BYTES_FOR_ITEM: usize = 128;
 
 /// A range of places: `count` many, from the place `first` on. Places are positions or variables, which
 /// count from 1.
@@ -56,6 +59,20 @@ impl<'a, R: Threads + Sync, G: Gate> Workers<'a, R, G> {
             alloc,
             gate,
             count,
+        }
+    }
+
+    /// As many of them as have work enough where each makes tables of its own, of so many bytes: at least one. So all
+    /// these tables together take no more memory than those of one worker and some for each item of work.
+    pub fn for_work(&self, items: usize, bytes: usize) -> Workers<'a, R, G>
+        ensures { result ≤ self.now }
+    {
+        let more = (items / (bytes / BYTES_FOR_ITEM + 1)).min(self.count as usize - 1);
+        Workers {
+            rt: self.rt,
+            alloc: self.alloc,
+            gate: self.gate,
+            count: more as u32 + 1,
         }
     }
 }

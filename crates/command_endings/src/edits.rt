@@ -90,9 +90,10 @@ fn memory_of(_stop: EditStop) -> OutOfMemory
 }
 
 /// Appends the line of the matching kernel of what is live.
-fn put_kernel(alloc: Global, text: &mut Vec<u8>, live: &Live) -> Result<(), OutOfMemory>
-    ensures { OnOk result (WritesKernel live.now text.old.items text.new.items) }
+fn put_kernel(alloc: Global, text: &mut Vec<u8>, live: &mut Live) -> Result<(), OutOfMemory>
+    ensures written { OnOk result (WritesKernel live.old text.old.items text.new.items) }
+    ensures same { live.new ≡ live.old }
 {
-    let kept = live.kernel(alloc)?;
+    let kept = live.kernel_by_marks(alloc)?;
     put_closed(text, b"keep", kept.as_slice())
 }

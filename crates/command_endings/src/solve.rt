@@ -12,8 +12,8 @@ ghost use Rattle.status_lines.specs.RunLines.{conflicts_line};
 use crate::reduce_general::unfinished;
 use answer_check::{Answer, print_answer};
 use command_words::{Command, Options};
-use kernel_solve::{Solved, solve};
-use lk_model::{Budget, Formula, List, OutOfMemory, Round};
+use kernel_solve::solve;
+use lk_model::{Budget, Decided, Formula, List, OutOfMemory, Round};
 use lk_outside::Gate;
 use reductions::open_document_of;
 use status_lines::{Ending, Status};
@@ -36,9 +36,9 @@ pub fn answer<R: Threads + Sync, G: Gate>(
     let _vars = formula.vars();
     let solved = solve(rt, alloc, gate, &formula, conflicts, workers)?;
     match solved {
-        Solved::Model(literals) => answered(alloc, Status::Satisfiable, Answer::Model(literals)),
-        Solved::Refuted(round) => answered(alloc, Status::Unsatisfiable, Answer::Refuted(round)),
-        Solved::Unfinished(round) => unfinished_round(alloc, formula, conflicts, round),
+        Decided::Model(literals) => answered(alloc, Status::Satisfiable, Answer::Model(literals)),
+        Decided::Refuted(round) => answered(alloc, Status::Unsatisfiable, Answer::Refuted(round)),
+        Decided::Stopped(round) => unfinished_round(alloc, formula, conflicts, round),
     }
 }
 

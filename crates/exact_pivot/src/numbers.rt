@@ -64,10 +64,10 @@ impl Numbers {
     }
 
     /// Multiplies by -1.
-    pub fn turn(&mut self)
+    pub fn negate(&mut self)
         ensures { self.new ≡ map neg_ℤ self.old }
     {
-        self.row.turn();
+        self.row.negate();
     }
 
     /// Makes the entry in a column 0 by another row. After an error the row is as it was.

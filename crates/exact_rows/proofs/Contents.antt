@@ -18,7 +18,7 @@ use Rattle.exact_rows.specs.Sparse.{AreEntries, IsEntry, value_in_column, row_of
 use Rattle.exact_rows.specs.Merged.{content_of, divided}
 use Rattle.exact_rows.proofs.Divisors.{gcd_some, gcd_comm, gcd-zero_left}
 use Rattle.exact_rows.proofs.Quotients.{quotient_le, quotient-one}
-use Rattle.exact_rows.proofs.Entries.{columns_of, row_behind, without_first, behind, behind_first, in_next, number_before, number_first, nonzero_is, turned-nonzero, same_map, map_twice}
+use Rattle.exact_rows.proofs.Entries.{columns_of, row_behind, without_first, behind, behind_first, in_next, number_before, number_first, nonzero_is, negated-nonzero, same_map, map_twice}
 
 -- a content of 1 stays
 gcd-one : (a : ℕ) → gcd a 1 ≡ 1
@@ -97,7 +97,7 @@ nonzero_number (suc n) h = nonzero_is (pos (suc n)) (λ e. (let f = ap unsigned_
 quotient-nonzero : (x : ℤ) (g : ℕ) → is_nonzero x ≡ true → g ∣ unsigned_abs x → is_nonzero (int_div x (pos g)) ≡ true
 quotient-nonzero (pos zero) g h d = absurd (let f : ⊥ = cc in f)
 quotient-nonzero (pos (suc a)) g h d = nonzero_number (suc a / g) (quotient_some (suc a) g (omega arith) d)
-quotient-nonzero (negsuc a) g h d = turned-nonzero (pos (suc a / g)) (nonzero_number (suc a / g) (quotient_some (suc a) g (omega arith) d))
+quotient-nonzero (negsuc a) g h d = negated-nonzero (pos (suc a / g)) (nonzero_number (suc a / g) (quotient_some (suc a) g (omega arith) d))
 
 quotient-in_range : (x : ℤ) (g : ℕ) → is_in_range x ≡ true → is_in_range (int_div x (pos g)) ≡ true
 quotient-in_range x g h =

@@ -13,7 +13,7 @@ use Rattle.lk_model.proofs.Rising.{rises, rises_from}
 use Rattle.lk_model.proofs.ListTests.{zero_is as zero_from}
 use Rattle.exact_rows.specs.declared.sparse.Entry.{Entry}
 use Rattle.exact_rows.specs.Made.{AreInRange}
-use Rattle.exact_rows.specs.Sparse.{AreEntries, IsEntry, entries_of, value_in_column, row_of, turned}
+use Rattle.exact_rows.specs.Sparse.{AreEntries, IsEntry, entries_of, value_in_column, row_of, negated}
 
 abbrev pub columns_of : List Entry → List ℕ
 columns_of es = map (λ (e : Entry). e.column) es
@@ -165,32 +165,32 @@ number_is n es k h some = elim (cases_lt n k) [
 ]
 
 -- entries times -1
-columns-turned : (es : List Entry) → columns_of (map turned es) ≡ columns_of es
-columns-turned [] = refl
-columns-turned (e ∷ es) = λ i. e.column ∷ columns-turned es i
+columns-negated : (es : List Entry) → columns_of (map negated es) ≡ columns_of es
+columns-negated [] = refl
+columns-negated (e ∷ es) = λ i. e.column ∷ columns-negated es i
 
-number-turned : (es : List Entry) (k : ℕ) → value_in_column (map turned es) k ≡ neg_ℤ (value_in_column es k)
-number-turned [] k = refl
-number-turned (e ∷ es) k = at_test (e.column == k) refl (number-turned es k)
+number-negated : (es : List Entry) (k : ℕ) → value_in_column (map negated es) k ≡ neg_ℤ (value_in_column es k)
+number-negated [] k = refl
+number-negated (e ∷ es) k = at_test (e.column == k) refl (number-negated es k)
   where
-    at_test : (b : Bool) → (e.column == k) ≡ b → value_in_column (map turned es) k ≡ neg_ℤ (value_in_column es k) → value_in_column (map turned (e ∷ es)) k ≡ neg_ℤ (value_in_column (e ∷ es) k)
+    at_test : (b : Bool) → (e.column == k) ≡ b → value_in_column (map negated es) k ≡ neg_ℤ (value_in_column es k) → value_in_column (map negated (e ∷ es)) k ≡ neg_ℤ (value_in_column (e ∷ es) k)
     at_test true t later = rw t refl
     at_test false t later = rw t later
 
-pub turned-nonzero : (x : ℤ) → is_nonzero x ≡ true → is_nonzero (neg_ℤ x) ≡ true
-turned-nonzero (pos zero) h = h
-turned-nonzero (pos (suc n)) h = grind (arith, nat_tests)
-turned-nonzero (negsuc n) h = grind (arith, nat_tests)
+pub negated-nonzero : (x : ℤ) → is_nonzero x ≡ true → is_nonzero (neg_ℤ x) ≡ true
+negated-nonzero (pos zero) h = h
+negated-nonzero (pos (suc n)) h = grind (arith, nat_tests)
+negated-nonzero (negsuc n) h = grind (arith, nat_tests)
 
-pub turned-in_range : (x : ℤ) → is_in_range x ≡ true → is_in_range (neg_ℤ x) ≡ true
-turned-in_range (pos zero) h = h
-turned-in_range (pos (suc n)) h = h
-turned-in_range (negsuc n) h = h
+pub negated-in_range : (x : ℤ) → is_in_range x ≡ true → is_in_range (neg_ℤ x) ≡ true
+negated-in_range (pos zero) h = h
+negated-in_range (pos (suc n)) h = h
+negated-in_range (negsuc n) h = h
 
-pub are_entries-turned : (n : ℕ) (es : List Entry) → AreEntries n es → AreEntries n (map turned es)
-are_entries-turned n es h = record {
-  rise = rw (columns-turned es) h.rise;
-  each = All-map IsEntry turned es (All-weaker IsEntry (λ (e : Entry). IsEntry (turned e)) (λ (e : Entry) k. (turned-nonzero e.value k.0, turned-in_range e.value k.1)) es h.each);
+pub are_entries-negated : (n : ℕ) (es : List Entry) → AreEntries n es → AreEntries n (map negated es)
+are_entries-negated n es h = record {
+  rise = rw (columns-negated es) h.rise;
+  each = All-map IsEntry negated es (All-weaker IsEntry (λ (e : Entry). IsEntry (negated e)) (λ (e : Entry) k. (negated-nonzero e.value k.0, negated-in_range e.value k.1)) es h.each);
 }
 
 pub same_map : (f g : ℕ → ℤ) → ((k : ℕ) → f k ≡ g k) → (ks : List ℕ) → map f ks ≡ map g ks
@@ -201,5 +201,5 @@ pub map_twice : (f : ℤ → ℤ) (g : ℕ → ℤ) (ks : List ℕ) → map (λ 
 map_twice f g [] = refl
 map_twice f g (k ∷ ks) = λ i. f (g k) ∷ map_twice f g ks i
 
-pub row-turned : (n : ℕ) (es : List Entry) → row_of n (map turned es) ≡ map neg_ℤ (row_of n es)
-row-turned n es = same_map (value_in_column (map turned es)) (λ k. neg_ℤ (value_in_column es k)) (number-turned es) (range_with_len 1 n) ∙ map_twice neg_ℤ (value_in_column es) (range_with_len 1 n)
+pub row-negated : (n : ℕ) (es : List Entry) → row_of n (map negated es) ≡ map neg_ℤ (row_of n es)
+row-negated n es = same_map (value_in_column (map negated es)) (λ k. neg_ℤ (value_in_column es k)) (number-negated es) (range_with_len 1 n) ∙ map_twice neg_ℤ (value_in_column es) (range_with_len 1 n)

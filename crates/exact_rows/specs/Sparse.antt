@@ -31,8 +31,8 @@ pub record AreEntries (n : ℕ) (es : List Entry) : Type 0 where
   pub each : All IsEntry es
 
 -- the entry times -1
-abbrev pub turned : Entry → Entry
-turned e = record e { value = neg_ℤ e.value }
+abbrev pub negated : Entry → Entry
+negated e = record e { value = neg_ℤ e.value }
 
 -- why a call stops that makes these results: the first one that is out of range, or that memory ran out, which may
 -- happen at any time

@@ -4,7 +4,7 @@ ghost use Rattle.std.specs.List.{All};
 ghost use Rattle.lk_model.specs.Limits.{is_in_range};
 ghost use Rattle.lk_model.specs.Linear.Rows.{entry};
 ghost use Rattle.exact_rows.specs.Made.{AreInRange};
-ghost use Rattle.exact_rows.specs.Sparse.{AreEntries, IsEntry, entries_of, value_in_column, row_of, turned};
+ghost use Rattle.exact_rows.specs.Sparse.{AreEntries, IsEntry, entries_of, value_in_column, row_of, negated};
 
 use lk_model::{OutOfMemory, Wide};
 use std::alloc::{AllocError, AllocFailed, Global};
@@ -125,10 +125,10 @@ impl SparseRow {
     }
 
     /// Multiplies by -1. It takes no memory.
-    pub fn turn(&mut self)
+    pub fn negate(&mut self)
         ensures { self.new ≡ map neg_ℤ self.old }
     {
-        turn(&mut self.kept);
+        negate(&mut self.kept);
     }
 }
 
@@ -143,9 +143,9 @@ fn entries_of(alloc: Global, row: &[i128]) -> Result<Vec<Entry>, AllocError>
         .collect(alloc)
 }
 
-fn turn(entries: &mut [Entry])
+fn negate(entries: &mut [Entry])
     requires { All IsEntry entries.old }
-    ensures { entries.new ≡ map turned entries.old }
+    ensures { entries.new ≡ map negated entries.old }
 {
     for e in entries.iter_mut() {
         e.value = negative(e.value);

@@ -19,7 +19,7 @@ use Rattle.lk_model.proofs.Rising.{bounded}
 use Rattle.lk_model.proofs.Variables.{occurs, position_with, in_variables}
 use Rattle.lk_model.proofs.ListTests.{one_number, each_number}
 use Rattle.general_laws.proofs.Unblocked.{unblocked}
-use Rattle.refutation_log.specs.Derivation.{are_chains, names_lower}
+use Rattle.refutation_log.specs.Derivation.{IsLog, are_chains, names_lower}
 use Rattle.learning_laws.specs.ModelLaw.{clause_over}
 use Rattle.learning_laws.specs.SolveLaw.{all_learned}
 use Rattle.cdcl_core.specs.Decision.{IsRefutedOver}
@@ -30,7 +30,7 @@ use Rattle.unit_refutations.specs.declared.units.UnitRefutation.{UnitRefutation}
 use Rattle.general_kernel.specs.declared.rounds.Rounds.{Rounds}
 use Rattle.general_kernel.proofs.Names.{used_named}
 use Rattle.general_kernel.proofs.Needed.{round_of}
-use Rattle.general_kernel.proofs.States.{IsAt, goes_on}
+use Rattle.general_kernel.proofs.States.{IsAt, fits, goes_on}
 
 -- the step that states the empty clause
 abbrev empty_step : ℕ → ℕ → List Turn → Step
@@ -160,8 +160,16 @@ same_blocked F u b c e h = subst (λ (x : List Bool). IsKept F x u) (sym e) h
 pub within_same : (part : List ℕ) (u u' : Units) → u'.agenda.inside ≡ u.agenda.inside → IsWithin part u → IsWithin part u'
 within_same part u u' e h = λ p there. h p (ap (λ (x : List Bool). is_in x p) (sym e) ∙ there)
 
+-- what is answered, as a log
+pub unit_log : (over : Crossed) (conflicts : ℕ) (s : Rounds) (r : UnitRefutation) → conflicts < 2 ^ 63 → IsCrossed over → IsUnitRefutation over s.next r
+    → IsAt over.formula.now over.part.now conflicts s → IsLog s.next r.round.steps
+unit_log over conflicts s r most crossed u a =
+    let past : length over.formula.now.clauses < s.next = omega (arith, a.next) in
+    let h = unit_refuted over s.next s.budget r crossed past u in
+    record { derivation = h.round.form; room = omega (arith, h.most, fits over.formula.now over.part.now conflicts s most a) }
+
 -- what a refutation by unit propagation is over
-pub record IsUnitTurn (F : Cnf) (part : List ℕ) (flags : List Bool) (next : ℕ) (r : UnitRefutation) : Type 0 where
+pub record IsUnitRound (F : Cnf) (part : List ℕ) (flags : List Bool) (next : ℕ) (r : UnitRefutation) : Type 0 where
   pub over : Crossed
   pub refuted : IsUnitRefutation over next r
   pub formula : over.formula.now ≡ F
@@ -171,17 +179,17 @@ pub record IsUnitTurn (F : Cnf) (part : List ℕ) (flags : List Bool) (next : �
 -- what is put into the rounds, with the positions that it names
 pub record IsUnitPut (F : Cnf) (s s' : Rounds) (r : UnitRefutation) : Type 0 where
   pub first : s'.first ≡ s.first
-  pub whole : s'.whole ≡ s.whole ++ round_of r.round.steps ∷ []
+  pub logs : s'.logs.items ≡ s.logs.items ++ record { first = s.next; steps = r.round.steps } ∷ []
   pub next : s'.next ≡ s.next + length r.round.steps
   pub budget : s'.budget + length r.round.steps ≡ s.budget + 1
   pub size : length s'.blocked ≡ length s.blocked
   pub blocked : (v : ℕ) → is_in s'.blocked v ≡ (is_in s.blocked v || variable_occurs F r.used v)
 
 -- the rounds go on
-pub unit_turns : (F : Cnf) (part : List ℕ) (conflicts : ℕ) (s s' : Rounds) (r : UnitRefutation) → IsUnitTurn F part s.blocked s.next r
+pub unit_round : (F : Cnf) (part : List ℕ) (conflicts : ℕ) (s s' : Rounds) (r : UnitRefutation) → IsUnitRound F part s.blocked s.next r
     → conflicts < 2 ^ 63 → are_positions F part ≡ true → IsAt F part conflicts s → IsUnitPut F s s' r
     → IsAt F part conflicts s' × (length (unblocked F.vars (is_in s'.blocked)) < length (unblocked F.vars (is_in s.blocked)))
-unit_turns F part conflicts s s' r t most positions a p = at F part t.formula t.positions positions a p
+unit_round F part conflicts s s' r t most positions a p = at F part t.formula t.positions positions a p
   where
     over_it : are_positions t.over.formula.now t.over.part.now ≡ true → IsAt t.over.formula.now t.over.part.now conflicts s → IsUnitPut t.over.formula.now s s' r
         → IsAt t.over.formula.now t.over.part.now conflicts s'
@@ -191,7 +199,7 @@ unit_turns F part conflicts s s' r t most positions a p = at F part t.formula t.
         let past : length t.over.formula.now.clauses < s.next = let n = a.next in omega (arith, n) in
         goes_on t.over conflicts s s' (record { first = s.next; steps = r.round.steps }) most crossed t.blocked a (unit_refuted t.over s.next s.budget r crossed past t.refuted) (record {
           first = p.first;
-          whole = p.whole;
+          logs = p.logs;
           next = p.next;
           budget = p.budget;
           size = p.size;

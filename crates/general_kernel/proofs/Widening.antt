@@ -22,9 +22,8 @@ use Rattle.refutation_log.specs.Derivation.{Derivation, IsDerivation, are_chains
 use Rattle.refutation_log.proofs.ChainNames.{to_chains}
 use Rattle.refutation_log.proofs.InFormLaws.{form_law}
 use Rattle.learning_laws.specs.SolveLaw.{names_filled, all_learned}
-use Rattle.cdcl_core.specs.declared.decided.Decided.{Decided}
-use Rattle.cdcl_core.specs.declared.decided.Decided.TheVariants.{Refuted}
-use Rattle.cdcl_core.specs.Decision.{IsDecided, IsRefutedOver}
+use Rattle.lk_model.specs.declared.decided.Decided.TheVariants.{Refuted}
+use Rattle.cdcl_core.specs.Decision.{Outcome, IsDecided, IsRefutedOver}
 use Rattle.unit_refutations.specs.Agendas.{AreSomeOf}
 use Rattle.general_kernel.specs.ShortRounds.{are_new, IsShortRefutation}
 use Rattle.general_kernel.specs.declared.short.ShortRefutation.{ShortRefutation}
@@ -151,20 +150,20 @@ refuted_wide over short next most budget log s le new h = record {
   most = (let few = h.most in omega (arith, few, le));
 }
 
-pub short_refuted : (over short : Crossed) (next most budget : ℕ) (d : Decided) (log : Derivation) (r : ShortRefutation) → IsPartOf over short → most ≤ budget
+pub short_refuted : (over short : Crossed) (next most budget : ℕ) (d : Outcome) (log : Derivation) (r : ShortRefutation) → IsPartOf over short → most ≤ budget
     → IsDecided short next most d → d ≡ Refuted log → r.round.steps ≡ log.steps → are_new over r.round.steps ≡ true
     → r.used ≡ used_positions short.formula.now (record { steps = log.steps }) → IsShortRefutation over next budget r
 short_refuted over short next most budget d log r s le decided is steps new used = record {
   refuted = subst (λ (us : List Step). IsRefutedOver over next budget (record { first = next; steps = us })) (sym steps)
       (refuted_wide over short next most budget log s le (subst (λ (us : List Step). are_new over us ≡ true) steps new)
-      (subst (λ (x : Decided). IsDecided short next most x) is decided));
+      (subst (λ (x : Outcome). IsDecided short next most x) is decided));
   used = used ∙ ap (λ (G : Cnf). used_positions G (record { steps = log.steps })) s.formula
       ∙ ap (λ (us : List Step). used_positions over.formula.now (record { steps = us })) (sym steps);
 }
 
 -- THE LITERALS OF STEPS
 
-pub short_literals : (over short : Crossed) (next most budget : ℕ) (d : Decided) (log : Derivation) (steps : List Step) → IsPartOf over short → IsCrossed over
+pub short_literals : (over short : Crossed) (next most budget : ℕ) (d : Outcome) (log : Derivation) (steps : List Step) → IsPartOf over short → IsCrossed over
     → is_formula over.formula.now ≡ true → most ≤ budget → next + budget < 2 ^ 64 - 1 → IsDecided short next most d → d ≡ Refuted log → steps ≡ log.steps
     → list_all (λ (s : Step). list_all (is_literal over.formula.now.vars) s.clause) steps ≡ true
 short_literals over short next most budget d log steps s crossed form le room decided is e =
@@ -175,7 +174,7 @@ short_literals over short next most budget d log steps s crossed form le room de
     h.round.past (let first = h.numbered in let few = h.most in omega (arith, room, first, few, le)) h.round.form h.round.chains)))
   where
     h : IsRefutedOver short next most log
-    h = subst (λ (x : Decided). IsDecided short next most x) is decided
+    h = subst (λ (x : Outcome). IsDecided short next most x) is decided
 
     short_crossed : (over short : Crossed) → IsPartOf over short → IsCrossed over → IsCrossed short
     short_crossed over short s crossed = record {

@@ -6,7 +6,7 @@
 //! lean set.
 //!
 //! What unit propagation alone refutes comes first in each round, and then what short clauses refute. Only where
-//! neither does, all clauses of the part are searched, by two orders of the variables that take turns; the one that
+//! neither does, all clauses of the part are searched, by orders of the variables that take turns; the one that
 //! answered begins in the next such search. A refutation is kept with what it uses of it, so that the kernel can be
 //! checked without a search.
 ghost use Rattle.std.specs.Prelude.{◌≡◌, ◌<◌, ◌^◌, length, IfOk, IsTrue};
@@ -18,13 +18,14 @@ ghost use Rattle.general_kernel.specs.Ends.{IsBegun, EndsRounds};
 ghost use Rattle.general_kernel.specs.SetLiterals.{literals_on};
 ghost use Rattle.unit_refutations.specs.Standing.{IsKept, IsWithin};
 
-use crate::blocking::{add_variables, covered, is_covered};
+use crate::blocking::{covered, is_covered};
 use crate::rounds::Rounds;
 use crate::setting::literals_on;
 use crate::short::{ShortRefutation, refute_short};
-use cdcl_core::{Decided, Turns, decide_by_turns};
+use cdcl_core::{Schedule, decide_by_schedule};
 use lk_model::{
-    Budget, Crossed, Formula, General, GeneralResult, List, Lit, OutOfMemory, Round, VarSet,
+    Budget, Crossed, Decided, Formula, General, GeneralResult, List, Lit, OutOfMemory, Round,
+    VarSet,
 };
 use partial_assign::Partial;
 use std::alloc::Global;
@@ -49,7 +50,7 @@ pub fn general_kernel(
             set,
             rounds: rounds.trimmed(alloc)?,
         })),
-        End::Open(round) => Ok(General::Unfinished(rounds.with_open(round)?)),
+        End::Open(round) => Ok(General::Unfinished(rounds.with_open(alloc, round)?)),
     }
 }
 
@@ -71,8 +72,8 @@ fn run(alloc: Global, f: &Formula, part: &[u32], rounds: &mut Rounds) -> Result<
     ensures { IfOk result (EndsRounds f.now part.now rounds.old.budget rounds.new) }
 {
     let mut units = Units::new(alloc, f, part)?;
-    let mut turns = Turns::new();
-    round_after_round(alloc, f, part, &mut units, &mut turns, rounds)
+    let mut schedule = Schedule::new();
+    round_after_round(alloc, f, part, &mut units, &mut schedule, rounds)
 }
 
 // Round after round. What unit propagation alone refutes comes first: it learns nothing, and costs what it uses.
@@ -81,7 +82,7 @@ fn round_after_round(
     f: &Formula,
     part: &[u32],
     units: &mut Units,
-    turns: &mut Turns,
+    schedule: &mut Schedule,
     rounds: &mut Rounds,
 ) -> Result<End, OutOfMemory>
     requires part { IsTrue (are_positions f.now part.now) }
@@ -100,7 +101,7 @@ fn round_after_round(
             blocked: &rounds.blocked,
         };
         if let Some(UnitRefutation { round, used }) = units.refute(alloc, &over, rounds.next)? {
-            rounds.push_round(round)?;
+            rounds.push_round(alloc, round)?;
             units.block(f, used.as_slice(), &mut rounds.blocked)?;
             continue 'rounds;
         }
@@ -113,7 +114,7 @@ fn round_after_round(
             let steps = List::new(alloc);
             return Ok(End::Open(Round { steps }));
         }
-        let so_far = rounds.whole.len();
+        let so_far = rounds.logs.len();
         if let Some(ShortRefutation { round: short, used }) = refute_short(
             alloc,
             &over,
@@ -123,12 +124,12 @@ fn round_after_round(
             so_far,
             &mut again,
         )? {
-            rounds.push_round(short)?;
+            rounds.push_round(alloc, short)?;
             units.block(f, used.as_slice(), &mut rounds.blocked)?;
             continue 'rounds;
         }
-        match decide_by_turns(alloc, &over, turns, rounds.next, rounds.budget)? {
-            Decided::Sat(values) => {
+        match decide_by_schedule(alloc, &over, schedule, rounds.next, rounds.budget)? {
+            Decided::Model(values) => {
                 let kept = covered(alloc, f, part, &rounds.blocked)?;
                 let set = set_of(alloc, f, part, &values)?;
                 return Ok(End::Kernel { kept, set });
@@ -156,6 +157,6 @@ pub fn set_of(
         (λ ls. ls ≡ literals_on (variable_occurs f.now part.now) (assignment_by values.now) f.now.vars) }
 {
     let mut vars = VarSet::new(alloc, f.vars())?;
-    add_variables(f, part, &mut vars);
+    vars.add_clauses(f, part);
     literals_on(alloc, &vars, values)
 }

@@ -12,8 +12,8 @@ ghost use Rattle.lk_model.specs.declared.document.Step.{Step};
 ghost use Rattle.unit_refutations.specs.Standing.{IsKept};
 ghost use Rattle.general_kernel.specs.ShortRounds.{IsShortAnswer, are_new};
 
-use cdcl_core::{Decided, decide};
-use lk_model::{Crossed, List, OutOfMemory, Round, Step};
+use cdcl_core::decide;
+use lk_model::{Crossed, Decided, List, OutOfMemory, Round, Step};
 use std::alloc::Global;
 use unit_refutations::Units;
 
@@ -94,7 +94,7 @@ fn search_short(
             }
             Ok(Some(ShortRefutation { round, used }))
         }
-        Decided::Sat(_) | Decided::Stopped(_) => Ok(None),
+        Decided::Model(_) | Decided::Stopped(_) => Ok(None),
     }
 }
 

@@ -27,14 +27,11 @@ use Rattle.general_laws.specs.GeneralResults.{IsGeneralResult, AreGeneralResults
 use Rattle.general_laws.proofs.OpenResults.{open_result_law}
 use Rattle.autarky_compose.specs.JoinedGeneral.{AreJoinable, AreJoined, all_kept, rounds_behind}
 use Rattle.autarky_compose.proofs.GeneralLaws.{joined_general_law}
-use Rattle.part_formula.specs.Decisions.{IsDecision, IsPartModel, IsPartRefuted, sets_only}
-use Rattle.part_formula.specs.declared.deciding.Decision.{Decision}
-use Rattle.part_formula.specs.declared.deciding.Decision.TheVariants.{Model, Refuted, Stopped}
+use Rattle.part_formula.specs.Decisions.{Decision, IsDecision, IsPartModel, IsPartRefuted, sets_only}
+use Rattle.lk_model.specs.declared.decided.Decided.TheVariants.{Model, Refuted, Stopped}
 use Rattle.kernel_solve.specs.KernelParts.{IsFilledPart, IsKernelPart, told, AreKernelParts, AreMatchingParts, AreKernelModels, IsJoinedModel}
 use Rattle.kernel_solve.specs.Answers.{Answer, AreAnswers, AreNotRefuted, IsFirstRefutation, IsFirstStop, IsAmongAnswers, models}
 use Rattle.kernel_solve.specs.Solutions.{IsTotalModel, IsNotRefuted, IsRefutedWithin, IsUndecidedWithin, IsSolved}
-use Rattle.kernel_solve.specs.declared.solving.Solved.{Solved}
-use Rattle.kernel_solve.specs.declared.solving.Solved.TheVariants as solved
 use Rattle.kernel_solve.proofs.EmptyClauses.{filled_at}
 use Rattle.kernel_solve.proofs.ModelLaws.{kernel_of, model_law}
 use Rattle.kernel_solve.proofs.OpenRounds.{open_sound}
@@ -231,11 +228,11 @@ stopped F r list conflicts answers round most h all c =
       };
     }
 
-pub solved_by : (F : Cnf) (r : MatchingResult) (list : List (List ℕ)) (conflicts : ℕ) (answers : List Answer) (solved : Solved) → conflicts < 2 ^ 63 → IsSearched F r list
+pub solved_by : (F : Cnf) (r : MatchingResult) (list : List (List ℕ)) (conflicts : ℕ) (answers : List Answer) (solved : Decision) → conflicts < 2 ^ 63 → IsSearched F r list
     → AreAnswers F conflicts list answers → IsAmongAnswers answers solved → IsSolved F conflicts solved
-solved_by F r list conflicts answers (solved.Model lits) most h all c = absurd c
-solved_by F r list conflicts answers (solved.Refuted round) most h all c = refuted F r list conflicts answers round h all c
-solved_by F r list conflicts answers (solved.Unfinished round) most h all c = stopped F r list conflicts answers round most h all c
+solved_by F r list conflicts answers (Model lits) most h all c = absurd c
+solved_by F r list conflicts answers (Refuted round) most h all c = refuted F r list conflicts answers round h all c
+solved_by F r list conflicts answers (Stopped round) most h all c = stopped F r list conflicts answers round most h all c
 
 -- MODELS OF ALL PARTS
 

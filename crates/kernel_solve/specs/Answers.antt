@@ -3,11 +3,8 @@ use Rattle.std.specs.Prelude.{◌≡◌, ℕ, List, [], ◌∷◌, ◌++◌, ⊤
 use Rattle.lk_model.specs.Formulas.Formula.{Cnf}
 use Rattle.lk_model.specs.declared.document.Round.{Round}
 use Rattle.lk_model.specs.declared.list.OutOfMemory.{OutOfMemory}
-use Rattle.part_formula.specs.Decisions.{IsDecision}
-use Rattle.part_formula.specs.declared.deciding.Decision.{Decision}
-use Rattle.part_formula.specs.declared.deciding.Decision.TheVariants as decision
-use Rattle.kernel_solve.specs.declared.solving.Solved.{Solved}
-use Rattle.kernel_solve.specs.declared.solving.Solved.TheVariants.{Model, Refuted, Unfinished}
+use Rattle.part_formula.specs.Decisions.{Decision, IsDecision}
+use Rattle.lk_model.specs.declared.decided.Decided.TheVariants.{Model, Refuted, Stopped}
 
 abbrev pub Answer : Type 0
 Answer = Result Decision OutOfMemory
@@ -20,34 +17,34 @@ AreAnswers F conflicts _ _ = ⊥
 
 -- the answers that these models are
 abbrev pub models : List (List ℤ) → List Answer
-models sets = map (λ (lits : List ℤ). Ok (decision.Model lits)) sets
+models sets = map (λ (lits : List ℤ). Ok (Model lits)) sets
 
 -- each is a model, or a round that stopped
 abbrev pub AreNotRefuted : List Answer → Type 0
 AreNotRefuted [] = ⊤
-AreNotRefuted (Ok (decision.Model lits) ∷ answers) = AreNotRefuted answers
-AreNotRefuted (Ok (decision.Stopped r) ∷ answers) = AreNotRefuted answers
+AreNotRefuted (Ok (Model lits) ∷ answers) = AreNotRefuted answers
+AreNotRefuted (Ok (Stopped r) ∷ answers) = AreNotRefuted answers
 AreNotRefuted _ = ⊥
 
 -- the first refutation: before it stand models and rounds that stopped
 pub record IsFirstRefutation (answers : List Answer) (r : Round) : Type 0 where
   pub before : List Answer
   pub behind : List Answer
-  pub answers_are : answers ≡ before ++ Ok (decision.Refuted r) ∷ behind
+  pub answers_are : answers ≡ before ++ Ok (Refuted r) ∷ behind
   pub others : AreNotRefuted before
 
 -- without a refutation, the first round that stopped: before it stand models
 pub record IsFirstStop (answers : List Answer) (r : Round) : Type 0 where
   pub before : List (List ℤ)
   pub behind : List Answer
-  pub answers_are : answers ≡ models before ++ Ok (decision.Stopped r) ∷ behind
+  pub answers_are : answers ≡ models before ++ Ok (Stopped r) ∷ behind
   pub others : AreNotRefuted behind
 
 -- the first refutation, or where there is none the first round that stopped
-abbrev pub IsAmongAnswers : List Answer → Solved → Type 0
+abbrev pub IsAmongAnswers : List Answer → Decision → Type 0
 IsAmongAnswers answers (Model lits) = ⊥
 IsAmongAnswers answers (Refuted r) = IsFirstRefutation answers r
-IsAmongAnswers answers (Unfinished r) = IsFirstStop answers r
+IsAmongAnswers answers (Stopped r) = IsFirstStop answers r
 
 -- of some answers without a refutation: models as long as no round stopped, and then the first round that did
 abbrev pub IsGatheredSoFar : List Answer → List (List ℤ) → Option Round → Type 0

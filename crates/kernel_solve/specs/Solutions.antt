@@ -12,12 +12,12 @@ use Rattle.lk_model.specs.Chains.Rounds.{is_trimmed, names_within, empty_round}
 use Rattle.lk_model.specs.Chains.Searches.{WantsMore}
 use Rattle.lk_model.specs.Checks.RoundChecks.{learned_steps, IsRefutation}
 use Rattle.lk_model.specs.Checks.Checks.{IsSound, HasProgress}
+use Rattle.lk_model.specs.declared.decided.Decided.TheVariants.{Model, Refuted, Stopped}
 use Rattle.lk_model.specs.declared.document.Round.{Round}
 use Rattle.general_laws.specs.Found as found
 use Rattle.general_laws.specs.OpenResults.{IsOpenResult, open_document}
+use Rattle.part_formula.specs.Decisions.{Decision}
 use Rattle.kernel_solve.specs.KernelParts.{IsKernelPart, AreMatchingParts}
-use Rattle.kernel_solve.specs.declared.solving.Solved.{Solved}
-use Rattle.kernel_solve.specs.declared.solving.Solved.TheVariants.{Model, Refuted, Unfinished}
 
 -- a literal for each variable, ascending, and together they satisfy each clause
 pub record IsTotalModel (F : Cnf) (lits : List ℤ) : Type 0 where
@@ -69,7 +69,7 @@ pub record IsUndecidedWithin (F : Cnf) (conflicts : ℕ) (r : Round) : Type 0 wh
   pub part : List ℕ
   pub stops : StopsIn F conflicts part r
 
-abbrev pub IsSolved : Cnf → ℕ → Solved → Type 0
+abbrev pub IsSolved : Cnf → ℕ → Decision → Type 0
 IsSolved F conflicts (Model lits) = IsTotalModel F lits
 IsSolved F conflicts (Refuted r) = IsRefutedWithin F conflicts r
-IsSolved F conflicts (Unfinished r) = IsUndecidedWithin F conflicts r
+IsSolved F conflicts (Stopped r) = IsUndecidedWithin F conflicts r

@@ -6,8 +6,7 @@ ghost use Rattle.part_formula.specs.Decisions.{IsDecision};
 ghost use Rattle.kernel_solve.specs.KernelParts.{IsFilledPart};
 ghost use Rattle.kernel_solve.specs.Answers.{AreAnswers, IsAmongAnswers, models};
 
-use crate::solving::Solved;
-use lk_model::{Budget, Formula, List, Lit, OutOfMemory, Round};
+use lk_model::{Budget, Decided, Formula, List, Lit, OutOfMemory, Round};
 use par_parts::{Gate, map_halves};
 use part_formula::{Decision, decide_part};
 use std::alloc::Global;
@@ -57,20 +56,20 @@ fn decision_of(
 pub(crate) fn gather(
     alloc: Global,
     answers: List<Result<Decision, OutOfMemory>>,
-) -> Result<ControlFlow<Solved, List<List<Lit>>>, OutOfMemory>
+) -> Result<ControlFlow<Decision, List<List<Lit>>>, OutOfMemory>
     ensures { IfOk result (λ flow. MatchControlFlow flow (λ sets. answers ≡ models sets) (IsAmongAnswers answers)) }
 {
     let mut models = List::new(alloc);
     let mut stopped = None;
     for answer in answers.into_vec() {
         match answer? {
-            Decision::Model(model) => models.push(model)?,
-            Decision::Refuted(round) => return Ok(ControlFlow::Break(Solved::Refuted(round))),
-            Decision::Stopped(round) => stopped = Some(first_of(stopped, round)),
+            Decided::Model(model) => models.push(model)?,
+            Decided::Refuted(round) => return Ok(ControlFlow::Break(Decided::Refuted(round))),
+            Decided::Stopped(round) => stopped = Some(first_of(stopped, round)),
         }
     }
     match stopped {
-        Some(round) => Ok(ControlFlow::Break(Solved::Unfinished(round))),
+        Some(round) => Ok(ControlFlow::Break(Decided::Stopped(round))),
         None => Ok(ControlFlow::Continue(models)),
     }
 }

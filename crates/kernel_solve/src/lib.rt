@@ -9,4 +9,4 @@ mod model;
 mod solving;
 
 pub use laws::{model_law, refutation_law};
-pub use solving::{Solved, solve};
+pub use solving::solve;

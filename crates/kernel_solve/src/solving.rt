@@ -12,30 +12,23 @@ use crate::deciding::{decisions, gather};
 use crate::empty_clause::{empty_round, first_empty};
 use crate::kernel_parts::kernel_parts;
 use crate::model::model_of;
-use lk_model::{Budget, Formula, List, Lit, OutOfMemory, Round};
+use lk_model::{Budget, Decided, Formula, OutOfMemory};
 use par_parts::Gate;
+use part_formula::Decision;
 use part_kernels::matching_by_parts;
 use std::alloc::Global;
 use std::marker::Sync;
 use std::ops::ControlFlow;
 use std::thread::Threads;
 
-/// What is found of a formula.
-#[derive(Drop)]
-pub enum Solved {
-    /// A literal for each variable, ascending, which together satisfy each clause.
-    Model(List<Lit>),
-    /// A refutation: each step states the clause of its chain, the last one the empty clause. No step is needless.
-    Refuted(Round),
-    /// An open round of as many learned clauses as were allowed, which is not at its end.
-    Unfinished(Round),
-}
-
 /// Whether a formula has a model, by at most so many learned clauses for each part of its matching kernel, and at
 /// most so many threads. Steps are numbered from the formula's number of clauses plus 1. An empty clause refutes
 /// by itself: then the answer is the one step of the first such clause. Else, in the order of the parts, the first
 /// refuted one gives the refutation, and without one the first that stopped gives the open round. So it ends
 /// unfinished only if the budget is below 3^n, for the n variables of the formula.
+///
+/// A model is a literal for each variable, ascending. Of a refutation no step is needless. An open round has as many
+/// learned clauses as were allowed, and is not at its end.
 ///
 /// With two workers or more, two parts of the formula or more are worked on in halves: the left half enters the
 /// gate as 0 and the right one as 1, each before its matching kernel is looked for. So it is again with the parts
@@ -49,12 +42,12 @@ pub fn solve<R: Threads + Sync, G: Gate>(
     f: &Formula,
     conflicts: Budget,
     workers: u32,
-) -> Result<Solved, OutOfMemory>
+) -> Result<Decision, OutOfMemory>
     requires workers { 1 ≤ workers }
     ensures { IfOk result (IsSolved f.now conflicts) }
 {
     if let Some(position) = first_empty(f) {
-        return Ok(Solved::Refuted(empty_round(alloc, f, position)?));
+        return Ok(Decided::Refuted(empty_round(alloc, f, position)?));
     }
     // The document of an open round states in 63 bits how many clauses it learned. No budget is more.
     let _most = conflicts.get();
@@ -62,7 +55,7 @@ pub fn solve<R: Threads + Sync, G: Gate>(
     let parts = kernel_parts(alloc, f, found.kept.as_slice())?;
     let decided = decisions(rt, alloc, gate, f, parts.as_slice(), conflicts, workers)?;
     match gather(alloc, decided)? {
-        ControlFlow::Continue(models) => Ok(Solved::Model(model_of(alloc, f, &found, models)?)),
-        ControlFlow::Break(solved) => Ok(solved),
+        ControlFlow::Continue(models) => Ok(Decided::Model(model_of(alloc, f, &found, models)?)),
+        ControlFlow::Break(decided) => Ok(decided),
     }
 }

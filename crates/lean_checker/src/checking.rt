@@ -20,7 +20,7 @@ use crate::shared::{kept_clause, not_autarky, not_exactly_removed};
 use crate::unfinished::open_failure;
 use crate::verdict::Verdict;
 use check_linear::{bad_balance, bad_dual, bad_sign, bad_stage, bad_unit};
-use check_lines::{bad_order, bad_owner, bad_pair, bad_row};
+use check_pure_matching::{bad_order, bad_owner, bad_pair, bad_row};
 use check_tables::Workers;
 use lk_model::{
     Body, Document, DoneDocument, Dual, Formula, Kind, Lit, MatchRow, OutOfMemory, Own, Pair,

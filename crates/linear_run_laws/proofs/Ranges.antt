@@ -18,7 +18,7 @@ use Rattle.lk_model.specs.declared.wide.Wide.{Wide}
 use Rattle.lk_model.proofs.Keys.{first_in, later_in}
 use Rattle.exact_rows.specs.Made.{mixed}
 use Rattle.exact_rows.proofs.Wides.{mixed_in_range}
-use Rattle.exact_rows.proofs.Entries.{turned-in_range as negated_in_range}
+use Rattle.exact_rows.proofs.Entries.{negated-in_range as negated_in_range}
 use Rattle.exact_pivot.specs.Reached.{IsRowOf}
 use Rattle.exact_pivot.specs.Small.{AreSmall}
 use Rattle.exact_pivot.proofs.Divided.{primitive_divided}

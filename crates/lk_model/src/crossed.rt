@@ -103,6 +103,17 @@ impl VarSet {
         self.flags[v as usize - 1] = false;
     }
 
+    /// Takes the variables of a clause out.
+    pub fn remove_clause(&mut self, clause: &[Lit])
+        requires { IsTrue (list_all (is_literal (length self.old)) clause.now) }
+        ensures size { length self.new ≡ length self.old }
+        ensures vars { (v : ℕ) → is_in self.new v ≡ (is_in self.old v && not (mentions clause.now v)) }
+    {
+        for l in clause {
+            self.remove(l.var());
+        }
+    }
+
     /// Whether it has a variable.
     pub fn has(&self, v: u32) -> bool
         requires first { 0 < v }

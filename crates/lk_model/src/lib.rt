@@ -5,6 +5,7 @@ mod answer;
 mod budget;
 mod class;
 mod crossed;
+mod decided;
 mod document;
 mod formula;
 mod laws;
@@ -22,6 +23,7 @@ pub use answer::Answer;
 pub use budget::Budget;
 pub use class::Class;
 pub use crossed::{Crossed, VarSet};
+pub use decided::Decided;
 pub use document::{
     Body, Document, DoneDocument, Dual, MatchRow, MusAnswer, OpenDocument, Own, Pair, Round, Share,
     Stage, Step, Turn, Unit, Weight, Without,

@@ -4,3 +4,4 @@ pub mod Shrunk
 pub mod Rooms
 pub mod Edited
 pub mod LiveKernels
+pub mod Covered

@@ -18,7 +18,7 @@ use crate::parts::{
     go_unmatched, has_room, index_of, let_go, number_at_index, take_up, well_formed,
 };
 use crate::stop::EditStop;
-use bipartite_match::{Matching, Steps, maximum, reach};
+use bipartite_match::{Matching, Steps, maximum, reach, reached_positions};
 use lk_model::{Formula, List, Lit, OutOfMemory};
 use matching_kernel::reached_law;
 use std::alloc::Global;
@@ -131,5 +131,16 @@ impl Live {
         reached_law();
         let reached = reach(alloc, &self.held, self.live.as_slice(), &self.m)?;
         Ok(reached.kept)
+    }
+    /// The same numbers, by a search that marks what it visits in the matching. So it costs the clauses of the kernel,
+    /// and not a table of all variables; what is live does not change.
+    pub fn kernel_by_marks(&mut self, alloc: Global) -> Result<List<u32>, OutOfMemory>
+        ensures kernel { IfOk result (λ numbers. IsLiveKernel self.old numbers) }
+        ensures largest { IfOk result (λ numbers. KernelWithin TheMatching self.old.held self.old.live numbers) }
+        ensures same { self.new ≡ self.old }
+    {
+        well_formed(&self.held);
+        reached_law();
+        reached_positions(alloc, &self.held, self.live.as_slice(), &mut self.m)
     }
 }

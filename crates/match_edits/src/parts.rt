@@ -128,8 +128,51 @@ pub fn go_unmatched(live: &mut List<u32>, m: &mut Matching, index: usize, number
     }
 }
 
-/// A clause goes that has a variable, and this looks for another clause. Without memory all is as it was.
+/// A clause goes that has a variable, and this looks for another clause. Where each clause has one there is none to look
+/// for. Without memory all is as it was.
 pub fn let_go<L>(
+    alloc: Global,
+    held: &Formula,
+    live: &mut List<u32>,
+    m: &mut Matching,
+    index: usize,
+    steps: &mut Steps<L>,
+) -> Result<(), OutOfMemory>
+    requires inside { index < length live.old }
+    requires live { IsLive held.now live.old m.old }
+    requires matched { slice_index m.old.of_clause index ≢ 0 }
+    requires restored { RestoredBy held.now (remove live.old index) (without_matched m.old index)
+        (Variable (slice_index m.old.of_clause index)) }
+    ensures ok { OnOk result (live.new ≡ remove live.old index) }
+    ensures live { OnOk result (IsLive held.now live.new m.new) }
+    ensures live_err { OnErr result (live.new ≡ live.old) }
+    ensures matching_err { OnErr result (m.new ≡ m.old) }
+    ensures step { steps.new ≤ steps.old + 1 }
+{
+    if m.unmatched.len() == 0 {
+        go_matched(live, m, index);
+        return Ok(());
+    }
+    let_go_by_search(alloc, held, live, m, index, steps)
+}
+
+// A clause goes that has a variable, which is free then. It takes no search and no memory.
+fn go_matched(live: &mut List<u32>, m: &mut Matching, index: usize)
+    requires inside { index < length live.old }
+    requires clauses { length m.old.of_clause ≡ length live.old }
+    requires some { slice_index m.old.of_clause index ≢ 0 }
+    requires variable { slice_index m.old.of_clause index ≤ length m.old.of_var }
+    ensures live { live.new ≡ remove live.old index }
+    ensures matching { m.new ≡ without_matched m.old index }
+{
+    let v = number_at_index(m.of_clause.as_slice(), index);
+    let _number = live.remove(index);
+    let _v = m.of_clause.remove(index);
+    m.of_var.set(v as usize - 1, 0);
+}
+
+// The same by a search.
+fn let_go_by_search<L>(
     alloc: Global,
     held: &Formula,
     live: &mut List<u32>,

@@ -7,3 +7,4 @@ pub mod ShrunkCores
 pub mod ToldCores
 pub mod Answered
 pub mod Beginning
+pub mod PartModels

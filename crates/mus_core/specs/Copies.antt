@@ -1,14 +1,15 @@
 -- Clauses of a formula, decided in a copy under numbers of its own.
-use Rattle.std.specs.Prelude.{ℕ, map, IsTrue}
+use Rattle.std.specs.Prelude.{ℕ, ℤ, List, map, IsTrue}
 use Rattle.lk_model.specs.Formulas.Formula.{positions_of}
 use Rattle.lk_model.specs.Formulas.Lean.{are_positions}
 use Rattle.lk_model.specs.Checks.RoundChecks.{IsRefutation}
+use Rattle.lk_model.specs.declared.decided.Decided.{Decided}
+use Rattle.lk_model.specs.declared.decided.Decided.TheVariants.{Model, Refuted, Stopped}
 use Rattle.renaming_laws.specs.Renaming.{IsDense, nth}
 use Rattle.part_formula.specs.Decisions.{are_filled, IsPartModel}
 use Rattle.mus_core.specs.declared.deciding.Copied.{Copied}
 use Rattle.mus_core.specs.declared.deciding.Refutation.{Refutation}
-use Rattle.mus_core.specs.declared.deciding.Decided.{Decided}
-use Rattle.mus_core.specs.declared.deciding.Decided.TheVariants.{Model, Refuted, Stopped}
+use Rattle.mus_core.specs.declared.deciding.Open.{Open}
 use Rattle.mus_core.specs.Found.{IsStoppedAt}
 
 -- the clauses at the positions, of which none is empty, and their copy
@@ -23,7 +24,7 @@ pub record IsRefutedWithin (c : Copied) (r : Refutation) : Type 0 where
   pub refuted : IsRefutation c.formula.now (map (nth c.part.now) r.places) r.round
 
 -- a model of the copy, a refutation of some clauses, or as many learned clauses as were allowed
-abbrev pub IsDecided : Copied → ℕ → Decided → Type 0
+abbrev pub IsDecided : Copied → ℕ → Decided (List ℤ) Refutation Open → Type 0
 IsDecided c conflicts (Model lits) = IsPartModel c.clauses.now (positions_of c.clauses.now) lits
 IsDecided c conflicts (Refuted r) = IsRefutedWithin c r
 IsDecided c conflicts (Stopped told) = IsStoppedAt c.formula.now conflicts c.part.now told.texts told.round

@@ -4,3 +4,4 @@ pub mod Copies
 pub mod WitnessValues
 pub mod Rotations
 pub mod Shrinking
+pub mod ByParts

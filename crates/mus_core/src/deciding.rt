@@ -10,9 +10,9 @@ ghost use Rattle.mus_core.specs.Found.{IsStoppedAt};
 ghost use Rattle.mus_core.specs.Copies.{IsCopy, IsDecided, IsRefutedWithin};
 
 use crate::named::named_positions;
-use cdcl_core::Turns;
-use lk_model::{Budget, Formula, List, Lit, OutOfMemory, Round};
-use part_formula::{Decision, Renaming, decide_clauses};
+use cdcl_core::Schedule;
+use lk_model::{Budget, Decided, Formula, List, Lit, OutOfMemory, Round};
+use part_formula::{Renaming, decide_clauses};
 use std::alloc::Global;
 
 /// The clauses of a formula at some positions, and a copy of them, whose variables are the places of their names.
@@ -38,31 +38,20 @@ pub(crate) struct Open {
     pub round: Round,
 }
 
-/// What is decided of the clauses.
-#[derive(Drop)]
-pub(crate) enum Decided {
-    /// Literals, in the copy's numbers, that satisfy each clause.
-    Model(List<Lit>),
-    /// A refutation of some of them.
-    Refuted(Refutation),
-    /// As many learned clauses as were allowed, where the search is not at its end.
-    Stopped(Open),
-}
-
-/// Decides the clauses of which a copy was made.
+/// Decides the clauses of which a copy was made. A model consists of literals in the copy's numbers.
 pub(crate) fn decide_copy(
     alloc: Global,
     of: &Copied,
-    turns: &mut Turns,
+    schedule: &mut Schedule,
     conflicts: Budget,
-) -> Result<Decided, OutOfMemory>
+) -> Result<Decided<List<Lit>, Refutation, Open>, OutOfMemory>
     requires { IsCopy of.now }
     ensures { IfOk result (IsDecided of.now conflicts) }
 {
-    match decide_clauses(alloc, of.clauses, turns, conflicts)? {
-        Decision::Model(set) => Ok(Decided::Model(set)),
-        Decision::Refuted(round) => Ok(Decided::Refuted(tell_refutation(alloc, of, round)?)),
-        Decision::Stopped(round) => Ok(Decided::Stopped(tell_open(alloc, of, round)?)),
+    match decide_clauses(alloc, of.clauses, schedule, conflicts)? {
+        Decided::Model(set) => Ok(Decided::Model(set)),
+        Decided::Refuted(round) => Ok(Decided::Refuted(tell_refutation(alloc, of, round)?)),
+        Decided::Stopped(round) => Ok(Decided::Stopped(tell_open(alloc, of, round)?)),
     }
 }
 

@@ -1,6 +1,7 @@
 //! Minimally unsatisfiable cores.
 #![tactic(auto)]
 
+mod by_parts;
 mod deciding;
 mod mus;
 mod named;

@@ -1,22 +1,21 @@
 //! A minimally unsatisfiable core of a formula, or a model of it.
 ghost use Rattle.std.specs.Prelude.{◌≡◌, length, IfOk, IsTrue};
 ghost use Rattle.lk_model.specs.Lists.{rises_within};
-ghost use Rattle.lk_model.specs.Formulas.Formula.{is_formula, positions_of};
-ghost use Rattle.lk_model.specs.Formulas.Lean.{are_positions};
+ghost use Rattle.lk_model.specs.Formulas.Formula.{positions_of};
 ghost use Rattle.lk_model.specs.Checks.RoundChecks.{IsRefutation};
-ghost use Rattle.part_formula.specs.Decisions.{are_filled, IsDecision, IsPartModel};
+ghost use Rattle.part_formula.specs.Decisions.{are_filled, IsPartModel};
 ghost use Rattle.renaming_laws.specs.Renaming.{IsDense};
 ghost use Rattle.mus_core.specs.Named.{names_only};
 ghost use Rattle.mus_core.specs.Found.{IsMus, IsWholeModel, TakesEmpty};
 
+use crate::by_parts::decide_by_parts;
 use crate::deciding::{Copied, Refutation};
 use crate::mus::Mus;
 use crate::named::named_positions;
 use crate::shrinking::shrink;
-use cdcl_core::Turns;
 use empty_clauses::{empty_core, first_empty};
-use lk_model::{Budget, Formula, List, Lit, OutOfMemory, Round};
-use part_formula::{Decision, decide_part_by, dense_formula, names_of};
+use lk_model::{Budget, Decided, Formula, List, Lit, OutOfMemory, Round};
+use part_formula::{dense_formula, names_of};
 use partial_assign::{Partial, assignment_of, extend_total};
 use std::alloc::Global;
 
@@ -36,33 +35,14 @@ pub fn minimal(alloc: Global, f: &Formula, conflicts: Budget) -> Result<Mus, Out
 
 // Where no clause is empty.
 fn minimal_of_filled(alloc: Global, f: &Formula, conflicts: Budget) -> Result<Mus, OutOfMemory>
-    requires formula { IsTrue (is_formula f.now) }
-    requires filled { IsTrue (are_filled f.now (positions_of f.now)) }
+    requires { IsTrue (are_filled f.now (positions_of f.now)) }
     ensures { IfOk result (IsMus f.now conflicts) }
 {
-    let part = f.positions(alloc)?;
-    match decide_by_all_orders(alloc, f, part.as_slice(), conflicts)? {
-        Decision::Model(set) => Ok(Mus::Model(whole_model(alloc, f, set.as_slice())?)),
-        Decision::Refuted(round) => minimal_of_refuted(alloc, f, round, conflicts),
-        Decision::Stopped(round) => {
-            let texts = f.clauses_at(alloc, part.as_slice())?;
-            Ok(Mus::Unfinished { part, texts, round })
-        }
+    match decide_by_parts(alloc, f, conflicts)? {
+        Decided::Model(set) => Ok(Mus::Model(whole_model(alloc, f, set.as_slice())?)),
+        Decided::Refuted(round) => minimal_of_refuted(alloc, f, round, conflicts),
+        Decided::Stopped(mus) => Ok(mus),
     }
-}
-
-// What a decision answers by all orders of variables, which take turns.
-fn decide_by_all_orders(
-    alloc: Global,
-    f: &Formula,
-    part: &[u32],
-    conflicts: Budget,
-) -> Result<Decision, OutOfMemory>
-    requires part { IsTrue (are_positions f.now part.now) }
-    requires filled { IsTrue (are_filled f.now part.now) }
-    ensures { IfOk result (IsDecision f.now part.now conflicts) }
-{
-    decide_part_by(alloc, f, part, &mut Turns::of_all_orders(), conflicts)
 }
 
 // A literal for each variable, negative where the model has none.

@@ -15,20 +15,20 @@ ghost use Rattle.mus_core.specs.Copies.{IsCopy, IsRefutedWithin};
 ghost use Rattle.mus_core.specs.Found.{IsMus};
 ghost use Rattle.mus_core.specs.Shrinking.{IsNext, IsShrunk, IsLeftOut};
 
-use crate::deciding::{Copied, Decided, Refutation, decide_copy};
+use crate::deciding::{Copied, Refutation, decide_copy};
 use crate::mus::Mus;
 use crate::rotation::give;
 use crate::told_core::told_core;
 use crate::witnesses::{Witnesses, first_open};
-use cdcl_core::Turns;
-use lk_model::{Budget, Formula, List, OutOfMemory};
+use cdcl_core::Schedule;
+use lk_model::{Budget, Decided, Formula, List, OutOfMemory};
 use occurrence_lists::OccurrenceLists;
 use part_formula::nth;
 use partial_assign::assignment_of;
 use std::alloc::Global;
 
 /// How many clauses each order of variables learns in a turn of a decision.
-const TURN: u64 = 300;
+const SLICE: u64 = 300;
 
 /// Leaves out clauses of a refuted set until each has a witness.
 pub(crate) fn shrink(
@@ -48,7 +48,7 @@ pub(crate) fn shrink(
         &tables.lists,
         refutation,
         &mut tables.witnesses,
-        &mut tables.turns,
+        &mut tables.schedule,
         conflicts,
     )
 }
@@ -58,7 +58,7 @@ pub(crate) fn shrink(
 pub(crate) struct Tables {
     pub lists: OccurrenceLists,
     pub witnesses: Witnesses,
-    pub turns: Turns,
+    pub schedule: Schedule,
 }
 
 impl Tables {
@@ -69,11 +69,11 @@ impl Tables {
     {
         let lists = OccurrenceLists::new(alloc, clauses)?;
         let witnesses = Witnesses::new(alloc, clauses.len())?;
-        let turns = Turns::keeping(alloc, clauses.vars(), TURN, TURN)?;
+        let schedule = Schedule::keeping(alloc, clauses.vars(), SLICE, SLICE)?;
         Ok(Tables {
             lists,
             witnesses,
-            turns,
+            schedule,
         })
     }
 }
@@ -85,7 +85,7 @@ fn shrink_by(
     lists: &OccurrenceLists,
     refutation: Refutation,
     witnesses: &mut Witnesses,
-    turns: &mut Turns,
+    schedule: &mut Schedule,
     conflicts: Budget,
 ) -> Result<Mus, OutOfMemory>
     requires copy { IsCopy core.now }
@@ -94,7 +94,7 @@ fn shrink_by(
     ensures { IfOk result (IsMus core.now.formula.now conflicts) }
 {
     let mut refutation = refutation;
-    'turns: loop {
+    'clauses: loop {
         match first_open(refutation.places.as_slice(), witnesses) {
             None => {
                 let found = told_core(alloc, core, refutation, witnesses)?;
@@ -107,7 +107,7 @@ fn shrink_by(
                     lists,
                     &refutation,
                     witnesses,
-                    turns,
+                    schedule,
                     p,
                     conflicts,
                 )? {
@@ -138,7 +138,7 @@ fn leave_out(
     lists: &OccurrenceLists,
     refutation: &Refutation,
     witnesses: &mut Witnesses,
-    turns: &mut Turns,
+    schedule: &mut Schedule,
     p: u32,
     conflicts: Budget,
 ) -> Result<LeftOut, OutOfMemory>
@@ -157,7 +157,7 @@ fn leave_out(
         names: core.names,
         clauses: &clauses,
     };
-    match decide_copy(alloc, &rest, turns, conflicts)? {
+    match decide_copy(alloc, &rest, schedule, conflicts)? {
         Decided::Model(set) => {
             let values = assignment_of(alloc, clauses.vars(), set.as_slice())?;
             let places = refutation.places.as_slice();

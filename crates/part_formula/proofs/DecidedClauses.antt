@@ -22,9 +22,8 @@ use Rattle.refutation_log.specs.Numbers.{is_named}
 use Rattle.refutation_log.proofs.ChainNames.{names_stand, stands_at, state_clauses, from_chains}
 use Rattle.refutation_log.specs.Trimmed.{trimmed, TrimsTo, names_positions_below}
 use Rattle.refutation_log.proofs.TrimmedLaws.{trimmed_law}
-use Rattle.cdcl_core.specs.Decision.{IsDecided, IsModelOver, IsRefutedOver, IsStoppedOver}
-use Rattle.cdcl_core.specs.declared.decided.Decided.{Decided}
-use Rattle.cdcl_core.specs.declared.decided.Decided.TheVariants.{Sat, Refuted, Stopped}
+use Rattle.cdcl_core.specs.Decision.{Outcome, IsDecided, IsModelOver, IsRefutedOver, IsStoppedOver}
+use Rattle.lk_model.specs.declared.decided.Decided.TheVariants.{Model, Refuted, Stopped}
 use Rattle.general_laws.specs.Found.{has_only, covered, IsUnfinished}
 use Rattle.general_kernel.specs.SetLiterals.{literals_on}
 use Rattle.general_kernel.proofs.Names.{names_below, named_in}
@@ -32,7 +31,7 @@ use Rattle.general_kernel.proofs.Results.{sets_model, unfinished}
 use Rattle.general_kernel.proofs.Undecided.{undecided}
 use Rattle.general_kernel.proofs.Needed.{round_of}
 use Rattle.general_kernel.proofs.States.{AreWhole, AreTrimmed, GoesOn, no_trimmed, no_whole, steps_go_on, stated_go_on, learned_go_on, trimmed_more, learned_more, count_whole}
-use Rattle.general_kernel.proofs.Turns.{IsTurn, refuted}
+use Rattle.general_kernel.proofs.NextRounds.{IsNextRound, refuted}
 use Rattle.general_laws.proofs.PartResults.{no_rounds}
 use Rattle.part_formula.specs.Decisions.{are_filled, IsPartModel, IsPartRefuted}
 
@@ -44,8 +43,8 @@ not_covered F [] e = absurd (let g : ⊥ = cc in g)
 not_covered F (l ∷ c) e = rw (none_in F.vars (variable l)) refl
 
 -- what is decided of all clauses
-pub record IsFirst (F : Cnf) (part : List ℕ) (conflicts : ℕ) (d : Decided) : Type 0 where
-  pub turn : IsTurn F part (replicate F.vars false) (length F.clauses + 1) conflicts d
+pub record IsFirst (F : Cnf) (part : List ℕ) (conflicts : ℕ) (d : Outcome) : Type 0 where
+  pub next : IsNextRound F part (replicate F.vars false) (length F.clauses + 1) conflicts d
   pub form : is_formula F ≡ true
   pub limits : IsWithinLimits F
   pub positions : are_positions F part ≡ true
@@ -72,30 +71,30 @@ model_over over values lits form blocked filled h set =
           (not_covered F (clause_at F p) (one_number (λ p. not (is_empty (clause_at F p))) part p filled inside)));
     }
 
-pub model_found : (F : Cnf) (part : List ℕ) (conflicts : ℕ) (d : Decided) (values : List (Option Bool)) (lits : List ℤ) → IsFirst F part conflicts d → d ≡ Sat values
+pub model_found : (F : Cnf) (part : List ℕ) (conflicts : ℕ) (d : Outcome) (values : List (Option Bool)) (lits : List ℤ) → IsFirst F part conflicts d → d ≡ Model values
     → are_filled F part ≡ true → lits ≡ literals_on (variable_occurs F part) (assignment_by values) F.vars → IsPartModel F part lits
-model_found F part conflicts d values lits h is filled set = at F part h.turn.formula h.turn.positions h.form filled h.turn.blocked set
+model_found F part conflicts d values lits h is filled set = at F part h.next.formula h.next.positions h.form filled h.next.blocked set
   where
-    found : IsModelOver h.turn.over values
-    found = subst (λ (x : Decided). IsDecided h.turn.over (length F.clauses + 1) conflicts x) is h.turn.decided
+    found : IsModelOver h.next.over values
+    found = subst (λ (x : Outcome). IsDecided h.next.over (length F.clauses + 1) conflicts x) is h.next.decided
 
-    at : (G : Cnf) (ps : List ℕ) → h.turn.over.formula.now ≡ G → h.turn.over.part.now ≡ ps → is_formula G ≡ true → are_filled G ps ≡ true
-        → h.turn.over.blocked.now ≡ replicate G.vars false → lits ≡ literals_on (variable_occurs G ps) (assignment_by values) G.vars → IsPartModel G ps lits
-    at G ps e f = subst (λ (H : Cnf). is_formula H ≡ true → are_filled H ps ≡ true → h.turn.over.blocked.now ≡ replicate H.vars false
+    at : (G : Cnf) (ps : List ℕ) → h.next.over.formula.now ≡ G → h.next.over.part.now ≡ ps → is_formula G ≡ true → are_filled G ps ≡ true
+        → h.next.over.blocked.now ≡ replicate G.vars false → lits ≡ literals_on (variable_occurs G ps) (assignment_by values) G.vars → IsPartModel G ps lits
+    at G ps e f = subst (λ (H : Cnf). is_formula H ≡ true → are_filled H ps ≡ true → h.next.over.blocked.now ≡ replicate H.vars false
         → lits ≡ literals_on (variable_occurs H ps) (assignment_by values) H.vars → IsPartModel H ps lits) e
-        (subst (λ (qs : List ℕ). is_formula h.turn.over.formula.now ≡ true → are_filled h.turn.over.formula.now qs ≡ true
-        → h.turn.over.blocked.now ≡ replicate h.turn.over.formula.now.vars false
-        → lits ≡ literals_on (variable_occurs h.turn.over.formula.now qs) (assignment_by values) h.turn.over.formula.now.vars → IsPartModel h.turn.over.formula.now qs lits) f
-        (λ form filled blocked set. model_over h.turn.over values lits form blocked filled found set))
+        (subst (λ (qs : List ℕ). is_formula h.next.over.formula.now ≡ true → are_filled h.next.over.formula.now qs ≡ true
+        → h.next.over.blocked.now ≡ replicate h.next.over.formula.now.vars false
+        → lits ≡ literals_on (variable_occurs h.next.over.formula.now qs) (assignment_by values) h.next.over.formula.now.vars → IsPartModel h.next.over.formula.now qs lits) f
+        (λ form filled blocked set. model_over h.next.over values lits form blocked filled found set))
 
 -- A REFUTATION
 
-pub names_low : (F : Cnf) (part : List ℕ) (conflicts : ℕ) (d : Decided) (log : Derivation) → IsFirst F part conflicts d → d ≡ Refuted log
+pub names_low : (F : Cnf) (part : List ℕ) (conflicts : ℕ) (d : Outcome) (log : Derivation) → IsFirst F part conflicts d → d ≡ Refuted log
     → names_positions_below (length F.clauses + 1) log.first log.steps ≡ true
 names_low F part conflicts d log h is =
-    let r = refuted F part (replicate F.vars false) (length F.clauses + 1) conflicts d log h.turn is in
-    let m = ap (λ (G : Cnf). length G.clauses) h.turn.formula in
-    names_below h.turn.over (length F.clauses + 1) log.first log.steps (omega (arith, m)) r.round.form.numbers r.round.chains
+    let r = refuted F part (replicate F.vars false) (length F.clauses + 1) conflicts d log h.next is in
+    let m = ap (λ (G : Cnf). length G.clauses) h.next.formula in
+    names_below h.next.over (length F.clauses + 1) log.first log.steps (omega (arith, m)) r.round.form.numbers r.round.chains
 
 refutation_over : (over : Crossed) (next budget : ℕ) (log : Derivation) → IsCrossed over → is_formula over.formula.now ≡ true
     → over.blocked.now ≡ replicate over.formula.now.vars false → next ≡ length over.formula.now.clauses + 1 → next + budget < 2 ^ 64 - 1
@@ -129,34 +128,34 @@ refutation_over over next budget log crossed form blocked is room h =
       most = omega (arith, learned, fewer, count_whole log.steps h.refutes h.filled, most);
     }
 
-pub refutation_found : (F : Cnf) (part : List ℕ) (conflicts : ℕ) (d : Decided) (log : Derivation) (r : Round) → IsFirst F part conflicts d → d ≡ Refuted log
+pub refutation_found : (F : Cnf) (part : List ℕ) (conflicts : ℕ) (d : Outcome) (log : Derivation) (r : Round) → IsFirst F part conflicts d → d ≡ Refuted log
     → r.steps ≡ trimmed (length F.clauses + 1) log.steps → IsPartRefuted F part conflicts r
 refutation_found F part conflicts d log r h is steps =
     subst (λ (us : List Step). IsPartRefuted F part conflicts (record { steps = us })) (sym steps)
-    (at F part h.turn.formula h.turn.positions h.form h.limits h.positions h.turn.blocked)
+    (at F part h.next.formula h.next.positions h.form h.limits h.positions h.next.blocked)
   where
     over : Crossed
-    over = h.turn.over
+    over = h.next.over
 
-    found : IsRefutedOver h.turn.over (length F.clauses + 1) conflicts log
-    found = refuted F part (replicate F.vars false) (length F.clauses + 1) conflicts d log h.turn is
+    found : IsRefutedOver h.next.over (length F.clauses + 1) conflicts log
+    found = refuted F part (replicate F.vars false) (length F.clauses + 1) conflicts d log h.next is
 
-    same : h.turn.over.formula.now ≡ F
-    same = h.turn.formula
+    same : h.next.over.formula.now ≡ F
+    same = h.next.formula
 
-    at : (G : Cnf) (ps : List ℕ) → h.turn.over.formula.now ≡ G → h.turn.over.part.now ≡ ps → is_formula G ≡ true → IsWithinLimits G → are_positions G ps ≡ true
-        → h.turn.over.blocked.now ≡ replicate G.vars false → IsPartRefuted G ps conflicts (record { steps = trimmed (length F.clauses + 1) log.steps })
-    at G ps e f = subst (λ (H : Cnf). is_formula H ≡ true → IsWithinLimits H → are_positions H ps ≡ true → h.turn.over.blocked.now ≡ replicate H.vars false
+    at : (G : Cnf) (ps : List ℕ) → h.next.over.formula.now ≡ G → h.next.over.part.now ≡ ps → is_formula G ≡ true → IsWithinLimits G → are_positions G ps ≡ true
+        → h.next.over.blocked.now ≡ replicate G.vars false → IsPartRefuted G ps conflicts (record { steps = trimmed (length F.clauses + 1) log.steps })
+    at G ps e f = subst (λ (H : Cnf). is_formula H ≡ true → IsWithinLimits H → are_positions H ps ≡ true → h.next.over.blocked.now ≡ replicate H.vars false
         → IsPartRefuted H ps conflicts (record { steps = trimmed (length F.clauses + 1) log.steps })) e
-        (subst (λ (qs : List ℕ). is_formula h.turn.over.formula.now ≡ true → IsWithinLimits h.turn.over.formula.now → are_positions h.turn.over.formula.now qs ≡ true
-        → h.turn.over.blocked.now ≡ replicate h.turn.over.formula.now.vars false
-        → IsPartRefuted h.turn.over.formula.now qs conflicts (record { steps = trimmed (length F.clauses + 1) log.steps })) f
+        (subst (λ (qs : List ℕ). is_formula h.next.over.formula.now ≡ true → IsWithinLimits h.next.over.formula.now → are_positions h.next.over.formula.now qs ≡ true
+        → h.next.over.blocked.now ≡ replicate h.next.over.formula.now.vars false
+        → IsPartRefuted h.next.over.formula.now qs conflicts (record { steps = trimmed (length F.clauses + 1) log.steps })) f
         (λ form limits rise blocked.
         let m = ap (λ (H : Cnf). length H.clauses) same in
         let most = h.most in
         let clauses = limits.clauses in
-        refutation_over h.turn.over (length F.clauses + 1) conflicts log
-        (record { part = rise; blocked = ap (λ (bs : List Bool). length bs) blocked ∙ length-replicate h.turn.over.formula.now.vars false }) form blocked
+        refutation_over h.next.over (length F.clauses + 1) conflicts log
+        (record { part = rise; blocked = ap (λ (bs : List Bool). length bs) blocked ∙ length-replicate h.next.over.formula.now.vars false }) form blocked
         (omega (arith, m)) (omega (arith, m, most, clauses)) found))
 
 -- LEARNED CLAUSES
@@ -212,39 +211,39 @@ stopped_over over next budget log crossed form blocked filled is room some h =
       filled = h.filled;
     }) refl all (omega arith) (λ e. filled_list part one.0 one.1 (omega (arith, e, bare))) (inr (undecided over log h.wants))
 
-pub stopped_found : (F : Cnf) (part : List ℕ) (conflicts : ℕ) (d : Decided) (log : Derivation) (r : Round) → IsFirst F part conflicts d → d ≡ Stopped log
+pub stopped_found : (F : Cnf) (part : List ℕ) (conflicts : ℕ) (d : Outcome) (log : Derivation) (r : Round) → IsFirst F part conflicts d → d ≡ Stopped log
     → are_filled F part ≡ true → r.steps ≡ log.steps → IsUnfinished F part conflicts (r ∷ [])
 stopped_found F part conflicts d log r h is filled steps =
     subst (λ (us : List Step). IsUnfinished F part conflicts (round_of us ∷ [])) (sym steps)
-    (at F part h.turn.formula h.turn.positions h.form h.limits h.positions filled h.turn.blocked)
+    (at F part h.next.formula h.next.positions h.form h.limits h.positions filled h.next.blocked)
   where
-    found : IsStoppedOver h.turn.over (length F.clauses + 1) conflicts log
-    found = subst (λ (x : Decided). IsDecided h.turn.over (length F.clauses + 1) conflicts x) is h.turn.decided
+    found : IsStoppedOver h.next.over (length F.clauses + 1) conflicts log
+    found = subst (λ (x : Outcome). IsDecided h.next.over (length F.clauses + 1) conflicts x) is h.next.decided
 
-    same : h.turn.over.formula.now ≡ F
-    same = h.turn.formula
+    same : h.next.over.formula.now ≡ F
+    same = h.next.formula
 
-    at : (G : Cnf) (ps : List ℕ) → h.turn.over.formula.now ≡ G → h.turn.over.part.now ≡ ps → is_formula G ≡ true → IsWithinLimits G → are_positions G ps ≡ true
-        → are_filled G ps ≡ true → h.turn.over.blocked.now ≡ replicate G.vars false → IsUnfinished G ps conflicts (round_of log.steps ∷ [])
+    at : (G : Cnf) (ps : List ℕ) → h.next.over.formula.now ≡ G → h.next.over.part.now ≡ ps → is_formula G ≡ true → IsWithinLimits G → are_positions G ps ≡ true
+        → are_filled G ps ≡ true → h.next.over.blocked.now ≡ replicate G.vars false → IsUnfinished G ps conflicts (round_of log.steps ∷ [])
     at G ps e f = subst (λ (H : Cnf). is_formula H ≡ true → IsWithinLimits H → are_positions H ps ≡ true → are_filled H ps ≡ true
-        → h.turn.over.blocked.now ≡ replicate H.vars false → IsUnfinished H ps conflicts (round_of log.steps ∷ [])) e
-        (subst (λ (qs : List ℕ). is_formula h.turn.over.formula.now ≡ true → IsWithinLimits h.turn.over.formula.now → are_positions h.turn.over.formula.now qs ≡ true
-        → are_filled h.turn.over.formula.now qs ≡ true → h.turn.over.blocked.now ≡ replicate h.turn.over.formula.now.vars false
-        → IsUnfinished h.turn.over.formula.now qs conflicts (round_of log.steps ∷ [])) f
+        → h.next.over.blocked.now ≡ replicate H.vars false → IsUnfinished H ps conflicts (round_of log.steps ∷ [])) e
+        (subst (λ (qs : List ℕ). is_formula h.next.over.formula.now ≡ true → IsWithinLimits h.next.over.formula.now → are_positions h.next.over.formula.now qs ≡ true
+        → are_filled h.next.over.formula.now qs ≡ true → h.next.over.blocked.now ≡ replicate h.next.over.formula.now.vars false
+        → IsUnfinished h.next.over.formula.now qs conflicts (round_of log.steps ∷ [])) f
         (λ form limits rise filled blocked.
         let m = ap (λ (H : Cnf). length H.clauses) same in
         let most = h.most in
         let clauses = limits.clauses in
-        stopped_over h.turn.over (length F.clauses + 1) conflicts log
-        (record { part = rise; blocked = ap (λ (bs : List Bool). length bs) blocked ∙ length-replicate h.turn.over.formula.now.vars false }) form blocked filled
+        stopped_over h.next.over (length F.clauses + 1) conflicts log
+        (record { part = rise; blocked = ap (λ (bs : List Bool). length bs) blocked ∙ length-replicate h.next.over.formula.now.vars false }) form blocked filled
         (omega (arith, m)) (omega (arith, m, most, clauses)) h.some found))
 
 -- WHAT IS KNOWN FIRST
 
-pub first : (F : Cnf) (part : List ℕ) (flags : List Bool) (next conflicts : ℕ) (d : Decided) → IsTurn F part flags next conflicts d → flags ≡ replicate F.vars false
+pub first : (F : Cnf) (part : List ℕ) (flags : List Bool) (next conflicts : ℕ) (d : Outcome) → IsNextRound F part flags next conflicts d → flags ≡ replicate F.vars false
     → next ≡ length F.clauses + 1 → is_formula F ≡ true → IsWithinLimits F → are_positions F part ≡ true → 0 < conflicts → conflicts < 2 ^ 63 → IsFirst F part conflicts d
 first F part flags next conflicts d t none is form limits positions some most = record {
-  turn = subst (λ (k : ℕ). IsTurn F part (replicate F.vars false) k conflicts d) is (subst (λ (bs : List Bool). IsTurn F part bs next conflicts d) none t);
+  next = subst (λ (k : ℕ). IsNextRound F part (replicate F.vars false) k conflicts d) is (subst (λ (bs : List Bool). IsNextRound F part bs next conflicts d) none t);
   form = form;
   limits = limits;
   positions = positions;

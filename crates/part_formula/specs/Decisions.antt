@@ -6,12 +6,12 @@ use Rattle.lk_model.specs.Formulas.Formula.{Cnf, clause_at}
 use Rattle.lk_model.specs.Formulas.Crossed.{no_variable}
 use Rattle.lk_model.specs.Chains.Rounds.{AreNeeded}
 use Rattle.lk_model.specs.Checks.RoundChecks.{learned_steps, IsRefutation}
+use Rattle.lk_model.specs.declared.decided.Decided.{Decided}
+use Rattle.lk_model.specs.declared.decided.Decided.TheVariants.{Model, Refuted, Stopped}
 use Rattle.lk_model.specs.declared.document.Round.{Round}
 use Rattle.lk_model.specs.declared.result.GeneralResult.{GeneralResult}
 use Rattle.general_laws.specs.Found.{IsUnfinished}
 use Rattle.general_laws.specs.GeneralResults.{IsGeneralResult}
-use Rattle.part_formula.specs.declared.deciding.Decision.{Decision}
-use Rattle.part_formula.specs.declared.deciding.Decision.TheVariants.{Model, Refuted, Stopped}
 
 -- no clause at these positions is empty
 abbrev pub are_filled : Cnf → List ℕ → Bool
@@ -30,6 +30,10 @@ pub record IsPartRefuted (F : Cnf) (part : List ℕ) (conflicts : ℕ) (r : Roun
   pub refutation : IsRefutation F part r
   pub needed : AreNeeded F no_variable (r ∷ [])
   pub most : length (learned_steps (r ∷ [])) ≤ conflicts
+
+-- a `Decision`
+abbrev pub Decision : Type 0
+Decision = Decided (List ℤ) Round Round
 
 -- a model of the part's clauses, a refutation of them, or an open round of as many learned clauses as were allowed
 abbrev pub IsDecision : Cnf → List ℕ → ℕ → Decision → Type 0

@@ -10,21 +10,15 @@ ghost use Rattle.part_formula.specs.Decisions.{are_filled, IsDecision};
 use crate::dense::dense_formula;
 use crate::names::names_of;
 use crate::renaming::Renaming;
-use cdcl_core::{Decided, Turns, decide_by_turns};
+use cdcl_core::{Schedule, decide_by_schedule};
 use general_kernel::set_of;
-use lk_model::{Budget, Crossed, Formula, List, Lit, OutOfMemory, Round, VarSet};
+use lk_model::{Budget, Crossed, Decided, Formula, List, Lit, OutOfMemory, Round, VarSet};
 use std::alloc::Global;
 
-/// What is decided of the clauses of a part of a formula.
-#[derive(Drop)]
-pub enum Decision {
-    /// Literals on variables of the part, ascending by variable, that satisfy each clause.
-    Model(List<Lit>),
-    /// A refutation, of which no step is needless.
-    Refuted(Round),
-    /// An open round of as many learned clauses as were allowed, which is not at its end.
-    Stopped(Round),
-}
+/// What is decided of the clauses of a part of a formula: literals on variables of the part, ascending by variable, that
+/// satisfy each clause; or a refutation, of which no step is needless; or an open round of as many learned clauses as
+/// were allowed, which is not at its end.
+pub type Decision = Decided<List<Lit>, Round, Round>;
 
 /// Looks for a model of the clauses of a formula at some positions, which ascend and count from 1, by at most
 /// so many learned clauses. None of the clauses is empty. Variables, positions and steps have the formula's
@@ -40,7 +34,7 @@ pub fn decide_part(
     requires filled { IsTrue (are_filled f.now part.now) }
     ensures { IfOk result (IsDecision f.now part.now conflicts) }
 {
-    decide_part_by(alloc, f, part, &mut Turns::new(), conflicts)
+    decide_part_by(alloc, f, part, &mut Schedule::new(), conflicts)
 }
 
 /// The same by orders that take turns as handed in.
@@ -48,7 +42,7 @@ pub fn decide_part_by(
     alloc: Global,
     f: &Formula,
     part: &[u32],
-    turns: &mut Turns,
+    schedule: &mut Schedule,
     conflicts: Budget,
 ) -> Result<Decision, OutOfMemory>
     requires part { IsTrue (are_positions f.now part.now) }
@@ -63,10 +57,10 @@ pub fn decide_part_by(
         part,
         names: &names,
     };
-    match decide_clauses(alloc, &dense, turns, conflicts)? {
-        Decision::Model(set) => Ok(Decision::Model(renaming.literals(set))),
-        Decision::Refuted(round) => Ok(Decision::Refuted(renaming.only(alloc, round)?)),
-        Decision::Stopped(round) => Ok(Decision::Stopped(renaming.only(alloc, round)?)),
+    match decide_clauses(alloc, &dense, schedule, conflicts)? {
+        Decided::Model(set) => Ok(Decided::Model(renaming.literals(set))),
+        Decided::Refuted(round) => Ok(Decided::Refuted(renaming.only(alloc, round)?)),
+        Decided::Stopped(round) => Ok(Decided::Stopped(renaming.only(alloc, round)?)),
     }
 }
 
@@ -74,7 +68,7 @@ pub fn decide_part_by(
 pub fn decide_clauses(
     alloc: Global,
     f: &Formula,
-    turns: &mut Turns,
+    schedule: &mut Schedule,
     conflicts: Budget,
 ) -> Result<Decision, OutOfMemory>
     requires { IsTrue (are_filled f.now (positions_of f.now)) }
@@ -88,9 +82,9 @@ pub fn decide_clauses(
         part: all.as_slice(),
         blocked: &blocked,
     };
-    match decide_by_turns(alloc, &over, turns, next, conflicts.get())? {
-        Decided::Sat(values) => Ok(Decision::Model(set_of(alloc, f, all.as_slice(), &values)?)),
-        Decided::Refuted(log) => Ok(Decision::Refuted(log.trim(next)?)),
-        Decided::Stopped(log) => Ok(Decision::Stopped(log.into_round()?)),
+    match decide_by_schedule(alloc, &over, schedule, next, conflicts.get())? {
+        Decided::Model(values) => Ok(Decided::Model(set_of(alloc, f, all.as_slice(), &values)?)),
+        Decided::Refuted(log) => Ok(Decided::Refuted(log.trim(next)?)),
+        Decided::Stopped(log) => Ok(Decided::Stopped(log.into_round()?)),
     }
 }

@@ -72,14 +72,14 @@ fn kernels<R: Threads + Sync, G: Gate>(
     all_found(alloc, answers)
 }
 
-// The matching kernel of a group, in tables of the group's size. One with more than half of the clauses is not
-// copied: there is one at most, so tables of the size of the formula are made once.
+// The matching kernel of a group, in tables of the group's size. One with more than a quarter of the clauses is not
+// copied: there are three at most, so tables of the size of the formula are made three times at most.
 fn kernel_of(alloc: Global, f: &Formula, group: &List<u32>) -> Result<MatchingResult, OutOfMemory>
     requires { IsTrue (are_positions f.now group.now) }
     ensures { IfOk result (λ r. IsMatchingResult f.now group.now r) }
 {
     let group = group.as_slice();
-    if group.len() > f.len() as usize / 2 {
+    if group.len() > f.len() as usize / 4 {
         matching_kernel(alloc, f, group)
     } else {
         matching_of_part(alloc, f, group)

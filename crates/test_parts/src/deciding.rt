@@ -6,7 +6,7 @@ ghost use Rattle.part_formula.specs.Decisions.{are_filled, IsDecision};
 use crate::command::{Command, budget_of, formula};
 use crate::lines::put_model;
 use check_rounds::misstated_step;
-use lk_model::{Budget, Formula, OutOfMemory, Round};
+use lk_model::{Budget, Decided, Formula, OutOfMemory, Round};
 use lk_samples::{part_of_text, put_round};
 use part_formula::{Decision, decide_part};
 use std::alloc::{AllocError, Global};
@@ -44,13 +44,13 @@ fn put_decision(
     requires decided { IsDecision f.now part.now conflicts decision.now }
 {
     match decision {
-        Decision::Model(set) => Ok(put_model(set.as_slice(), out)?),
-        Decision::Refuted(round) => {
+        Decided::Model(set) => Ok(put_model(set.as_slice(), out)?),
+        Decided::Refuted(round) => {
             put_decided("= refuted\n", round, out)?;
             let step = misstated_step(alloc, f, part, round)?;
             Ok(writeln!(out, "= misstated {step:?}")?)
         }
-        Decision::Stopped(round) => Ok(put_decided("= stopped\n", round, out)?),
+        Decided::Stopped(round) => Ok(put_decided("= stopped\n", round, out)?),
     }
 }
 

@@ -1,11 +1,11 @@
 //! Whether answers are right, by a program that knows nothing of how they were found.
 use crate::found::Search;
 use crate::lines::{put_core, put_model, put_positions};
-use kernel_solve::Solved;
-use lk_model::{Formula, Lit, MusResult, Step, Without};
+use lk_model::{Decided, Formula, Lit, MusResult, Step, Without};
 use lk_samples::{has_part, put_steps};
 use mus_core::Mus;
 use par_parts::parts;
+use part_formula::Decision;
 use plain_judge::{clause_at, has_model, is_model, is_named, learns, lie_in, refutes};
 use std::alloc::{AllocError, Global};
 use std::test::Fail;
@@ -27,13 +27,13 @@ fn part_of(alloc: Global, f: &Formula, steps: &[Step]) -> Result<usize, Fail> {
 pub(crate) fn put_judged(
     alloc: Global,
     s: &Search<'_>,
-    solved: Solved,
+    solved: Decision,
     out: &mut String,
 ) -> Result<(), Fail> {
     match solved {
-        Solved::Model(lits) => Ok(put_model_judged(s.formula, lits.as_slice(), out)?),
-        Solved::Refuted(round) => put_round_judged(alloc, s, true, round.steps.as_slice(), out),
-        Solved::Unfinished(round) => put_round_judged(alloc, s, false, round.steps.as_slice(), out),
+        Decided::Model(lits) => Ok(put_model_judged(s.formula, lits.as_slice(), out)?),
+        Decided::Refuted(round) => put_round_judged(alloc, s, true, round.steps.as_slice(), out),
+        Decided::Stopped(round) => put_round_judged(alloc, s, false, round.steps.as_slice(), out),
     }
 }
 

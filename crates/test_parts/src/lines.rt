@@ -1,9 +1,9 @@
 //! What is found, as lines.
-use kernel_solve::Solved;
 use lk_model::{
-    General, GeneralResult, Lit, MatchRow, MatchingResult, MusResult, Own, Round, Step,
+    Decided, General, GeneralResult, Lit, MatchRow, MatchingResult, MusResult, Own, Round, Step,
 };
 use lk_samples::{put_literals, put_rounds, put_steps};
+use part_formula::Decision;
 use std::alloc::AllocError;
 
 /// Writes the kept positions of a matching kernel.
@@ -81,11 +81,11 @@ fn put_counts(kept: usize, rounds: &[Round], out: &mut String) -> Result<(), All
 }
 
 /// Writes an answer: the literals of a model, or the steps of a round.
-pub(crate) fn put_solved(solved: Solved, out: &mut String) -> Result<(), AllocError> {
+pub(crate) fn put_solved(solved: Decision, out: &mut String) -> Result<(), AllocError> {
     match solved {
-        Solved::Model(lits) => put_model(lits.as_slice(), out),
-        Solved::Refuted(round) => put_named("= refuted\n", round.steps.as_slice(), out),
-        Solved::Unfinished(round) => put_named("= unfinished\n", round.steps.as_slice(), out),
+        Decided::Model(lits) => put_model(lits.as_slice(), out),
+        Decided::Refuted(round) => put_named("= refuted\n", round.steps.as_slice(), out),
+        Decided::Stopped(round) => put_named("= unfinished\n", round.steps.as_slice(), out),
     }
 }
 

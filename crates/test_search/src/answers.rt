@@ -1,8 +1,8 @@
 //! Answers, and whether an answer stands.
 use crate::asking::{Asked, Way, answer};
 use crate::left::left_of;
-use cdcl_core::Decided;
-use lk_model::{Formula, Lit, Step};
+use cdcl_core::Outcome;
+use lk_model::{Decided, Formula, Lit, Step};
 use lk_samples::put_literals;
 use partial_assign::Partial;
 use plain_judge::{clause_at, lie_in, stand};
@@ -154,11 +154,11 @@ pub(crate) fn put_decided(
     alloc: Global,
     asked: &Asked,
     next: u64,
-    decided: Decided,
+    decided: Outcome,
     out: &mut String,
 ) -> Result<(), Fail> {
     match decided {
-        Decided::Sat(values) => put_model(alloc, asked, &values, out),
+        Decided::Model(values) => put_model(alloc, asked, &values, out),
         Decided::Refuted(log) => put_log(alloc, asked, next, log, true, out),
         Decided::Stopped(log) => put_log(alloc, asked, next, log, false, out),
     }
@@ -178,7 +178,7 @@ pub(crate) fn has_model(
     next: u64,
 ) -> Result<Option<bool>, Fail> {
     match answer(alloc, asked, way, next, 1_000_000)? {
-        Decided::Sat(values) => Ok(is_model(alloc, asked, &values)?.then_some(true)),
+        Decided::Model(values) => Ok(is_model(alloc, asked, &values)?.then_some(true)),
         Decided::Refuted(log) => Ok(log_stands(alloc, asked, next, log)?.then_some(false)),
         Decided::Stopped(_) => Ok(None),
     }

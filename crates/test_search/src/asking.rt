@@ -4,7 +4,7 @@ ghost use Rattle.lk_model.specs.Formulas.Lean.{are_positions};
 ghost use Rattle.lk_model.specs.Held.VariableSets.{IsCrossed};
 ghost use Rattle.variable_orders.specs.VariableOrders.{IsOrderOver};
 
-use cdcl_core::{By, Decided, Signs, Turns, decide, decide_by, decide_by_turns};
+use cdcl_core::{By, Outcome, Schedule, Signs, decide, decide_by, decide_by_schedule};
 use lk_model::{Crossed, Formula, OutOfMemory};
 use lk_samples::{has_part, set_of};
 use std::alloc::{AllocError, Global};
@@ -18,8 +18,13 @@ pub(crate) enum Way {
     Usual,
     /// By one order, with the last values or true first.
     One { by: By, last: bool },
-    /// By the usual two in turns: so many clauses are learned at first, and so many more in each further turn.
-    Turns { first: u64, further: u64 },
+    /// By the numbers and the connection in turns: so many clauses are learned at first, and so many more in each further
+    /// turn.
+    Schedule { first: u64, further: u64 },
+    /// By the activity in turns with itself, so that the first one answers.
+    Activity { first: u64, further: u64 },
+    /// By the usual three in turns.
+    WithActivity { first: u64, further: u64 },
     /// By all three in turns.
     All { first: u64, further: u64 },
     /// By all three in turns that keep values, and then again with these: the second answer.
@@ -31,7 +36,9 @@ impl Way {
     pub(crate) fn lengths(self) -> (u64, u64) {
         match self {
             Way::Usual | Way::One { .. } => (0, 0),
-            Way::Turns { first, further }
+            Way::Schedule { first, further }
+            | Way::Activity { first, further }
+            | Way::WithActivity { first, further }
             | Way::All { first, further }
             | Way::Twice { first, further } => (first, further),
         }
@@ -54,7 +61,7 @@ fn decide_by_one(
     last: bool,
     next: u64,
     budget: u64,
-) -> Result<Decided, OutOfMemory>
+) -> Result<Outcome, OutOfMemory>
     requires over { IsCrossed over.now }
     requires some { 0 < budget }
     requires past { length over.now.formula.now.clauses < next }
@@ -70,18 +77,18 @@ fn decide_by_one(
 fn decide_twice(
     alloc: Global,
     over: &Crossed,
-    turns: &mut Turns,
+    schedule: &mut Schedule,
     next: u64,
     budget: u64,
-) -> Result<Decided, OutOfMemory>
+) -> Result<Outcome, OutOfMemory>
     requires over { IsCrossed over.now }
     requires some { 0 < budget }
     requires past { length over.now.formula.now.clauses < next }
     requires next { next < 2 ^ 40 }
     requires budget { budget < 2 ^ 40 }
 {
-    decide_by_turns(alloc, over, turns, next, budget)?;
-    decide_by_turns(alloc, over, turns, next, budget)
+    decide_by_schedule(alloc, over, schedule, next, budget)?;
+    decide_by_schedule(alloc, over, schedule, next, budget)
 }
 
 /// Asks what may be asked.
@@ -91,7 +98,7 @@ fn ask(
     way: Way,
     next: u64,
     budget: u64,
-) -> Result<Decided, OutOfMemory>
+) -> Result<Outcome, OutOfMemory>
     requires over { IsCrossed over.now }
     requires some { 0 < budget }
     requires past { length over.now.formula.now.clauses < next }
@@ -101,21 +108,37 @@ fn ask(
     match way {
         Way::Usual => decide(alloc, over, next, budget),
         Way::One { by, last } => decide_by_one(alloc, over, by, last, next, budget),
-        Way::Turns { first, further } => {
-            let mut turns = Turns::new();
-            turns.first = first;
-            turns.further = further;
-            decide_by_turns(alloc, over, &mut turns, next, budget)
+        Way::Schedule { first, further } => {
+            let mut schedule = Schedule::new();
+            schedule.third = None;
+            schedule.first = first;
+            schedule.further = further;
+            decide_by_schedule(alloc, over, &mut schedule, next, budget)
+        }
+        Way::Activity { first, further } => {
+            let mut schedule = Schedule::new();
+            schedule.by = By::Activity;
+            schedule.second = By::Activity;
+            schedule.third = None;
+            schedule.first = first;
+            schedule.further = further;
+            decide_by_schedule(alloc, over, &mut schedule, next, budget)
+        }
+        Way::WithActivity { first, further } => {
+            let mut schedule = Schedule::new();
+            schedule.first = first;
+            schedule.further = further;
+            decide_by_schedule(alloc, over, &mut schedule, next, budget)
         }
         Way::All { first, further } => {
-            let mut turns = Turns::of_all_orders();
-            turns.first = first;
-            turns.further = further;
-            decide_by_turns(alloc, over, &mut turns, next, budget)
+            let mut schedule = Schedule::of_all_orders();
+            schedule.first = first;
+            schedule.further = further;
+            decide_by_schedule(alloc, over, &mut schedule, next, budget)
         }
         Way::Twice { first, further } => {
-            let mut turns = Turns::keeping(alloc, over.formula.vars(), first, further)?;
-            decide_twice(alloc, over, &mut turns, next, budget)
+            let mut schedule = Schedule::keeping(alloc, over.formula.vars(), first, further)?;
+            decide_twice(alloc, over, &mut schedule, next, budget)
         }
     }
 }
@@ -126,7 +149,7 @@ fn order_of(alloc: Global, over: &Crossed, by: By) -> Result<Vec<u32>, OutOfMemo
     ensures { IfOk result (λ vars. IsOrderOver over.now vars.items) }
 {
     match by {
-        By::Number => Ok(ascending(alloc, over)?),
+        By::Number | By::Activity => Ok(ascending(alloc, over)?),
         By::Connection => Ok(by_connection(alloc, over)?),
         By::Occurrences => Ok(by_occurrences(alloc, over)?),
     }
@@ -165,7 +188,7 @@ pub(crate) fn answer(
     way: Way,
     next: u64,
     budget: u64,
-) -> Result<Decided, Fail> {
+) -> Result<Outcome, Fail> {
     check_question(asked, next, budget)?;
     let blocked = set_of(alloc, asked.formula.vars(), asked.blocked)?;
     let over = Crossed {
@@ -177,13 +200,13 @@ pub(crate) fn answer(
 }
 
 /// The answer by turns that may have kept values of earlier questions, where the question may be asked.
-pub(crate) fn answer_by_turns(
+pub(crate) fn answer_by_schedule(
     alloc: Global,
     asked: &Asked,
-    turns: &mut Turns,
+    schedule: &mut Schedule,
     next: u64,
     budget: u64,
-) -> Result<Decided, Fail> {
+) -> Result<Outcome, Fail> {
     check_question(asked, next, budget)?;
     let blocked = set_of(alloc, asked.formula.vars(), asked.blocked)?;
     let over = Crossed {
@@ -191,7 +214,7 @@ pub(crate) fn answer_by_turns(
         part: asked.part,
         blocked: &blocked,
     };
-    Ok(decide_by_turns(alloc, &over, turns, next, budget)?)
+    Ok(decide_by_schedule(alloc, &over, schedule, next, budget)?)
 }
 
 fn put_order(name: &str, vars: &[u32], out: &mut String) -> Result<(), AllocError> {

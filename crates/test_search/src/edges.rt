@@ -1,10 +1,11 @@
 //! Budgets around the edges of turns: what orders answer by turns, beside what each answers by itself.
 use crate::asking::{Asked, Way, answer};
-use cdcl_core::{By, Decided};
+use cdcl_core::By;
+use lk_model::Decided;
 use std::alloc::Global;
 use std::test::Fail;
 
-/// The usual orders by themselves, as they take turns.
+/// The numbers and the connection by themselves, as they take turns.
 pub(crate) const USUAL: [Way; 2] = [
     Way::One {
         by: By::Number,
@@ -46,7 +47,7 @@ enum Told {
 /// What is answered.
 fn answered(alloc: Global, asked: &Asked, way: Way, next: u64, budget: u64) -> Result<Told, Fail> {
     match answer(alloc, asked, way, next, budget)? {
-        Decided::Sat(_) => Ok(Told::Sat),
+        Decided::Model(_) => Ok(Told::Sat),
         Decided::Refuted(log) => Ok(Told::Refuted(log.len())),
         Decided::Stopped(log) => Ok(Told::Stopped(log.len())),
     }

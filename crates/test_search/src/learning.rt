@@ -20,12 +20,12 @@
 //! or `twice FIRST FURTHER`. Of `turns` each budget up to one is tried on pigeons (`edges`). The formulas of `kept` are
 //! decided one after another by turns that keep values.
 use crate::answers::put_decided;
-use crate::asking::{Asked, Way, answer, answer_by_turns, put_orders};
+use crate::asking::{Asked, Way, answer, answer_by_schedule, put_orders};
 use crate::built::{implications, pigeons};
 use crate::drawn::put_drawn;
 use crate::edges::{ALL, USUAL, right_budgets};
 use crate::texts::{number_of, part_of};
-use cdcl_core::{By, Turns};
+use cdcl_core::{By, Schedule};
 use lk_model::Formula;
 use lk_samples::{formula_of_text, numbers_of_text, part_of_text};
 use std::alloc::Global;
@@ -142,7 +142,9 @@ pub(crate) fn way_of(text: &str) -> Way {
             by: By::Occurrences,
             last,
         },
-        "turns" => Way::Turns { first, further },
+        "turns" => Way::Schedule { first, further },
+        "activity" => Way::Activity { first, further },
+        "usual" => Way::WithActivity { first, further },
         "all" => Way::All { first, further },
         "twice" => Way::Twice { first, further },
         _ => Way::Usual,
@@ -169,7 +171,7 @@ fn right_of(alloc: Global, asked: &Asked, way: Way, most: u32) -> Result<u32, Fa
 }
 
 /// Decides pigeons by turns with each budget: `HOLES | WAY | MOST`.
-fn put_turns(alloc: Global, text: &str, out: &mut String) -> Result<(), Fail> {
+fn put_schedule(alloc: Global, text: &str, out: &mut String) -> Result<(), Fail> {
     let (holes, text) = part_of(text);
     let (way, most) = part_of(text);
     let (way, most) = (way.trim(), number_of(most));
@@ -186,11 +188,12 @@ fn put_turns(alloc: Global, text: &str, out: &mut String) -> Result<(), Fail> {
 }
 
 /// The order that begins.
-fn leading(turns: &Turns) -> &'static str {
-    match turns.by {
+fn leading(schedule: &Schedule) -> &'static str {
+    match schedule.by {
         By::Number => "the numbers",
         By::Connection => "the connection",
         By::Occurrences => "the occurrences",
+        By::Activity => "the activity",
     }
 }
 
@@ -198,7 +201,7 @@ fn leading(turns: &Turns) -> &'static str {
 fn put_formula(
     alloc: Global,
     f: &Formula,
-    turns: &mut Turns,
+    schedule: &mut Schedule,
     budget: u32,
     out: &mut String,
 ) -> Result<(), Fail> {
@@ -209,9 +212,9 @@ fn put_formula(
         blocked: &[],
     };
     let next = u64::from(f.len()) + 1;
-    let decided = answer_by_turns(alloc, &asked, turns, next, u64::from(budget))?;
+    let decided = answer_by_schedule(alloc, &asked, schedule, next, u64::from(budget))?;
     put_decided(alloc, &asked, next, decided, out)?;
-    writeln!(out, "next begin {}", leading(turns))?;
+    writeln!(out, "next begin {}", leading(schedule))?;
     Ok(())
 }
 
@@ -219,14 +222,14 @@ fn put_formula(
 fn put_formulas(
     alloc: Global,
     n: u32,
-    turns: &mut Turns,
+    schedule: &mut Schedule,
     budget: u32,
     formulas: &str,
     out: &mut String,
 ) -> Result<(), Fail> {
     for clauses in formulas.split("|") {
         let f = formula_of_text(alloc, n, clauses)?;
-        put_formula(alloc, &f, turns, budget, out)?;
+        put_formula(alloc, &f, schedule, budget, out)?;
     }
     Ok(())
 }
@@ -241,8 +244,8 @@ fn put_kept(alloc: Global, text: &str, out: &mut String) -> Result<(), Fail> {
     writeln!(out, "== {}", name.trim())?;
     let n = number_of(vars);
     let (first, further) = (u64::from(number_of(first)), u64::from(number_of(further)));
-    let mut turns = Turns::keeping(alloc, n, first, further)?;
-    put_formulas(alloc, n, &mut turns, number_of(budget), formulas, out)
+    let mut schedule = Schedule::keeping(alloc, n, first, further)?;
+    put_formulas(alloc, n, &mut schedule, number_of(budget), formulas, out)
 }
 
 /// Writes what a line asks for.
@@ -252,7 +255,7 @@ pub(crate) fn tell(alloc: Global, line: &str, out: &mut String) -> Result<(), Fa
         "pigeons" => put_pigeons(alloc, text, out),
         "chain" => put_chain(alloc, text, out),
         "drawn" => put_seed(alloc, text, out),
-        "turns" => put_turns(alloc, text, out),
+        "turns" => put_schedule(alloc, text, out),
         "kept" => put_kept(alloc, text, out),
         kind => put_case(alloc, kind, text, out),
     }

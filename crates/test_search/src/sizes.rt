@@ -6,9 +6,8 @@
 use crate::asking::{Asked, Way, answer};
 use crate::learning::way_of;
 use crate::texts::number_of;
-use cdcl_core::Decided;
 use dimacs_reader::Reader;
-use lk_model::Formula;
+use lk_model::{Decided, Formula};
 use lk_samples::positions;
 use refutation_log::Log;
 use std::alloc::{AllocError, Global};
@@ -55,7 +54,7 @@ fn put_answer(
     };
     let next = u64::from(f.len()) + 1;
     match answer(alloc, &asked, way, next, u64::from(budget))? {
-        Decided::Sat(_) => Ok(out.push_str("sat 0 0\n")?),
+        Decided::Model(_) => Ok(out.push_str("sat 0 0\n")?),
         Decided::Refuted(log) => Ok(put_sizes("refuted", &log, out)?),
         Decided::Stopped(log) => Ok(put_sizes("stopped", &log, out)?),
     }

@@ -49,5 +49,5 @@ is_written text class protect pivots written d r is =
       reduction = w.reduces.reduction;
     })
 
-pub kept_law : KeptLaw
-kept_law = record { same = both_same; written = is_written }
+pub kept_clauses_law : KeptLaw
+kept_clauses_law = record { same = both_same; written = is_written }

@@ -32,7 +32,7 @@ pub fn headline_law()
 /// each text without a fault is reduced; for linear exactly by the size of its rows and the end of its run, and
 /// else `say` tells why not; for general always with a budget of n * 3^n for n variables, and else with less an
 /// unfinished document may stand on `out`. Each other text is refused, unless a call or memory fails.
-pub fn reduce_law()
+pub fn reduce_run_law()
     ensures pure { ReduceOutcomes ReducePure Pure }
     ensures matching { ReduceOutcomes ReduceMatching Matching }
     ensures linear { LinearOutcomes }
@@ -41,46 +41,46 @@ pub fn reduce_law()
 
 /// Of `check`: with status 0 the document is accepted, and so a reduction; with 8 a check of it fails. Visible
 /// texts decide between these and 2, unless a call or memory fails.
-pub fn check_law()
+pub fn check_run_law()
     ensures { CheckOutcomes }
 {}
 
 /// Of `extend`: with status 0 the model, extended, satisfies the formula; with 8 a check fails, and with 5 the
 /// document is unfinished. Visible texts decide between these and 2, unless a call or memory fails. A model of
 /// the kept clauses of an accepted document is extended.
-pub fn extend_law()
+pub fn extend_run_law()
     ensures { ExtendOutcomes }
 {}
 
 /// Of `report`: with status 0 the numbers of the formula stand on `out`; each text without a fault is reported
 /// on, and each other one refused, unless a call or memory fails.
-pub fn report_law()
+pub fn report_run_law()
     ensures { ReportOutcomes }
 {}
 
 /// Where a run ends without a result: with status 1 `say` has the line of the refused word, with 2 that of the first
 /// input outside its grammar, with 3 that of a failed read, with 9 that of memory that ran out; and `out` has nothing.
-pub fn stop_law()
+pub fn stopped_run_law()
     ensures { StopOutcomes }
 {}
 
 /// With status 0, 10 and 20 the text for `say` is empty, and with 1, 2, 3, 6, 7 and 9 that for `out`; so by `quiet` of
 /// `run` that sink is as it was.
-pub fn quiet_law()
+pub fn quiet_run_law()
     ensures { QuietOutcomes }
 {}
 
 /// Of `demo` with a number of 64 bits: with status 0 its lines stand on `out`, with the sizes of the kernels of the
 /// number's formula; with 5 the text of an unfinished document of it. Nothing else comes, unless a call or memory
 /// fails.
-pub fn demo_law()
+pub fn demo_run_law()
     ensures { DemoOutcomes }
 {}
 
 /// What `reduce` writes of a text with status 0, for any class, is accepted for that text, and of what it writes with
 /// status 5 no check fails. So if both texts are visible, `check` of the two is decided: status
 /// 0 and `accepted`, or 5 and `unfinished` with the number of learned clauses.
-pub fn written_law()
+pub fn written_document_law()
     ensures done { WrittenIsAccepted }
     ensures budget { StoppedIsUnfinished }
     ensures accepted { WrittenChecksAsAccepted }
@@ -90,21 +90,21 @@ pub fn written_law()
 /// Of `solve`: with status 10 a model of the formula stands on `out`, and with 20 a refutation of it, which uses
 /// clauses of the general kernel alone; with 5 an unfinished document. With a budget of 3^n for n variables a text of a
 /// formula decides between 10 and 20. Each other text is refused, unless a call or memory fails.
-pub fn solve_law()
+pub fn solve_run_law()
     ensures { SolveOutcomes }
 {}
 
 /// Of `verify`: with status 0 no check of the answer fails, and so its literals satisfy the formula, or this has no
 /// model, and a core is minimally unsatisfiable; with 8 a check of it fails. Visible texts decide between these and 2,
 /// unless a call or memory fails.
-pub fn verify_law()
+pub fn verify_run_law()
     ensures { VerifyOutcomes }
 {}
 
 /// Of `deficiency`: with status 0 the greatest number of clauses less occurring variables over all sets of clauses of
 /// the formula stands on `out`, with a set that has it, the matching kernel, and different variables for all clauses
 /// but so many. Each text without a fault is answered so, and each other one refused, unless a call or memory fails.
-pub fn deficiency_law()
+pub fn deficiency_run_law()
     ensures { DeficiencyOutcomes }
 {}
 
@@ -112,14 +112,14 @@ pub fn deficiency_law()
 /// after each edit, by the numbers of the clauses. Visible texts are refused exactly where the first has a fault, or
 /// else the second a faulty line, and then `say` has that line alone; the others are answered, unless a call or memory
 /// fails.
-pub fn edits_law()
+pub fn edits_run_law()
     ensures { EditsOutcomes }
 {}
 
 /// What `solve` writes of a text with status 10 or 20 is an answer for that text of which no check fails, and of what
 /// it writes with 5 no check fails either. So if both texts are visible, `verify` of the two is
 /// decided: status 0 and `accepted`; and `check` of the two: 5, and `unfinished` with the number of learned clauses.
-pub fn solved_law()
+pub fn written_answer_law()
     ensures texts { SolvedIsVerified }
     ensures accepted { WrittenVerifiesAsAccepted }
     ensures unfinished { UnsolvedChecksAsUnfinished }
@@ -129,7 +129,7 @@ pub fn solved_law()
 /// with what shows it, and with 10 a model; with 5 an unfinished document of some of its clauses. With a budget of 3^n
 /// for n variables a text of a formula decides between 0 and 10. Each other text is refused, unless a call or memory
 /// fails.
-pub fn mus_law()
+pub fn mus_run_law()
     ensures { MusOutcomes }
 {}
 
@@ -137,7 +137,7 @@ pub fn mus_law()
 /// texts are visible, `verify` of the two is decided: status 0 and `accepted`. Up to 2^30 bytes, a
 /// core that it writes is DIMACS of the core's clauses, and `check` of what it writes with 5 as the formula and as the
 /// document is decided: 5, and `unfinished` with the number of learned clauses.
-pub fn extracted_law()
+pub fn written_core_law()
     ensures texts { ExtractedIsVerified }
     ensures accepted { ExtractedVerifiesAsAccepted }
     ensures unfinished { UnextractedChecksAsUnfinished }
@@ -146,6 +146,6 @@ pub fn extracted_law()
 /// What is kept of a text is a function of the text, the class and the list of protected variables: two documents that
 /// are accepted for it have the same line of kept positions and the same clause lines, whoever made them; and so has
 /// what `reduce` writes, whatever the other options are.
-pub fn kept_law()
+pub fn kept_clauses_law()
     ensures { KeptLaw }
 {}

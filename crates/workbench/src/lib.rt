@@ -7,8 +7,8 @@ mod output;
 mod program;
 
 pub use laws::{
-    check_law, deficiency_law, demo_law, edits_law, extend_law, extracted_law, headline_law,
-    kept_law, mus_law, quiet_law, reduce_law, report_law, solve_law, solved_law, stop_law,
-    verify_law, written_law,
+    check_run_law, deficiency_run_law, demo_run_law, edits_run_law, extend_run_law, headline_law,
+    kept_clauses_law, mus_run_law, quiet_run_law, reduce_run_law, report_run_law, solve_run_law,
+    stopped_run_law, verify_run_law, written_answer_law, written_core_law, written_document_law,
 };
 pub use program::run;

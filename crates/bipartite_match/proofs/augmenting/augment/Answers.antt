@@ -8,6 +8,7 @@ use Rattle.bipartite_match.specs.declared.matching.Matching.{Matching}
 use Rattle.bipartite_match.specs.declared.visits.Visit.{Visit}
 use Rattle.bipartite_match.specs.Covers.{HasCover, IsAugmented}
 use Rattle.bipartite_match.specs.Visiting.{CanSearch, EndsIn}
+use Rattle.bipartite_match.proofs.AugmentedPaths.{can_visit}
 use Rattle.bipartite_match.proofs.Restoring.{covers_without}
 use Rattle.bipartite_match.proofs.Rooted.{rooted_longer, rooted_cover, rooted_ready}
 use Rattle.bipartite_match.proofs.Sought.{way_found, no_way}
@@ -21,6 +22,10 @@ augmented_from : (F : Cnf) (part : List ℕ) (from : Start) (q : List Visit) (pl
 augmented_from F part from q place v m now after root same form can ends turn =
     subst (λ (x : Matching). IsAugmented F part from x after root) same
     (turn F from form (subst (λ (x : Matching). CanSearch F part x from) (sym same) can) (subst (λ (x : Matching). EndsIn F part x from q place v) (sym same) ends))
+
+pub of-requires-clause-can : goal.of-requires-clause-can
+of-requires-clause-can g c =
+    can_visit c.args.f.now c.args.part.now c.args.m.now c.args.from (record { part_rises = c.requires.part; matching = c.requires.ready.matching; start = c.requires.start })
 
 pub returns-then-visits-eq0-clause-way : goal.returns-then-visits-eq0-clause-way
 returns-then-visits-eq0-clause-way g c =

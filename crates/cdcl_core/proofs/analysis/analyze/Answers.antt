@@ -106,7 +106,7 @@ loop-place-preserved-in-Some c =
       walks = subst (λ (ts : List Turn). WalksBack c.args.p.now c.args.conflict ts c.remove.new.self (c.meet-unresolved-in-Some.result - 1) (c.loop-place.place - 1)) (sym items)
           (walk_resolves p c.args.conflict c.loop-place.turns.items c.loop-place.marks c.meet-unresolved-in-Some.new.marks c.remove.new.self c.loop-place.unresolved c.meet-unresolved-in-Some.result i l
           c.in-Some.with c.clause-in-Some.result.now c.requires.held o.inside o.read marked apart reason c.clause-in-Some.ensures c.meet-unresolved-in-Some.ensures.marks count
-          (λ u. c.remove.ensures.marks u ∙ ap (λ (n : ℕ). is_in c.meet-unresolved-in-Some.new.marks u && not (u == n)) c.var-in-Some.ensures.value) o.walk);
+          (λ u. c.remove.ensures.vars u ∙ ap (λ (n : ℕ). is_in c.meet-unresolved-in-Some.new.marks u && not (u == n)) c.var-in-Some.ensures.value) o.walk);
     }
 
 pub loop-place-preserved-in_default : goal.loop-place-preserved-in_default

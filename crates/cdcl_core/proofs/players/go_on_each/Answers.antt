@@ -18,6 +18,6 @@ loop-place-preserved c =
     let paused = subst (λ (o : Option End). WentOn over next c.args.pause c.args.bounds.budget p.search o) c.in_default.is c.in_ok-end.ensures in
     record {
       length = length-set players i p ∙ same;
-      within = next_within over next c.args.pause i players p in' c.loop-place.invariant.within paused;
-      paused = next_paused over next c.args.pause i players p in' c.loop-place.invariant.paused paused;
+      within = next_within over next c.args.pause c.args.bounds.budget i players p in' c.loop-place.invariant.within paused;
+      paused = next_paused over next c.args.pause c.args.bounds.budget i players p in' c.loop-place.invariant.paused paused;
     }

@@ -6,6 +6,6 @@ use Rattle.cdcl_core.proofs.players.go_on_each.Given as goal
 abbrev pub invariant-loop-place : goal.invariant-loop-place
 invariant-loop-place l = record {
   length : length l.players.items ≡ length l.fn.players.items;
-  within : AreWithin l.over l.bounds.next l.pause l.players.items;
-  paused : ArePausedBefore l.place l.over l.bounds.next l.pause l.players.items;
+  within : AreWithin l.over l.bounds.next l.bounds.budget l.players.items;
+  paused : ArePausedBefore l.place l.over l.bounds.next l.pause l.bounds.budget l.players.items;
 }

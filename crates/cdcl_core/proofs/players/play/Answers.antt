@@ -1,4 +1,4 @@
-use Rattle.std.proofs.Common.{List, Option, sym, ap, subst, arith}
+use Rattle.std.proofs.Common.{List, Option, sym, ap, subst}
 use Rattle.cdcl_core.specs.declared.players.Player.{Player}
 use Rattle.cdcl_core.specs.declared.players.Won.{Won}
 use Rattle.cdcl_core.specs.Players.{AreWithin, WentOnEach}
@@ -8,18 +8,19 @@ use Rattle.cdcl_core.proofs.players.play.Goals.{then-first-bounds+in_ok-begin_ot
 
 pub go_on_each-requires-clause-players : goal.go_on_each-requires-clause-players
 go_on_each-requires-clause-players c =
-    c.in_ok-begin.ensures.within c.min-first.result
-    (none_within c.args.over.now c.args.bounds.next c.min-first.result c.args.players.now.items c.requires.none)
+    c.in_ok-begin.ensures.within c.args.bounds.budget
+    (none_within c.args.over.now c.args.bounds.next c.args.bounds.budget c.args.players.now.items c.requires.none)
 
 pub alternate-requires-clause-players : goal.alternate-requires-clause-players
 alternate-requires-clause-players c =
     let over = c.args.over.now in
     let first = c.min-first.result in
-    let paused = all_within over c.args.bounds.next first first c.go_on_each.new.players.items (omega arith)
+    let budget = c.args.bounds.budget in
+    let paused = all_within over c.args.bounds.next first budget c.go_on_each.new.players.items
     (subst (λ (o : Option Won). WentOnEach over c.args.bounds.next first c.args.bounds.budget c.go_on_each.new.players.items o) c.in_default.is c.in_ok-won.ensures.went) in
     elim c.if-first-bounds.branch [
       | then-first-bounds+in_ok-begin_others w ↦
-          subst (λ (ps : List Player). AreWithin over c.args.bounds.next first ps) (sym (ap (λ ps. ps.items) w.players-is))
-          (w.in_ok-begin_others.ensures.within first paused)
-      | else-first-bounds w ↦ subst (λ (ps : List Player). AreWithin over c.args.bounds.next first ps) (sym (ap (λ ps. ps.items) w.players-is)) paused
+          subst (λ (ps : List Player). AreWithin over c.args.bounds.next budget ps) (sym (ap (λ ps. ps.items) w.players-is))
+          (w.in_ok-begin_others.ensures.within budget paused)
+      | else-first-bounds w ↦ subst (λ (ps : List Player). AreWithin over c.args.bounds.next budget ps) (sym (ap (λ ps. ps.items) w.players-is)) paused
     ]

@@ -26,8 +26,8 @@ loop-l-preserved c =
     let here : c.is_unbalanced-unbalanced.result ≡ is_unbalanced occurring mid (variable l) =
     subst (λ (v : ℕ). c.is_unbalanced-unbalanced.result ≡ is_unbalanced occurring mid v) c.var.ensures.value
     (subst (λ (table : List (List ℤ)). c.is_unbalanced-unbalanced.result ≡ is_unbalanced occurring table c.var.result) c.deref.ensures.value c.is_unbalanced-unbalanced.ensures) in
-    let cleared = subst (λ (v : ℕ). ClearsNumbers n (take (i + 1) clause) before (slice_set mid (v - 1) c.new.result)) (sym c.var-in-loop-l.ensures.value)
-    (subst (λ (xs : List ℤ). ClearsNumbers n (take (i + 1) clause) before (slice_set mid (variable l - 1) xs)) (sym c.new.ensures)
+    let cleared = subst (λ (v : ℕ). ClearsNumbers n (take (i + 1) clause) before (slice_set mid (v - 1) c.clear.new.self)) (sym c.var-in-loop-l.ensures.value)
+    (subst (λ (xs : List ℤ). ClearsNumbers n (take (i + 1) clause) before (slice_set mid (variable l - 1) xs)) (sym c.clear.ensures)
     (literal_cleared n clause i l before mid c.loop-l-test.true c.l-item.is low (omega (arith, high, so_far.size, c.requires.size)) so_far)) in (
       ap (λ (x : Bool). x || c.is_unbalanced-unbalanced.result) c.loop-l.invariant.0 ∙ ap (λ (x : Bool). found || x) here
           ∙ literal_tested n occurring clause i l before mid c.loop-l-test.true c.l-item.is low high so_far,

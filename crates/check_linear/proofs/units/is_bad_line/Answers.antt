@@ -54,5 +54,5 @@ returns-clause-none c =
     let told : AreUnitNumbers F u (slice_set filled (u.var - 1) c.push.new.self) = unit_told F u filled c.push.new.self numbers c.requires.first c.requires.last pushed in
     let cleared : ClearsShares F u.shares (slice_set filled (u.var - 1) c.push.new.self) c.clear_shares-unbalanced.new.numbers.items =
     subst (λ (shares : List Share). ClearsShares F shares (slice_set filled (u.var - 1) c.push.new.self) c.clear_shares-unbalanced.new.numbers.items) c.as_slice-2.ensures c.clear_shares-unbalanced.ensures.cleared in
-    subst (λ (xs : List ℤ). AreNone F.vars (slice_set c.clear_shares-unbalanced.new.numbers.items (u.var - 1) xs)) (sym c.new.ensures)
+    subst (λ (xs : List ℤ). AreNone F.vars (slice_set c.clear_shares-unbalanced.new.numbers.items (u.var - 1) xs)) (sym c.clear.ensures)
     (none_again F u (slice_set filled (u.var - 1) c.push.new.self) c.clear_shares-unbalanced.new.numbers.items c.requires.first c.requires.last told cleared)

@@ -5,10 +5,11 @@ use Rattle.lk_model.specs.declared.document.Step.{Step}
 use Rattle.unit_refutations.specs.Standing.{are_between}
 use Rattle.unit_refutations.specs.declared.units.UnitRefutation.{UnitRefutation}
 use Rattle.general_kernel.specs.declared.short.ShortRefutation.{ShortRefutation}
+use Rattle.general_kernel.specs.TrimmedRounds.{rounds_of}
 use Rattle.general_kernel.proofs.States.{begins}
-use Rattle.general_kernel.proofs.ShortRounds.{short_answered, short_turns, covered_all, not_covered}
-use Rattle.general_kernel.proofs.Turns.{all_covered, model_ends, used_rise, turns, none_left, stops}
-use Rattle.general_kernel.proofs.UnitRounds.{answered, unit_between, rise_between, unit_turns, within_same}
+use Rattle.general_kernel.proofs.ShortRounds.{short_answered, short_log, short_round, covered_all, not_covered}
+use Rattle.general_kernel.proofs.NextRounds.{all_covered, model_ends, used_rise, next_round, none_left, stops}
+use Rattle.general_kernel.proofs.UnitRounds.{answered, unit_log, unit_between, rise_between, unit_round, within_same}
 use Rattle.general_kernel.proofs.general.round_after_round.Goals as goal
 
 pub rounds-init : goal.rounds-init
@@ -16,10 +17,16 @@ rounds-init c =
     let s = c.args.rounds.now in
     let b = c.requires.begun in
     record {
-      at = begins c.args.f.now c.args.part.now s.budget s b.form b.limits b.first b.whole b.blocked b.next refl;
+      at = begins c.args.f.now c.args.part.now s.budget s b.form b.limits b.first b.logs b.blocked b.next refl;
       kept = c.requires.kept;
       within = c.requires.within;
     }
+
+pub push_round-requires-clause-log : goal.push_round-requires-clause-log
+push_round-requires-clause-log c =
+    let r : UnitRefutation = c.in-Some.field-0 in
+    unit_log _ c.args.rounds.now.budget c.rounds.rounds r c.requires.most (record { part = c.requires.part; blocked = c.rounds.invariant.at.size })
+    (answered _ _ _ r c.in_ok-round.ensures.answer c.in-Some.is) c.rounds.invariant.at
 
 pub block-requires-clause-positions : goal.block-requires-clause-positions
 block-requires-clause-positions c =
@@ -32,29 +39,29 @@ rounds-smaller-in-Some c =
     let e = c.in_ok-push_round.ensures in
     let b = c.in_ok-block.ensures in
     let r : UnitRefutation = c.in-Some.field-0 in
-    let turned = unit_turns c.args.f.now c.args.part.now c.args.rounds.now.budget c.rounds.rounds _ r
+    let after = unit_round c.args.f.now c.args.part.now c.args.rounds.now.budget c.rounds.rounds (record c.push_round.new.self { blocked = c.block.new.blocked }) r
     (record { over = _; refuted = answered _ _ _ r c.in_ok-round.ensures.answer c.in-Some.is; formula = refl; positions = refl; blocked = refl }) c.requires.most c.requires.part c.rounds.invariant.at
     (record {
       first = e.first;
-      whole = e.whole;
+      logs = e.logs;
       next = e.next;
       budget = e.budget;
       size = b.size ∙ ap (λ (bs : List Bool). length bs) e.blocked;
       blocked = λ v. b.vars v ∙ ap (λ (bs : List Bool). is_in bs v || variable_occurs c.args.f.now c.as_slice.result.now v) e.blocked
           ∙ ap (λ (ps : List ℕ). is_in c.rounds.rounds.blocked v || variable_occurs c.args.f.now ps v) c.as_slice.ensures;
     }) in
-    turned.1
+    after.1
 
 pub rounds-preserved-in-Some : goal.rounds-preserved-in-Some
 rounds-preserved-in-Some c =
     let e = c.in_ok-push_round.ensures in
     let b = c.in_ok-block.ensures in
     let r : UnitRefutation = c.in-Some.field-0 in
-    let turned = unit_turns c.args.f.now c.args.part.now c.args.rounds.now.budget c.rounds.rounds _ r
+    let after = unit_round c.args.f.now c.args.part.now c.args.rounds.now.budget c.rounds.rounds _ r
     (record { over = _; refuted = answered _ _ _ r c.in_ok-round.ensures.answer c.in-Some.is; formula = refl; positions = refl; blocked = refl }) c.requires.most c.requires.part c.rounds.invariant.at
     (record {
       first = e.first;
-      whole = e.whole;
+      logs = e.logs;
       next = e.next;
       budget = e.budget;
       size = b.size ∙ ap (λ (bs : List Bool). length bs) e.blocked;
@@ -62,7 +69,7 @@ rounds-preserved-in-Some c =
           ∙ ap (λ (ps : List ℕ). is_in c.rounds.rounds.blocked v || variable_occurs c.args.f.now ps v) c.as_slice.ensures;
     }) in
     record {
-      at = turned.0;
+      at = after.0;
       kept = b.kept;
       within = within_same c.args.part.now c.refute.new.self c.block.new.self b.inside c.in_ok-round.ensures.within;
     }
@@ -80,6 +87,11 @@ returns-then-rounds-eq0 c =
     c.new-steps.ensures refl c.if-rounds-eq0.true
     (not_covered c.args.f.now (is_in c.rounds.rounds.blocked) c.args.part.now (sym c.is_covered.ensures ∙ c.if-is_covered.false))
 
+pub push_round-requires-in-Some-2-clause-log : goal.push_round-requires-in-Some-2-clause-log
+push_round-requires-in-Some-2-clause-log c =
+    let r : ShortRefutation = c.in-Some-2.field-0 in
+    short_log _ c.args.rounds.now.budget c.rounds.rounds r c.requires.most (short_answered _ _ _ _ r c.in_ok-short.ensures c.in-Some-2.is) c.rounds.invariant.at
+
 pub block-requires-in-Some-2-clause-positions : goal.block-requires-in-Some-2-clause-positions
 block-requires-in-Some-2-clause-positions c =
     let r : ShortRefutation = c.in-Some-2.field-0 in
@@ -92,29 +104,29 @@ rounds-smaller-in-Some-2 c =
     let e = c.in_ok-push_round-2.ensures in
     let b = c.in_ok-block-2.ensures in
     let r : ShortRefutation = c.in-Some-2.field-0 in
-    let turned = short_turns c.args.f.now c.args.part.now c.args.rounds.now.budget c.rounds.rounds _ r
+    let after = short_round c.args.f.now c.args.part.now c.args.rounds.now.budget c.rounds.rounds (record c.push_round-in-Some-2.new.self { blocked = c.block-in-Some-2.new.blocked }) r
     (record { over = _; refuted = short_answered _ _ _ _ r c.in_ok-short.ensures c.in-Some-2.is; formula = refl; positions = refl; blocked = refl }) c.requires.most c.requires.part c.rounds.invariant.at
     (record {
       first = e.first;
-      whole = e.whole;
+      logs = e.logs;
       next = e.next;
       budget = e.budget;
       size = b.size ∙ ap (λ (bs : List Bool). length bs) e.blocked;
       blocked = λ v. b.vars v ∙ ap (λ (bs : List Bool). is_in bs v || variable_occurs c.args.f.now c.as_slice-in-Some-2.result.now v) e.blocked
           ∙ ap (λ (ps : List ℕ). is_in c.rounds.rounds.blocked v || variable_occurs c.args.f.now ps v) c.as_slice-in-Some-2.ensures;
     }) in
-    turned.1
+    after.1
 
 pub rounds-preserved-in-Some-2 : goal.rounds-preserved-in-Some-2
 rounds-preserved-in-Some-2 c =
     let e = c.in_ok-push_round-2.ensures in
     let b = c.in_ok-block-2.ensures in
     let r : ShortRefutation = c.in-Some-2.field-0 in
-    let turned = short_turns c.args.f.now c.args.part.now c.args.rounds.now.budget c.rounds.rounds _ r
+    let after = short_round c.args.f.now c.args.part.now c.args.rounds.now.budget c.rounds.rounds _ r
     (record { over = _; refuted = short_answered _ _ _ _ r c.in_ok-short.ensures c.in-Some-2.is; formula = refl; positions = refl; blocked = refl }) c.requires.most c.requires.part c.rounds.invariant.at
     (record {
       first = e.first;
-      whole = e.whole;
+      logs = e.logs;
       next = e.next;
       budget = e.budget;
       size = b.size ∙ ap (λ (bs : List Bool). length bs) e.blocked;
@@ -122,17 +134,17 @@ rounds-preserved-in-Some-2 c =
           ∙ ap (λ (ps : List ℕ). is_in c.rounds.rounds.blocked v || variable_occurs c.args.f.now ps v) c.as_slice-in-Some-2.ensures;
     }) in
     record {
-      at = turned.0;
+      at = after.0;
       kept = b.kept;
       within = within_same c.args.part.now c.refute.new.self c.block-in-Some-2.new.self b.inside c.in_ok-round.ensures.within;
     }
 
-pub returns-in-Sat : goal.returns-in-Sat
-returns-in-Sat c = (
+pub returns-in-Model : goal.returns-in-Model
+returns-in-Model c = (
   c.rounds.invariant.at.logs,
-  model_ends c.args.f.now c.args.part.now c.args.rounds.now.budget c.rounds.rounds c.in_ok-values.field-0 c.in-Sat.values _
-      (record { over = _; decided = c.in_ok-values.ensures.decided; formula = refl; positions = refl; blocked = refl }) c.in-Sat.is c.requires.part c.rounds.invariant.at
-      c.in_ok-kept-in-Sat.ensures c.in_ok-set-in-Sat.ensures refl,
+  model_ends c.args.f.now c.args.part.now c.args.rounds.now.budget c.rounds.rounds c.in_ok-values.field-0 c.in-Model.values _
+      (record { over = _; decided = c.in_ok-values.ensures.decided; formula = refl; positions = refl; blocked = refl }) c.in-Model.is c.requires.part c.rounds.invariant.at
+      c.in_ok-kept-in-Model.ensures c.in_ok-set-in-Model.ensures refl,
 )
 
 pub block-requires-in-Refuted-clause-positions : goal.block-requires-in-Refuted-clause-positions
@@ -144,35 +156,35 @@ pub returns-in-Stopped : goal.returns-in-Stopped
 returns-in-Stopped c =
     stops c.args.f.now c.args.part.now c.args.rounds.now.budget c.rounds.rounds _ c.in_ok-values.field-0 c.in-Stopped.log
     (record { over = _; decided = c.in_ok-values.ensures.decided; formula = refl; positions = refl; blocked = refl }) c.in-Stopped.is c.requires.part c.requires.some c.requires.most c.rounds.invariant.at
-    (ap (λ (us : List Step). c.rounds.rounds.whole ++ record { steps = us } ∷ []) c.in_ok-into_round-in-Stopped.ensures.steps)
+    (ap (λ (us : List Step). rounds_of c.rounds.rounds.logs.items ++ record { steps = us } ∷ []) c.in_ok-into_round-in-Stopped.ensures.steps)
     (not_covered c.args.f.now (is_in c.rounds.rounds.blocked) c.args.part.now (sym c.is_covered.ensures ∙ c.if-is_covered.false))
 
 pub rounds-smaller : goal.rounds-smaller
 rounds-smaller c =
     let e = c.in_ok-push-in-Refuted.ensures in
     let b = c.in_ok-block-in-Refuted.ensures in
-    let turned = turns c.args.f.now c.args.part.now c.args.rounds.now.budget c.rounds.rounds _ c.in_ok-values.field-0 c.in-Refuted.log
+    let after = next_round c.args.f.now c.args.part.now c.args.rounds.now.budget c.rounds.rounds (record c.push.new.self { blocked = c.block-in-Refuted.new.blocked }) c.in_ok-values.field-0 c.in-Refuted.log
     (record { over = _; decided = c.in_ok-values.ensures.decided; formula = refl; positions = refl; blocked = refl }) c.in-Refuted.is c.requires.most c.requires.part c.rounds.invariant.at
     (record {
       first = e.first;
-      whole = e.whole;
+      logs = e.logs;
       next = e.next;
       budget = e.budget;
       size = b.size ∙ ap (λ (bs : List Bool). length bs) e.blocked;
       blocked = λ v. b.vars v ∙ ap (λ (bs : List Bool). is_in bs v || variable_occurs c.args.f.now c.as_slice-in-Refuted.result.now v) e.blocked
           ∙ ap (λ (ps : List ℕ). is_in c.rounds.rounds.blocked v || variable_occurs c.args.f.now ps v) (c.as_slice-in-Refuted.ensures ∙ c.in_ok-used-in-Refuted.ensures);
     }) in
-    turned.1
+    after.1
 
 pub rounds-preserved : goal.rounds-preserved
 rounds-preserved c =
     let e = c.in_ok-push-in-Refuted.ensures in
     let b = c.in_ok-block-in-Refuted.ensures in
-    let turned = turns c.args.f.now c.args.part.now c.args.rounds.now.budget c.rounds.rounds _ c.in_ok-values.field-0 c.in-Refuted.log
+    let after = next_round c.args.f.now c.args.part.now c.args.rounds.now.budget c.rounds.rounds _ c.in_ok-values.field-0 c.in-Refuted.log
     (record { over = _; decided = c.in_ok-values.ensures.decided; formula = refl; positions = refl; blocked = refl }) c.in-Refuted.is c.requires.most c.requires.part c.rounds.invariant.at
     (record {
       first = e.first;
-      whole = e.whole;
+      logs = e.logs;
       next = e.next;
       budget = e.budget;
       size = b.size ∙ ap (λ (bs : List Bool). length bs) e.blocked;
@@ -180,7 +192,7 @@ rounds-preserved c =
           ∙ ap (λ (ps : List ℕ). is_in c.rounds.rounds.blocked v || variable_occurs c.args.f.now ps v) (c.as_slice-in-Refuted.ensures ∙ c.in_ok-used-in-Refuted.ensures);
     }) in
     record {
-      at = turned.0;
+      at = after.0;
       kept = b.kept;
       within = within_same c.args.part.now c.refute.new.self c.block-in-Refuted.new.self b.inside c.in_ok-round.ensures.within;
     }

@@ -2,7 +2,7 @@ use Rattle.std.proofs.Common.{rules, arith, ◌≡◌, ◌∙◌, ℤ, List, [],
 use Rattle.std.specs.Vec.Iter.{into_iter_items, into_iter_len}
 use Rattle.std.proofs.lemmas.Grind.{common_steps}
 use Rattle.lk_model.specs.declared.document.Round.{Round}
-use Rattle.part_formula.specs.declared.deciding.Decision.{Decision}
+use Rattle.part_formula.specs.Decisions.{Decision}
 use Rattle.kernel_solve.specs.Answers.{Answer, IsGatheredSoFar}
 use Rattle.kernel_solve.proofs.Gathering.{model_more, stopped_more, first_refutation, all_come, first_stop, all_models}
 use Rattle.kernel_solve.proofs.deciding.gather.Goals as goal

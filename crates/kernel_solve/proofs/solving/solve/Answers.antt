@@ -4,10 +4,10 @@ use Rattle.std.specs.ControlFlow.{MatchControlFlow}
 use Rattle.std.specs.List.{AllByRecursion}
 use Rattle.lk_model.specs.Formulas.Formula.{Cnf}
 use Rattle.lk_model.specs.declared.document.Round.{Round}
+use Rattle.part_formula.specs.Decisions.{Decision}
 use Rattle.kernel_solve.specs.KernelParts.{IsFilledPart}
 use Rattle.kernel_solve.specs.Answers.{Answer, AreAnswers, IsAmongAnswers, models}
 use Rattle.kernel_solve.specs.Solutions.{IsRefutedWithin}
-use Rattle.kernel_solve.specs.declared.solving.Solved.{Solved}
 use Rattle.kernel_solve.proofs.EmptyClauses.{by_empty}
 use Rattle.kernel_solve.proofs.SolveResults.{searched, all_filled, kernel_models, solved_by}
 use Rattle.kernel_solve.proofs.solving.solve.Goals as goal
@@ -25,7 +25,7 @@ on_list F conflicts list given answers same are = subst (λ (parts : List (List 
 
 -- what was gathered
 abbrev Gathered : Type 0
-Gathered = ControlFlow Solved (List (List ℤ))
+Gathered = ControlFlow Decision (List (List ℤ))
 
 abbrev IsGathered : List Answer → Gathered → Type 0
 IsGathered answers flow = MatchControlFlow flow (λ (sets : List (List ℤ)). answers ≡ models sets) (IsAmongAnswers answers)
@@ -62,6 +62,6 @@ returns g c =
     let decided = c.in_ok-decided.decided in
     let h = searched F found c.as_slice.result.now list c.in_default.ensures.formula c.in_default.ensures.limits (sym c.in_default.ensures.first)
     c.in_ok-found.ensures c.as_slice.ensures c.in_ok-parts.ensures in
-    solved_by F found list c.args.conflicts decided c.in-Break.solved (subst (λ (n : ℕ). n < 2 ^ 63) c.get-most.ensures.value c.get-most.ensures.most) h
+    solved_by F found list c.args.conflicts decided c.in-Break.decided (subst (λ (n : ℕ). n < 2 ^ 63) c.get-most.ensures.value c.get-most.ensures.most) h
     (on_list F c.args.conflicts list c.as_slice-2.result.now decided c.as_slice-2.ensures c.in_ok-decided.ensures)
     (gathered_as decided c.in_ok-models.field-0 _ c.in-Break.is c.in_ok-models.ensures)

@@ -1,7 +1,6 @@
 use Rattle.std.proofs.Common.{subst}
 use Rattle.lk_model.specs.Formulas.Formula.{positions_of}
-use Rattle.part_formula.specs.Decisions.{IsDecision}
-use Rattle.part_formula.specs.declared.deciding.Decision.{Decision}
+use Rattle.part_formula.specs.Decisions.{Decision, IsDecision}
 use Rattle.part_formula.proofs.ToldDecisions.{filled_copy}
 use Rattle.mus_core.proofs.deciding.decide_copy.Goals as goal
 

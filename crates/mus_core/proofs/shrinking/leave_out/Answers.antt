@@ -4,7 +4,6 @@ use Rattle.lk_model.specs.Formulas.Assignment.{assignment_of, IsModel}
 use Rattle.mus_core.specs.declared.deciding.Copied.{Copied}
 use Rattle.part_formula.specs.Decisions.{IsPartModel}
 use Rattle.renaming_laws.specs.Renaming.{nth}
-use Rattle.mus_core.specs.declared.deciding.Decided.{Decided}
 use Rattle.mus_core.specs.Copies.{IsDecided}
 use Rattle.lk_model.specs.Lists.{among}
 use Rattle.lk_model.specs.Formulas.Minimal.{all_but}
@@ -35,7 +34,7 @@ give-requires-clause-satisfied c =
     let rest = c.in_ok-others.ensures ∙ ap (filter (λ (q : ℕ). not (q == c.args.p))) c.as_slice.ensures in
     let is : T ≡ clauses_at G c.in_ok-others.others = c.in_ok-clauses.ensures ∙ ap (clauses_at G) c.as_slice-3.ensures in
     let rest_is : Copied = record { formula = c.args.core.now.formula; part = c.as_slice-4.result; names = c.args.core.now.names; clauses = record { ref_ptr = _; now = T } } in
-    let model : IsPartModel T (positions_of T) c.in-Model.set = subst (λ (d : Decided). IsDecided rest_is c.args.conflicts d) c.in-Model.is c.in_ok-set.ensures in
+    let model : IsPartModel T (positions_of T) c.in-Model.set = subst (IsDecided rest_is c.args.conflicts) c.in-Model.is c.in_ok-set.ensures in
     subst (λ (ps : List ℕ). IsModel G (all_but (among ps) c.args.p) (assignment_by c.in_ok-values-in-Model.values)) (sym c.as_slice-places.ensures)
     (is_witness G T c.in_ok-others.others c.args.refutation.now.places c.args.p c.in-Model.set c.in_ok-values-in-Model.values is rest model
     (c.in_ok-values-in-Model.ensures.values ∙ ap assignment_of c.as_slice-in-Model.ensures))
@@ -58,6 +57,6 @@ returns-in-Refuted c =
     c.requires.shrunk c.requires.next rest refl
     (c.as_slice-4.ensures ∙ c.in_ok-part.ensures ∙ ap (map (nth c.args.core.now.part.now)) c.as_slice-2.ensures)
     (c.in_ok-clauses.ensures ∙ ap (clauses_at G) c.as_slice-3.ensures)
-    (subst (λ (d : Decided). IsDecided rest_is c.args.conflicts d) c.in-Refuted.is c.in_ok-set.ensures)
+    (subst (IsDecided rest_is c.args.conflicts) c.in-Refuted.is c.in_ok-set.ensures)
     (c.in_ok-told_places-in-Refuted.ensures ∙ ap (λ (ps : List ℕ). map (nth ps) c.as_slice-in-Refuted-2.result.now) c.as_slice-in-Refuted.ensures
     ∙ ap (map (nth c.in_ok-others.others)) c.as_slice-in-Refuted-2.ensures)

@@ -4,33 +4,33 @@ use Rattle.lk_model.specs.Formulas.Lean.{are_positions}
 use Rattle.lk_model.specs.Held.PartialValues.{assignment_by}
 use Rattle.refutation_log.specs.Trimmed.{trimmed, names_positions_below}
 use Rattle.general_kernel.specs.SetLiterals.{literals_on}
-use Rattle.general_kernel.proofs.Turns.{IsTurn}
+use Rattle.general_kernel.proofs.NextRounds.{IsNextRound}
 use Rattle.general_laws.specs.Found.{IsUnfinished}
 use Rattle.part_formula.specs.Decisions.{are_filled, IsPartModel, IsPartRefuted}
 use Rattle.part_formula.proofs.DecidedClauses.{first, model_found, names_low, refutation_found, stopped_found}
 use Rattle.part_formula.proofs.deciding.decide_clauses.Goals as goal
 
-pub returns-in-Sat : goal.returns-in-Sat
-returns-in-Sat c =
+pub returns-in-Model : goal.returns-in-Model
+returns-in-Model c =
     let F = c.args.f.now in
     let part = c.as_slice.result.now in
     let e : part ≡ positions_of F = c.as_slice.ensures ∙ c.in_ok-all.ensures.value in
-    let t : IsTurn F part c.in_ok-blocked.blocked (c.from-next.result + 1) c.get.result c.in_ok-values.field-0 =
+    let t : IsNextRound F part c.in_ok-blocked.blocked (c.from-next.result + 1) c.get.result c.in_ok-values.field-0 =
     record { over = _; decided = c.in_ok-values.ensures.decided; formula = refl; positions = refl; blocked = refl } in
     let h = first F part c.in_ok-blocked.blocked (c.from-next.result + 1) c.get.result c.in_ok-values.field-0 t
     (c.in_ok-blocked.ensures ∙ ap (λ (n : ℕ). replicate n false) c.vars.ensures.value) (ap (λ (k : ℕ). k + 1) (c.from-next.ensures ∙ c.len.ensures.value))
     c.len.ensures.formula c.len.ensures.limits (subst (λ (ps : List ℕ). are_positions F ps ≡ true) (sym c.as_slice.ensures) c.in_ok-all.ensures.part) c.get.ensures.some c.get.ensures.most in
-    subst (λ (ps : List ℕ). IsPartModel F ps c.in_ok-set_of-in-Sat.field-0) e
-    (model_found F part c.get.result c.in_ok-values.field-0 c.in-Sat.values c.in_ok-set_of-in-Sat.field-0 h c.in-Sat.is
+    subst (λ (ps : List ℕ). IsPartModel F ps c.in_ok-set_of-in-Model.field-0) e
+    (model_found F part c.get.result c.in_ok-values.field-0 c.in-Model.values c.in_ok-set_of-in-Model.field-0 h c.in-Model.is
     (subst (λ (ps : List ℕ). are_filled F ps ≡ true) (sym e) c.requires)
-    (c.in_ok-set_of-in-Sat.ensures ∙ ap (λ (ps : List ℕ). literals_on (variable_occurs F ps) (assignment_by c.in-Sat.values) F.vars) (c.as_slice-in-Sat.ensures ∙ sym c.as_slice.ensures)))
+    (c.in_ok-set_of-in-Model.ensures ∙ ap (λ (ps : List ℕ). literals_on (variable_occurs F ps) (assignment_by c.in-Model.values) F.vars) (c.as_slice-in-Model.ensures ∙ sym c.as_slice.ensures)))
 
 pub trim-requires-clause-positions : goal.trim-requires-clause-positions
 trim-requires-clause-positions c =
     let F = c.args.f.now in
     let part = c.as_slice.result.now in
     let next = ap (λ (k : ℕ). k + 1) (c.from-next.ensures ∙ c.len.ensures.value) in
-    let t : IsTurn F part c.in_ok-blocked.blocked (c.from-next.result + 1) c.get.result c.in_ok-values.field-0 =
+    let t : IsNextRound F part c.in_ok-blocked.blocked (c.from-next.result + 1) c.get.result c.in_ok-values.field-0 =
     record { over = _; decided = c.in_ok-values.ensures.decided; formula = refl; positions = refl; blocked = refl } in
     let h = first F part c.in_ok-blocked.blocked (c.from-next.result + 1) c.get.result c.in_ok-values.field-0 t
     (c.in_ok-blocked.ensures ∙ ap (λ (n : ℕ). replicate n false) c.vars.ensures.value) next
@@ -44,7 +44,7 @@ returns-in-Refuted c =
     let part = c.as_slice.result.now in
     let e : part ≡ positions_of F = c.as_slice.ensures ∙ c.in_ok-all.ensures.value in
     let next = ap (λ (k : ℕ). k + 1) (c.from-next.ensures ∙ c.len.ensures.value) in
-    let t : IsTurn F part c.in_ok-blocked.blocked (c.from-next.result + 1) c.get.result c.in_ok-values.field-0 =
+    let t : IsNextRound F part c.in_ok-blocked.blocked (c.from-next.result + 1) c.get.result c.in_ok-values.field-0 =
     record { over = _; decided = c.in_ok-values.ensures.decided; formula = refl; positions = refl; blocked = refl } in
     let h = first F part c.in_ok-blocked.blocked (c.from-next.result + 1) c.get.result c.in_ok-values.field-0 t
     (c.in_ok-blocked.ensures ∙ ap (λ (n : ℕ). replicate n false) c.vars.ensures.value) next
@@ -60,7 +60,7 @@ returns c =
     let part = c.as_slice.result.now in
     let e : part ≡ positions_of F = c.as_slice.ensures ∙ c.in_ok-all.ensures.value in
     let next = ap (λ (k : ℕ). k + 1) (c.from-next.ensures ∙ c.len.ensures.value) in
-    let t : IsTurn F part c.in_ok-blocked.blocked (c.from-next.result + 1) c.get.result c.in_ok-values.field-0 =
+    let t : IsNextRound F part c.in_ok-blocked.blocked (c.from-next.result + 1) c.get.result c.in_ok-values.field-0 =
     record { over = _; decided = c.in_ok-values.ensures.decided; formula = refl; positions = refl; blocked = refl } in
     let h = first F part c.in_ok-blocked.blocked (c.from-next.result + 1) c.get.result c.in_ok-values.field-0 t
     (c.in_ok-blocked.ensures ∙ ap (λ (n : ℕ). replicate n false) c.vars.ensures.value) next

@@ -4,8 +4,7 @@ use Rattle.lk_model.specs.Formulas.Formula.{positions_of}
 use Rattle.lk_model.specs.declared.document.Round.{Round}
 use Rattle.renaming_laws.specs.Renaming.{renamed_round}
 use Rattle.general_laws.specs.Found.{IsUnfinished}
-use Rattle.part_formula.specs.Decisions.{IsDecision, IsPartModel, IsPartRefuted}
-use Rattle.part_formula.specs.declared.deciding.Decision.{Decision}
+use Rattle.part_formula.specs.Decisions.{Decision, IsDecision, IsPartModel, IsPartRefuted}
 use Rattle.part_formula.proofs.ToldDecisions.{filled_copy, dense_again, model_within, round_within, one_form, model_told, refuted_told, stopped_told}
 use Rattle.part_formula.proofs.deciding.decide_part_by.Goals as goal
 use Rattle.lk_model.proofs.Rising.{rises_to}

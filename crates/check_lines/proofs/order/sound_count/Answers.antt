@@ -1,4 +1,0 @@
-use Rattle.check_lines.proofs.order.sound_count.Goals as goal
-
-pub returns : goal.returns
-returns c = c.sound_front.ensures c.args.set.now c.in_ok-set.ensures

@@ -1,0 +1,119 @@
+-- What is decided of parts, told of the formula.
+use Rattle.std.proofs.Common.{◌≡◌, ℕ, zero, suc, ◌+◌, ◌-◌, ◌<◌, ◌≤◌, ◌^◌, true, List, [], ◌∷◌, ◌++◌, take, length, map, get_or, refl, sym, ◌∙◌, ap, subst, arith, ℤ, Option, Some, None, Contains}
+use Rattle.std.specs.Prelude.{IfSome, unwrap_or}
+use Rattle.std.proofs.lemmas.List.{append-nil}
+use Rattle.lk_model.specs.Lists.{among}
+use Rattle.lk_model.specs.Formulas.Formula.{Cnf, positions_of}
+use Rattle.lk_model.specs.Formulas.Lean.{are_positions}
+use Rattle.lk_model.specs.Formulas.Parts.{AreParts}
+use Rattle.lk_model.specs.Checks.RoundChecks.{IsRefutation}
+use Rattle.lk_model.specs.declared.document.Round.{Round}
+use Rattle.lk_model.specs.declared.result.GeneralResult.{GeneralResult}
+use Rattle.lk_model.proofs.Counting.{among-range}
+use Rattle.lk_model.proofs.Rising.{bounded}
+use Rattle.general_laws.specs.GeneralResults.{IsGeneralResult, AreGeneralResults}
+use Rattle.general_laws.proofs.UsedLaws.{used_law}
+use Rattle.autarky_compose.specs.JoinedGeneral.{AreJoinable, AreJoined, all_kept, rounds_behind}
+use Rattle.autarky_compose.proofs.GeneralLaws.{joined_general_law}
+use Rattle.part_formula.specs.Decisions.{IsPartModel, sets_only}
+use Rattle.renaming_laws.specs.Renaming.{nth}
+use Rattle.renaming_laws.proofs.Copies.{part_length}
+use Rattle.mus_core.specs.declared.deciding.Copied.{Copied}
+use Rattle.mus_core.specs.declared.deciding.Refutation.{Refutation}
+use Rattle.mus_core.specs.declared.mus.Mus.{Mus}
+use Rattle.mus_core.specs.Copies.{IsCopy, IsRefutedWithin}
+use Rattle.mus_core.specs.Found.{IsMus}
+use Rattle.mus_core.specs.ByParts.{AreModels}
+use Rattle.mus_core.proofs.Copying.{rising_told}
+
+-- REFUTATIONS
+
+-- what refutes clauses of the formula refutes it
+pub refuted_whole : (c : Copied) (r : Refutation) → IsCopy c → IsRefutedWithin c r → IsRefutation c.formula.now (positions_of c.formula.now) r.round
+refuted_whole c r copy h =
+    let F = c.formula.now in
+    let G = c.clauses.now in
+    let told = map (nth c.part.now) r.places in
+    let rise = rising_told c.part.now (length F.clauses) (length G.clauses) r.places copy.part (part_length F G c.part.now c.names.now copy.dense) h.places in
+    used_law.wider F told (positions_of F) r.round (λ p m.
+    let b = bounded 0 (length F.clauses) told p rise m in
+    let most = b.1 in
+    among-range 1 (length F.clauses) p b.0 (omega (arith, most))) h.refuted
+
+-- MODELS
+
+-- one more of them
+pub model_more : (F : Cnf) (parts : List (List ℕ)) (found : List GeneralResult) (i : ℕ) (part : List ℕ) (r : GeneralResult) → i < length parts
+    → part ≡ get_or parts i part → r ≡ sets_only r.set → IsPartModel F part r.set → AreModels F (take i parts) found
+    → AreModels F (take (i + 1) parts) (found ++ r ∷ [])
+model_more F parts found i part r lt is only model all =
+    subst (λ (n : ℕ). AreModels F (take n parts) (found ++ r ∷ [])) (let next : suc i ≡ i + 1 = omega arith in next) (at parts found i lt is all)
+  where
+    at : (parts : List (List ℕ)) (found : List GeneralResult) (i : ℕ) → i < length parts → part ≡ get_or parts i part → AreModels F (take i parts) found
+        → AreModels F (take (suc i) parts) (found ++ r ∷ [])
+    at [] found i lt is all = absurd (omega (arith, lt))
+    at (p ∷ ps) [] zero lt is all = (subst (λ (q : List ℕ). IsPartModel F q r.set) is model, only, tt)
+    at (p ∷ ps) (s ∷ found) zero lt is all = absurd all
+    at (p ∷ ps) [] (suc i) lt is all = absurd all
+    at (p ∷ ps) (s ∷ found) (suc i) lt is all = (all.0, all.1, at ps found i (omega (arith, lt)) is all.2)
+
+-- all of a list
+pub taken : {X : Type 0} (xs : List X) (i : ℕ) → length xs ≤ i → take i xs ≡ xs
+taken [] zero le = refl
+taken [] (suc i) le = refl
+taken (x ∷ xs) zero le = absurd (omega (arith, le))
+taken (x ∷ xs) (suc i) le = let more = taken xs i (omega (arith, le)) in λ j. x ∷ more j
+
+-- they are results that keep nothing and have no round
+results : (F : Cnf) (parts : List (List ℕ)) (found : List GeneralResult) → AreModels F parts found → AreGeneralResults F parts found
+results F [] [] all = tt
+results F [] (r ∷ found) all = absurd all
+results F (part ∷ parts) [] all = absurd all
+results F (part ∷ parts) (r ∷ found) all = (subst (λ (s : GeneralResult). IsGeneralResult F part s) (sym all.1) all.0, results F parts found all.2)
+
+none_kept : (F : Cnf) (parts : List (List ℕ)) (found : List GeneralResult) → AreModels F parts found → all_kept found ≡ []
+none_kept F [] [] all = refl
+none_kept F [] (r ∷ found) all = absurd all
+none_kept F (part ∷ parts) [] all = absurd all
+none_kept F (part ∷ parts) (r ∷ found) all =
+    let own : r.kept ≡ [] = ap (λ (s : GeneralResult). s.kept) all.1 in
+    let more = none_kept F parts found all.2 in
+    λ j. own j ++ more j
+
+no_rounds : (F : Cnf) (m : ℕ) (rounds : List Round) (parts : List (List ℕ)) (found : List GeneralResult) → AreModels F parts found → rounds_behind m rounds found ≡ rounds
+no_rounds F m rounds [] [] all = refl
+no_rounds F m rounds [] (r ∷ found) all = absurd all
+no_rounds F m rounds (part ∷ parts) [] all = absurd all
+no_rounds F m rounds (part ∷ parts) (r ∷ found) all =
+    ap (λ (s : GeneralResult). rounds_behind m rounds (s ∷ found)) all.1
+    ∙ no_rounds F m (rounds ++ []) parts found all.2 ∙ append-nil rounds
+
+pub joinable : (F : Cnf) (parts : List (List ℕ)) (found : List GeneralResult) → AreParts F parts → AreModels F parts found → AreJoinable (length F.clauses) found
+joinable F parts found are all = joined_general_law.joinable F parts found are (results F parts found all)
+
+-- nothing is kept of nothing
+keeps_none : (m : ℕ) (found : List GeneralResult) (t : GeneralResult) → all_kept found ≡ [] → AreJoined m found t → t.kept ≡ []
+keeps_none m found t none j = at t.kept refl
+  where
+    at : (ps : List ℕ) → t.kept ≡ ps → ps ≡ []
+    at [] e = refl
+    at (p ∷ ps) e =
+        let inside : Contains t.kept p = subst (λ (qs : List ℕ). Contains qs p) (sym e) (zero, omega arith, refl) in
+        let from : Contains [] p = subst (λ (qs : List ℕ). Contains qs p) none (j.kept.only p inside) in
+        absurd (let lt = from.1 in omega (arith, lt))
+
+-- joined they are a model of the formula
+pub whole_model : (F : Cnf) (parts : List (List ℕ)) (found : List GeneralResult) (t : GeneralResult) → AreParts F parts → AreModels F parts found
+    → AreJoined (length F.clauses) found t → IsPartModel F (positions_of F) t.set
+whole_model F parts found t are all j =
+    let kept = keeps_none (length F.clauses) found t (none_kept F parts found all) j in
+    let rounds : t.rounds ≡ [] = j.rounds ∙ no_rounds F (length F.clauses) [] parts found all in
+    let only : t ≡ sets_only t.set = λ i. record { kept = kept i; set = t.set; rounds = rounds i } in
+    subst (λ (s : GeneralResult). IsGeneralResult F (positions_of F) s) only (joined_general_law.whole F parts found t are (results F parts found all) j)
+
+-- THE FIRST THAT STOPPED
+
+pub first_stop : (F : Cnf) (conflicts : ℕ) (first : Option Mus) (second : Mus) → IfSome first (IsMus F conflicts) → IsMus F conflicts second
+    → IsMus F conflicts (unwrap_or first second)
+first_stop F conflicts None second before here = here
+first_stop F conflicts (Some m) second before here = before

@@ -1,0 +1,143 @@
+//! A formula, decided part by part.
+//!
+//! Parts share no variable. So a refuted part refutes the formula, and models of all parts make one of the formula. A
+//! part that is easily refuted may stand behind a hard one, so all of them are first searched with a small budget.
+ghost use Rattle.std.specs.Prelude.{◌≡◌, unwrap_or, IfOk, IsTrue};
+ghost use Rattle.lk_model.specs.Formulas.Formula.{positions_of};
+ghost use Rattle.lk_model.specs.Formulas.Lean.{are_positions};
+ghost use Rattle.lk_model.specs.Formulas.Parts.{AreParts};
+ghost use Rattle.part_formula.specs.Decisions.{are_filled, sets_only};
+ghost use Rattle.mus_core.specs.Copies.{IsCopy};
+ghost use Rattle.mus_core.specs.ByParts.{IsDecidedFor};
+
+use crate::deciding::{Copied, decide_copy};
+use crate::mus::Mus;
+use autarky_compose::join_general;
+use cdcl_core::Schedule;
+use lk_model::{Budget, Decided, Formula, GeneralResult, List, Lit, OutOfMemory, Round};
+use par_parts::parts;
+use part_formula::{Renaming, dense_formula, names_of};
+use std::alloc::Global;
+
+/// How many clauses each order may learn of a part when all parts are searched for the first time.
+const FIRST_BUDGET: u64 = 1_000;
+
+/// What is decided of a formula of which no clause is empty, where the search in each part may learn so many clauses.
+pub(crate) fn decide_by_parts(
+    alloc: Global,
+    f: &Formula,
+    conflicts: Budget,
+) -> Result<Decided<List<Lit>, Round, Mus>, OutOfMemory>
+    requires { IsTrue (are_filled f.now (positions_of f.now)) }
+    ensures { IfOk result (IsDecidedFor f.now conflicts (positions_of f.now)) }
+{
+    let list = parts(alloc, f)?;
+    if list.len() > 1 && conflicts.get() > FIRST_BUDGET {
+        if let Some(first) = Budget::new(FIRST_BUDGET) {
+            match decide_each(alloc, f, list.as_slice(), first)? {
+                Decided::Model(set) => return Ok(Decided::Model(set)),
+                Decided::Refuted(round) => return Ok(Decided::Refuted(round)),
+                Decided::Stopped(_) => {}
+            }
+        }
+    }
+    decide_each(alloc, f, list.as_slice(), conflicts)
+}
+
+// The first refutation in the order of the parts, or else the first search that stopped, or else all models, joined.
+fn decide_each(
+    alloc: Global,
+    f: &Formula,
+    list: &[List<u32>],
+    conflicts: Budget,
+) -> Result<Decided<List<Lit>, Round, Mus>, OutOfMemory>
+    requires parts { AreParts f.now list.now }
+    requires filled { IsTrue (are_filled f.now (positions_of f.now)) }
+    ensures { IfOk result (IsDecidedFor f.now conflicts (positions_of f.now)) }
+{
+    let mut models = List::new(alloc);
+    let mut stopped = None;
+    for part in list {
+        match decide_part(alloc, f, part.as_slice(), conflicts)? {
+            Decided::Model(set) => models.push(only_set(alloc, set))?,
+            Decided::Refuted(round) => return Ok(Decided::Refuted(round)),
+            Decided::Stopped(mus) => stopped = Some(first_of(stopped, mus)),
+        }
+    }
+    match stopped {
+        Some(mus) => Ok(Decided::Stopped(mus)),
+        None => Ok(Decided::Model(join_general(alloc, f.len(), models)?.set)),
+    }
+}
+
+// What is decided of a part, in a copy of its own, by all orders of variables, which alternate.
+fn decide_part(
+    alloc: Global,
+    f: &Formula,
+    part: &[u32],
+    conflicts: Budget,
+) -> Result<Decided<List<Lit>, Round, Mus>, OutOfMemory>
+    requires part { IsTrue (are_positions f.now part.now) }
+    requires filled { IsTrue (are_filled f.now (positions_of f.now)) }
+    ensures { IfOk result (IsDecidedFor f.now conflicts part.now) }
+{
+    // (by it contracts see that the formula is one)
+    let _vars = f.vars();
+    let names = names_of(alloc, f, part)?;
+    let clauses = dense_formula(alloc, f, part, &names)?;
+    let copied = Copied {
+        formula: f,
+        part,
+        names: &names,
+        clauses: &clauses,
+    };
+    tell_decided(alloc, &copied, conflicts)
+}
+
+// What is decided of a copy, told of the formula.
+fn tell_decided(
+    alloc: Global,
+    of: &Copied,
+    conflicts: Budget,
+) -> Result<Decided<List<Lit>, Round, Mus>, OutOfMemory>
+    requires { IsCopy of.now }
+    ensures { IfOk result (IsDecidedFor of.now.formula.now conflicts of.now.part.now) }
+{
+    match decide_copy(alloc, of, &mut Schedule::of_all_orders(), conflicts)? {
+        Decided::Model(set) => {
+            let renaming = Renaming {
+                clauses: u64::from(of.formula.len()),
+                part: of.part,
+                names: of.names,
+            };
+            Ok(Decided::Model(renaming.literals(set)))
+        }
+        Decided::Refuted(refutation) => Ok(Decided::Refuted(refutation.round)),
+        Decided::Stopped(open) => Ok(Decided::Stopped(Mus::Unfinished {
+            part: List::from_vec(Vec::from_slice(alloc, of.part)?),
+            texts: open.texts,
+            round: open.round,
+        })),
+    }
+}
+
+// The result that keeps nothing and makes these literals true.
+fn only_set(alloc: Global, set: List<Lit>) -> GeneralResult
+    ensures { result ≡ sets_only set }
+{
+    GeneralResult {
+        kept: List::new(alloc),
+        set,
+        rounds: List::new(alloc),
+    }
+}
+
+// The first of two, where there is one before the second.
+fn first_of(first: Option<Mus>, second: Mus) -> Mus
+    ensures { result ≡ unwrap_or first second }
+{
+    match first {
+        Some(mus) => mus,
+        None => second,
+    }
+}
