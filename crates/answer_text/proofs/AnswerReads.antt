@@ -115,8 +115,8 @@ if_stop n m Completes bytes (Ok a) d h = tt
 if_stop n m Completes bytes (Err stop) d h = d.stop bytes stop h
 
 -- what is determined of a text
-pub text_law : AnswerTextLaw
-text_law = record {
+pub answer_text_law : AnswerTextLaw
+answer_text_law = record {
   once = λ n m bytes a b small few s t.
       drafts.one_value (answer_drafts n m) (IsDraft n m) (drafting n m small few) bytes a b (text_of_answer n m bytes a s) (text_of_answer n m bytes b t);
   never = λ n m bytes a line t s. stops_nowhere_as (IsTextOfAnswer n m) bytes line (a, t) s;

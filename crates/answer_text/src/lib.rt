@@ -9,6 +9,6 @@ mod laws;
 mod printing;
 mod reading;
 
-pub use laws::text_law;
+pub use laws::answer_text_law;
 pub use printing::print_answer;
 pub use reading::{AnswerReader, answer_reader, read_answer};

@@ -13,7 +13,7 @@ mod reading;
 mod signed_lists;
 mod steps;
 
-pub use laws::text_law;
+pub use laws::document_text_law;
 pub use model_text::{print_model, read_model};
 pub use printing::print;
 pub use reading::{DocumentReader, document_reader, read};

@@ -5,7 +5,7 @@ use Rattle.lk_model.specs.Limits.{max_vars, max_clauses}
 use Rattle.lk_model.specs.Texts.Lines.{Word}
 use Rattle.lk_model.proofs.FaultConverse.{fault_law, faultless}
 use Rattle.dimacs_reader.specs.Faults.{refusal_by, refusal_of}
-use Rattle.answer_check.proofs.AnswerReads.{text_law}
+use Rattle.answer_check.proofs.AnswerReads.{answer_text_law}
 use Rattle.cert_text.specs.ReadTexts.{IsOfOneDocument, StopsNowhere}
 use Rattle.command_words.specs.declared.shape.Grammar.{Grammar}
 use Rattle.command_words.specs.declared.shape.Grammar.TheVariants.{Formula, Document, Model, Answer, Edits}
@@ -42,7 +42,7 @@ one_value : IsOfOneDocument → (grammar : Grammar) (known : Known) (bytes : Lis
 one_value once Formula known bytes v w small r s = fault_law.one bytes v w r s
 one_value once Document known bytes v w small r s = once bytes v w r s
 one_value once Model known bytes v w small r s = cc (r, s)
-one_value once Answer known bytes v w small r s = text_law.once known.vars (length known.clauses) bytes v w small.vars small.clauses r s
+one_value once Answer known bytes v w small r s = answer_text_law.once known.vars (length known.clauses) bytes v w small.vars small.clauses r s
 one_value once Edits known bytes v w small r s = cc (r, s)
 
 one_told : IsOfOneDocument → (grammar : Grammar) (known : Known) (told : Option (List ℕ)) (v w : ValueOf grammar) → IsSmall known → IfSome told (IsTextOf grammar known v) → IsSomeAnd told (IsTextOf grammar known w) → v ≡ w
@@ -87,7 +87,7 @@ never_refused never Model known bytes v (stop.Answer line) t h = h
 never_refused never Model known bytes v (stop.Edits line fault) t h = h
 never_refused never Model known bytes v stop.Read t h = h
 never_refused never Model known bytes v stop.Memory t h = h
-never_refused never Answer known bytes v (stop.Answer line) t h = text_law.never known.vars (length known.clauses) bytes v line t h
+never_refused never Answer known bytes v (stop.Answer line) t h = answer_text_law.never known.vars (length known.clauses) bytes v line t h
 never_refused never Answer known bytes v (stop.Words i) t h = h
 never_refused never Answer known bytes v (stop.Formula r) t h = h
 never_refused never Answer known bytes v (stop.Document line) t h = h

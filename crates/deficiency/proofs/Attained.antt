@@ -18,7 +18,7 @@ use Rattle.bipartite_match.specs.declared.walk.Reached.{Reached}
 use Rattle.bipartite_match.specs.Matchings.{IsMatching, IsMaximum}
 use Rattle.bipartite_match.specs.Walks.{IsReached, unmatched}
 use Rattle.bipartite_match.proofs.Numbers.{within, rising_once}
-use Rattle.matching_kernel.specs.ReachedLaw.{ReachedLaw}
+use Rattle.matching_kernel.specs.KernelReachedLaw.{KernelReachedLaw}
 use Rattle.deficiency.specs.Deficiency.{AreOwners, HasDeficiency, IsMaxDeficiency, pairs_of}
 use Rattle.deficiency.proofs.Bounds.{owned_of, deficiency_law}
 use Rattle.deficiency.proofs.Counts.{split_by, within_count}
@@ -112,7 +112,7 @@ pub record IsAttained (F : Cnf) (r : Reached) (own : List Own) (d : ℕ) : Type 
   pub has_it : HasDeficiency F r.kept d
   pub owners : AreOwners F own
 
-pub is_attained : ReachedLaw → (F : Cnf) (m : Matching) (r : Reached) (own : List Own) (d : ℕ) → is_formula F ≡ true → IsWithinLimits F → are_positions F (positions_of F) ≡ true
+pub is_attained : KernelReachedLaw → (F : Cnf) (m : Matching) (r : Reached) (own : List Own) (d : ℕ) → is_formula F ≡ true → IsWithinLimits F → are_positions F (positions_of F) ≡ true
     → IsMaximum F (positions_of F) m → IsReached F (positions_of F) m r → own ≡ pairs_of (positions_of F) m.of_clause → length own + d ≡ length F.clauses → IsAttained F r own d
 is_attained law F m r own d form limits rise most h e n =
     let owners = subst (λ (o : List Own). AreOwners F o) (sym e) (pairs_own F (positions_of F) m rise most.matching) in

@@ -17,7 +17,7 @@ ghost use Rattle.deficiency.specs.Deficiency.{AreOwners, HasDeficiency, IsMaxDef
 
 use bipartite_match::{Matching, maximum, reach};
 use lk_model::{Formula, List, OutOfMemory, Own};
-use matching_kernel::reached_law;
+use matching_kernel::kernel_reached_law;
 use std::alloc::Global;
 
 /// The maximal deficiency of a formula.
@@ -63,7 +63,7 @@ fn by_matching(
 {
     let reached = reach(alloc, f, part, m)?;
     let own = pairs(alloc, part, m.of_clause.as_slice())?;
-    reached_law();
+    kernel_reached_law();
     Ok(Deficiency {
         value: left_of(f.len(), &own),
         kept: reached.kept,

@@ -196,8 +196,8 @@ variables_again b (v ∷ vs) = rw (on v (b v), variables_again b vs) refl
     on v false = variable_negative v
 
 -- all of it
-pub model_law : SolveModelLaw
-model_law = record {
+pub solve_model_law : SolveModelLaw
+solve_model_law = record {
   positions = positions;
   is_part = is_part;
   foreign = foreign;

@@ -30,8 +30,8 @@ few F part r form h =
     subst (λ (us : List Step). length (filter (λ (s : Step). not (is_empty s.clause)) us) < 3 ^ F.vars) (sym (append-nil r.steps)) learned
 
 -- all of it
-pub refutation_law : SolveRefutationLaw
-refutation_law = record {
+pub solve_refutation_law : SolveRefutationLaw
+solve_refutation_law = record {
   no_model = refuted_law.no_model;
   wider = used_law.wider;
   used = used_law.used;

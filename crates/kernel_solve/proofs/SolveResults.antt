@@ -33,9 +33,9 @@ use Rattle.kernel_solve.specs.KernelParts.{IsFilledPart, IsKernelPart, told, Are
 use Rattle.kernel_solve.specs.Answers.{Answer, AreAnswers, AreNotRefuted, IsFirstRefutation, IsFirstStop, IsAmongAnswers, models}
 use Rattle.kernel_solve.specs.Solutions.{IsTotalModel, IsNotRefuted, IsRefutedWithin, IsUndecidedWithin, IsSolved}
 use Rattle.kernel_solve.proofs.EmptyClauses.{filled_at}
-use Rattle.kernel_solve.proofs.ModelLaws.{kernel_of, model_law}
+use Rattle.kernel_solve.proofs.ModelLaws.{kernel_of, solve_model_law}
 use Rattle.kernel_solve.proofs.OpenRounds.{open_sound}
-use Rattle.kernel_solve.proofs.RefutationLaws.{refutation_law}
+use Rattle.kernel_solve.proofs.RefutationLaws.{solve_refutation_law}
 
 -- what is found in a formula without an empty clause
 pub record IsSearched (F : Cnf) (r : MatchingResult) (list : List (List ℕ)) : Type 0 where
@@ -62,7 +62,7 @@ filled_parts : (F : Cnf) (kept : List ℕ) (parts : List (List ℕ)) → are_pos
     → AllByRecursion (IsPart (clauses_at F kept)) parts → AllByRecursion (IsFilledPart F) (map (told kept) parts)
 filled_parts F kept [] rise filled all = tt
 filled_parts F kept (part ∷ parts) rise filled all =
-    let positions = model_law.positions F kept part rise (is_rising (clauses_at F kept) part all.0) in
+    let positions = solve_model_law.positions F kept part rise (is_rising (clauses_at F kept) part all.0) in
     (record { positions = positions; filled = filled_at F (told kept part) filled positions }, filled_parts F kept parts rise filled all.1)
 
 pub all_filled : (F : Cnf) (r : MatchingResult) (list : List (List ℕ)) → IsSearched F r list → AllByRecursion (IsFilledPart F) list
@@ -162,9 +162,9 @@ known : (F : Cnf) (r : MatchingResult) (list before behind : List (List ℕ)) (p
 known F r list before behind part h list_is =
     let a = placed F r.kept h.parts.parts before behind part (sym list_is ∙ h.parts.told_are) h.parts.are.each in
     subst (λ (ps : List ℕ). IsKnown F ps) (sym a.told_is) (record {
-      is_part = model_law.is_part F r a.places h.form h.matching a.is_part;
-      positions = model_law.positions F r.kept a.places h.matching.positions (is_rising (clauses_at F r.kept) a.places a.is_part);
-      foreign = model_law.foreign F r a.places h.matching a.is_part;
+      is_part = solve_model_law.is_part F r a.places h.form h.matching a.is_part;
+      positions = solve_model_law.positions F r.kept a.places h.matching.positions (is_rising (clauses_at F r.kept) a.places a.is_part);
+      foreign = solve_model_law.foreign F r a.places h.matching a.is_part;
     })
 
 matching_parts : (F : Cnf) (r : MatchingResult) (list spelled : List (List ℕ)) → IsSearched F r list → list ≡ spelled → AreMatchingParts F spelled
@@ -179,7 +179,7 @@ refuted F r list conflicts answers round h all c =
     let k = known F r list d.before d.behind d.part h d.list_is in
     let decides : IsPartRefuted F d.part conflicts round = d.decides in
     record {
-      refutation = refutation_law.wider F d.part (positions_of F) round (λ p m.
+      refutation = solve_refutation_law.wider F d.part (positions_of F) round (λ p m.
           let b = bounded 0 (length F.clauses) d.part p k.positions m in
           let most = b.1 in
           among-range 1 (length F.clauses) p b.0 (omega (arith, most))) decides.refutation;
@@ -205,9 +205,9 @@ stopped F r list conflicts answers round most h all c =
     let d = divided F conflicts (Stopped round) list (models c.before) c.behind (as_divided F conflicts list answers _ c.answers_are all) in
     let k = known F r list d.before d.behind d.part h d.list_is in
     let decides : found.IsUnfinished F d.part conflicts (round ∷ []) = d.decides in
-    let learning = refutation_law.whole F d.part (round ∷ []) k.positions k.foreign decides.result in
+    let learning = solve_refutation_law.whole F d.part (round ∷ []) k.positions k.foreign decides.result in
     let count = decides.all in
-    let few = refutation_law.few F (positions_of F) round h.form learning in
+    let few = solve_refutation_law.few F (positions_of F) round h.form learning in
     record {
       filled = h.filled;
       learning = learning;
@@ -242,7 +242,7 @@ results_of F kept conflicts [] [] each all = tt
 results_of F kept conflicts [] (set ∷ sets) each all = absurd all
 results_of F kept conflicts (part ∷ parts) [] each all = absurd all
 results_of F kept conflicts (part ∷ parts) (set ∷ sets) each all = (
-  model_law.part F kept part set (is_rising (clauses_at F kept) part each.0) (decided_at F (told kept part) conflicts (Model set) all.0),
+  solve_model_law.part F kept part set (is_rising (clauses_at F kept) part each.0) (decided_at F (told kept part) conflicts (Model set) all.0),
   results_of F kept conflicts parts sets each.1 all.1,
 )
 
@@ -335,10 +335,10 @@ pub total_model : (F : Cnf) (r : MatchingResult) (sets : List (List ℤ)) (joine
     → assignment_of lits ≡ extended (assignment_of (set_line F r.own)) (assignment_of joined) F.vars → IsTotalModel F lits
 total_model F r sets joined lits form limits matching h j literals values =
     let k = of_kernel F r.kept sets j.result limits matching.positions h j.joined in
-    let kernel = subst (λ (ls : List ℤ). IsModel F (among r.kept) (assignment_of ls)) (sym j.literals) (model_law.kernel F r.kept j.result matching.positions k.result k.none) in
-    let model = model_law.whole F r (assignment_of joined) form limits matching kernel in
+    let kernel = subst (λ (ls : List ℤ). IsModel F (among r.kept) (assignment_of ls)) (sym j.literals) (solve_model_law.kernel F r.kept j.result matching.positions k.result k.none) in
+    let model = solve_model_law.whole F r (assignment_of joined) form limits matching kernel in
     record {
-      total = ap (map variable) literals ∙ model_law.total (assignment_of (set_line F r.own)) (assignment_of joined) F.vars;
+      total = ap (map variable) literals ∙ solve_model_law.total (assignment_of (set_line F r.own)) (assignment_of joined) F.vars;
       satisfies = subst (λ (φ : Assignment). IsModel F (all_of F) φ) (sym values) model;
     }
 

@@ -8,5 +8,5 @@ mod laws;
 mod model;
 mod solving;
 
-pub use laws::{model_law, refutation_law};
+pub use laws::{solve_model_law, solve_refutation_law};
 pub use solving::solve;

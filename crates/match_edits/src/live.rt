@@ -20,7 +20,7 @@ use crate::parts::{
 use crate::stop::EditStop;
 use bipartite_match::{Matching, Steps, maximum, reach, reached_positions};
 use lk_model::{Formula, List, Lit, OutOfMemory};
-use matching_kernel::reached_law;
+use matching_kernel::kernel_reached_law;
 use std::alloc::Global;
 use std::marker::Model;
 
@@ -128,7 +128,7 @@ impl Live {
         ensures largest { IfOk result (λ numbers. KernelWithin TheMatching self.now.held self.now.live numbers) }
     {
         well_formed(&self.held);
-        reached_law();
+        kernel_reached_law();
         let reached = reach(alloc, &self.held, self.live.as_slice(), &self.m)?;
         Ok(reached.kept)
     }
@@ -140,7 +140,7 @@ impl Live {
         ensures same { self.new ≡ self.old }
     {
         well_formed(&self.held);
-        reached_law();
+        kernel_reached_law();
         reached_positions(alloc, &self.held, self.live.as_slice(), &mut self.m)
     }
 }

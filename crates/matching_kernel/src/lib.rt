@@ -6,5 +6,5 @@ mod laws;
 mod set_line;
 
 pub use kernel::matching_kernel;
-pub use laws::reached_law;
+pub use laws::kernel_reached_law;
 pub use set_line::set_of_own;

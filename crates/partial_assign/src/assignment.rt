@@ -44,6 +44,15 @@ impl Partial {
         })
     }
 
+    /// The same assignment once more. It takes the memory of the result alone.
+    pub fn copy(&self, alloc: Global) -> Result<Partial, OutOfMemory>
+        ensures { IfOk result (λ p. p ≡ self.now) }
+    {
+        Ok(Partial {
+            values: Vec::from_slice(alloc, self.values.as_slice())?,
+        })
+    }
+
     /// The number n of its variables, set or not.
     pub fn vars(&self) -> u32
         ensures value { result ≡ length self.now }

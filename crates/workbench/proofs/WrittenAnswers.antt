@@ -12,7 +12,7 @@ use Rattle.lean_checker.specs.declared.verdict.Verdict.TheVariants as verdict
 use Rattle.lk_model.specs.Documents.Answers.{IsAnswerText}
 use Rattle.answer_check.specs.AnswerChecks.{first_failure_of_answer}
 use Rattle.lk_model.specs.declared.answer.Answer.{Answer}
-use Rattle.answer_check.proofs.AnswerReads.{text_law}
+use Rattle.answer_check.proofs.AnswerReads.{answer_text_law}
 use Rattle.command_words.specs.Lawful.{Request}
 use Rattle.command_words.specs.Settings.{Options}
 use Rattle.command_words.specs.declared.command.Command.TheVariants.{Solve}
@@ -82,7 +82,7 @@ verifies_as text written v words shelf out say a = record {
       let formula : r.values.0 ≡ v.F = fault_law.one text r.values.0 v.F spells v.spells in
       let read = subst (λ (F : Cnf). IsAnswerText F.vars (length F.clauses) written r.values.1.0) formula
       (subst (λ (o : Option (List ℕ)). IfSome o (λ bytes. IsAnswerText r.values.0.vars (length r.values.0.clauses) bytes r.values.1.0)) a.written_is r.read.1.0) in
-      let answer : r.values.1.0 ≡ v.a = text_law.once v.F.vars (length v.F.clauses) written r.values.1.0 v.a v.spells.vars_limit v.spells.clauses_limit read v.read in
+      let answer : r.values.1.0 ≡ v.a = answer_text_law.once v.F.vars (length v.F.clauses) written r.values.1.0 v.a v.spells.vars_limit v.spells.clauses_limit read v.read in
       let none : first_failure_of_answer r.values.0 r.values.1.0 ≡ None = (λ i. first_failure_of_answer (formula i) (answer i)) ∙ v.passes in
       (subst (Takes out) (r.answers.writes ∙ ap (λ (o : Option Why). line (verdict_words (verdict_by o))) none) e.taken.0, e.taken.1.same r.answers.silent);
 }

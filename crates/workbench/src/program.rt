@@ -14,7 +14,7 @@ ghost use Rattle.command_inputs.specs.Inputs.{IsFailure};
 
 use crate::command;
 use crate::output::write_both;
-use cert_text::text_law;
+use cert_text::document_text_law;
 use command_inputs::Stop;
 use command_words::request_of;
 use lk_model::OutOfMemory;
@@ -99,7 +99,7 @@ fn ending<R: Threads + Sync, H: Shelf, G: Gate>(
         IsUnlessFailed (code e.status) status (Rose (H.faults shelf.old) (H.faults shelf.new)) ⊥) }
     ensures untouched { ReadsNothing (request_of (map (λ w. w.now) words.now)) → shelf.new ≡ shelf.old }
 {
-    text_law();
+    document_text_law();
     match perform(rt, alloc, words, shelf, gate) {
         Ok(ending) => Ok(ending),
         Err(stop) => ending_of(alloc, stop),

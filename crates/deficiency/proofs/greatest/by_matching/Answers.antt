@@ -35,7 +35,7 @@ returns c =
     let most = subst (λ (ps : List ℕ). IsMaximum f ps m) c.requires.part c.requires.maximum in
     let reached = subst (λ (ps : List ℕ). IsReached f ps m r) c.requires.part c.in_ok-reached.ensures in
     let count = ap (λ (own : List Own). length own + c.left_of.result) (c.from_vec.ensures ∙ sym c.deref.ensures.value) ∙ c.left_of.ensures ∙ c.len.ensures.value in
-    let found : IsAttained f r c.from_vec.result c.left_of.result = is_attained c.reached_law.ensures f m r c.from_vec.result c.left_of.result c.len.ensures.formula c.len.ensures.limits rise most reached (c.from_vec.ensures ∙ is) count in
+    let found : IsAttained f r c.from_vec.result c.left_of.result = is_attained c.kernel_reached_law.ensures f m r c.from_vec.result c.left_of.result c.len.ensures.formula c.len.ensures.limits rise most reached (c.from_vec.ensures ∙ is) count in
     record {
       value = found.is_value;
       kept = found.is_kernel;

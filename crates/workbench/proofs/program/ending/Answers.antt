@@ -10,7 +10,7 @@ returns-in-Ok-clause-allowed g c = result_allowed (map (λ w. w.now) c.args.word
 pub returns-in-Ok-clause-decided : goal.returns-in-Ok-clause-decided
 returns-in-Ok-clause-decided g c =
     let words = map (λ w. w.now) c.args.words.now in
-    λ status decided. result_decided c.text_law.ensures.once (request_of words) (g.H.Shelf.told c.args.shelf.now) c.in-Ok.ending.status status c.in-Ok.ending.written.items c.in-Ok.ending.said.items c.in-Ok.ensures.ok decided
+    λ status decided. result_decided c.document_text_law.ensures.once (request_of words) (g.H.Shelf.told c.args.shelf.now) c.in-Ok.ending.status status c.in-Ok.ending.written.items c.in-Ok.ending.said.items c.in-Ok.ensures.ok decided
 
 pub returns-in-Err-clause-allowed : goal.returns-in-Err-clause-allowed
 returns-in-Err-clause-allowed g c =
@@ -21,7 +21,7 @@ returns-in-Err-clause-allowed g c =
 
 pub returns-in-Err-clause-decided : goal.returns-in-Err-clause-decided
 returns-in-Err-clause-decided g c =
-    told_decided ⊥ c.text_law.ensures.once c.text_law.ensures.never (map (λ w. w.now) c.args.words.now) (g.H.Shelf.told c.args.shelf.now) (g.H.Shelf.ailing c.perform.new.shelf) (g.H.Shelf.current c.perform.new.shelf) c.in-Err.stop
+    told_decided ⊥ c.document_text_law.ensures.once c.document_text_law.ensures.never (map (λ w. w.now) c.args.words.now) (g.H.Shelf.told c.args.shelf.now) (g.H.Shelf.ailing c.perform.new.shelf) (g.H.Shelf.current c.perform.new.shelf) c.in-Err.stop
     c.ending_of.result c.ending_of.ensures.status c.in-Err.ensures.stop c.in-Err.ensures.cause.failed
 
 pub returns-in-Ok-clause-well : goal.returns-in-Ok-clause-well

@@ -11,4 +11,4 @@ returns-clause-kernel c =
     let reached = subst (λ (ps : List ℕ). IsReached s.held ps s.m r) c.as_slice.ensures c.in_ok-reached.ensures in
     subst (λ (x : LiveClauses). IsLiveKernel x r.kept) c.self.view_is
     (live_kernel (record { held = s.held; live = s.live }) r.kept c.self.invariant.positions
-    (c.reached_law.ensures.kernel s.held s.live s.m r c.well_formed-2.ensures.formula c.well_formed-2.ensures.limits c.self.invariant.positions c.self.invariant.maximum reached))
+    (c.kernel_reached_law.ensures.kernel s.held s.live s.m r c.well_formed-2.ensures.formula c.well_formed-2.ensures.limits c.self.invariant.positions c.self.invariant.maximum reached))

@@ -27,7 +27,7 @@ returns-clause-kernel c =
     subst (λ (x : LiveClauses). IsLiveKernel x kept) c.self.view_is
     (live_kernel (record { held = s.held; live = s.live }) kept c.self.invariant.positions
     (subst (λ (ks : List ℕ). KernelWithin TheMatching s.held s.live ks) w.1
-    (c.reached_law.ensures.kernel s.held s.live s.m w.0 c.well_formed-2.ensures.formula c.well_formed-2.ensures.limits c.self.invariant.positions c.self.invariant.maximum h))))
+    (c.kernel_reached_law.ensures.kernel s.held s.live s.m w.0 c.well_formed-2.ensures.formula c.well_formed-2.ensures.limits c.self.invariant.positions c.self.invariant.maximum h))))
     c.reached_positions.ensures.reached
 
 pub returns-clause-largest : goal.returns-clause-largest
@@ -38,7 +38,7 @@ returns-clause-largest c =
     let h = subst (λ (ps : List ℕ). IsReached s.held ps s.m w.0) c.as_slice.ensures w.2 in
     subst (λ (x : LiveClauses). KernelWithin TheMatching x.held x.live kept) c.self.view_is
     (subst (λ (ks : List ℕ). KernelWithin TheMatching s.held s.live ks) w.1
-    (c.reached_law.ensures.kernel s.held s.live s.m w.0 c.well_formed-2.ensures.formula c.well_formed-2.ensures.limits c.self.invariant.positions c.self.invariant.maximum h)))
+    (c.kernel_reached_law.ensures.kernel s.held s.live s.m w.0 c.well_formed-2.ensures.formula c.well_formed-2.ensures.limits c.self.invariant.positions c.self.invariant.maximum h)))
     c.reached_positions.ensures.reached
 
 pub returns-clause-same : goal.returns-clause-same

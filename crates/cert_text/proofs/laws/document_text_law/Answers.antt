@@ -1,5 +1,5 @@
 use Rattle.cert_text.proofs.ReadLaws.{of_one_document, stops_nowhere}
-use Rattle.cert_text.proofs.laws.text_law.Goals as goal
+use Rattle.cert_text.proofs.laws.document_text_law.Goals as goal
 
 pub returns-clause-once : goal.returns-clause-once
 returns-clause-once c = of_one_document
