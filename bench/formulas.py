@@ -1,5 +1,6 @@
 """Drawers of formulas for the programs of this folder. Each answers the number of variables and the clauses; what is
 drawn is drawn with the generator that it is given."""
+import itertools
 
 
 def write(out, variables, clauses):
@@ -180,3 +181,127 @@ def shuffled(draw, variables, clauses):
     renamed = [[names[l - 1] if l > 0 else -names[-l - 1] for l in clause] for clause in clauses]
     draw.shuffle(renamed)
     return variables, renamed
+
+
+def two_sums(draw, variables):
+    """The sum of all variables is even, and, in another order, odd."""
+    names, clauses = variables, []
+    for odd in (False, True):
+        total, *others = draw.sample(range(1, variables + 1), variables)
+        for other in others:
+            names += 1
+            clauses += sum_clauses(names, total, other)
+            total = names
+        clauses.append([total if odd else -total])
+    return names, clauses
+
+
+def regular_graph(draw, points):
+    """The edges of a drawn graph with three edges at each point."""
+    while True:
+        ends = draw.sample([point for point in range(points) for _ in range(3)], 3 * points)
+        edges = {frozenset(ends[i:i + 2]) for i in range(0, 3 * points, 2)}
+        if len(edges) == 3 * points // 2 and all(len(edge) == 2 for edge in edges):
+            return sorted(sorted(edge) for edge in edges)
+
+
+def parities_of_graph(draw, points):
+    """A variable for each edge of a drawn graph: the sum at each point is even, but at the first one odd."""
+    edges, clauses = regular_graph(draw, points), []
+    for point in range(points):
+        at = [edge + 1 for edge, ends in enumerate(edges) if point in ends]
+        for bits in range(8):
+            if bin(bits).count("1") % 2 != (point == 0):
+                clauses.append([-v if bits >> i & 1 else v for i, v in enumerate(at)])
+    return len(edges), clauses
+
+
+def factors(number, bits):
+    """Two factors of so many bits, of which neither is 1, have this product."""
+    names, clauses = 2 * bits, []
+
+    def fresh(made):
+        nonlocal names
+        names += 1
+        clauses.extend(made(names))
+        return names
+
+    one, other = range(1, bits + 1), range(bits + 1, 2 * bits + 1)
+    columns = [[] for _ in range(2 * bits + 1)]
+    for i, x in enumerate(one):
+        for j, y in enumerate(other):
+            columns[i + j].append(fresh(lambda z: product_clauses(z, x, y)))
+    for place, column in enumerate(columns):
+        while len(column) > 1:
+            x, y, *rest = column
+            half = fresh(lambda z: sum_clauses(z, x, y))
+            if rest:
+                w = rest.pop(0)
+                columns[place + 1].append(fresh(lambda z: carry_clauses(z, x, y, w)))
+                half = fresh(lambda z: sum_clauses(z, half, w))
+            elif place + 1 < len(columns):
+                columns[place + 1].append(fresh(lambda z: product_clauses(z, x, y)))
+            column[:] = rest + [half]
+        clauses += [[v if number >> place & 1 else -v] for v in column]
+    return names, clauses + [list(one[1:]), list(other[1:])]
+
+
+def exactly_one(literals):
+    return [literals] + [[-a, -b] for i, a in enumerate(literals) for b in literals[:i]]
+
+
+def filled_square(draw, size, free, box=0):
+    """A square of numbers, each once in a row, a column and, for a sudoku, a box, of which so many places are free."""
+    at = lambda row, column, number: (row * size + column) * size + number + 1
+    span = range(size)
+    shift = lambda row: row * box + row // box if box else row
+    digits = draw.sample(span, size)
+    clauses = [c for a in span for b in span for line in ([at(a, b, k) for k in span], [at(a, k, b) for k in span],
+                                                          [at(k, a, b) for k in span]) for c in exactly_one(line)]
+    for top in range(0, size if box else 0, box or 1):
+        for left in range(0, size, box):
+            places = [(top + i, left + j) for i in range(box) for j in range(box)]
+            clauses += [c for number in span for c in exactly_one([at(*place, number) for place in places])]
+    given = draw.sample([(row, column) for row in span for column in span], size * size - free)
+    clauses += [[at(row, column, digits[(shift(row) + column) % size])] for row, column in given]
+    return size ** 3, clauses
+
+
+def queens(draw, size, blocked=0):
+    """As many queens as there are rows, with drawn fields blocked."""
+    field = lambda row, column: row * size + column + 1
+    fields = [(row, column) for row in range(size) for column in range(size)]
+    clauses = [[field(row, column) for column in range(size)] for row in range(size)]
+    for line in (lambda r, c: r, lambda r, c: c, lambda r, c: r + c, lambda r, c: r - c):
+        groups = {}
+        for place in fields:
+            groups.setdefault(line(*place), []).append(field(*place))
+        clauses += [clause for group in groups.values() for clause in exactly_one(group)[1:]]
+    return size * size, clauses + [[-field(*place)] for place in draw.sample(fields, blocked)]
+
+
+def ramsey(one, other, points):
+    """Edges between so many points have two colours: no so many points are all joined by the first, or the second."""
+    edge = {pair: k + 1 for k, pair in enumerate(itertools.combinations(range(points), 2))}
+    return len(edge), [[sign * edge[pair] for pair in itertools.combinations(chosen, 2)]
+                       for size, sign in ((one, -1), (other, 1))
+                       for chosen in itertools.combinations(range(points), size)]
+
+
+def progressions(one, other, numbers):
+    """The numbers are of two colours, without so many in one progression of the first colour, or of the second."""
+    return numbers, [[sign * (first + k * step) for k in range(length)] for length, sign in ((one, -1), (other, 1))
+                     for step in range(1, numbers) for first in range(1, numbers - (length - 1) * step + 1)]
+
+
+def round_trip(draw, points, edges_each):
+    """A trip through all points of a drawn graph along its edges, and back."""
+    edges = {frozenset(draw.sample(range(points), 2)) for _ in range(int(edges_each * points))}
+    at = lambda time, point: time * points + point + 1
+    span = range(points)
+    lines = [line for a in span for line in ([at(a, p) for p in span], [at(t, a) for t in span])]
+    clauses = [clause for line in lines for clause in exactly_one(line)]
+    for time in span:
+        clauses += [[-at(time, p), -at((time + 1) % points, q)] for p in span for q in span
+                    if p != q and frozenset((p, q)) not in edges]
+    return points * points, clauses + [[at(0, 0)]]

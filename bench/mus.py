@@ -11,8 +11,9 @@ find no model of the text as it stands, and one of it without any single clause;
 a budget is used up, judge.py and `check` find the document unfinished, with itself as the formula. A core of more than 400
 clauses is tried without 60 drawn ones. `families` measures beside picomus: the seconds of the processor to the
 core, the least of three runs by turns, or of one run that takes over 5 seconds, and the sizes of the cores. A run ends after
-60 seconds there. Needs python3 and Debian's packages minisat, picosat and cadical; `tools` needs yosys and berkeley-abc too.
-Nothing fails by time.
+60 seconds there. At the end stands the geometric mean of the ratios of the seconds, with the least and the greatest,
+where both find a core; less than 5 milliseconds count as 5. Needs python3 and Debian's packages minisat, picosat and cadical;
+`tools` needs yosys and berkeley-abc too. Nothing fails by time.
 """
 import os
 import random
@@ -27,6 +28,7 @@ import judge
 import tool_formulas
 from formulas import (adders, colouring, counter, drawn_clause, formula_text, parity, pebbles, pigeons, random_three,
                       shuffled, side_by_side)
+from solving import mean_ratio
 
 SEED = 1
 RUNS = 3
@@ -89,6 +91,7 @@ FAMILIES = {
     "counter, 8 bits over 40 steps": lambda draw: counter(8, 40),
     "adders, 5 bits": lambda draw: adders(5),
     "adders, 8 bits": lambda draw: adders(8),
+    "pebbles, 15 rows, shuffled": lambda draw: shuffled(draw, *pebbles(15)),
     "pebbles, 20 rows": lambda draw: pebbles(20),
     "pebbles, 30 rows": lambda draw: pebbles(30),
     "parity, 40 variables": lambda draw: parity(draw, 40),
@@ -260,12 +263,16 @@ def told_run(found, is_answer):
 
 def measure(leank, kinds):
     print("| formula | clauses | leank | core | picomus | core |\n|---|---|---|---|---|---|")
+    seconds = []
     with tempfile.TemporaryDirectory() as folder:
         for kind in kinds or FAMILIES:
             variables, clauses = FAMILIES[kind](random.Random(SEED))
             file = written(folder, "f.cnf", formula_text(variables, clauses))
             found = by_turns({"leank": [leank, "mus", file, "--conflicts", BUDGET], "picomus": ["picomus", file]})
             print(f"| {kind} | {len(clauses)} | {told_run(found['leank'], 0)} | {told_run(found['picomus'], 20)} |", flush=True)
+            if found["leank"].status == 0 and found["picomus"].status == 20:
+                seconds.append((found["leank"].seconds, found["picomus"].seconds))
+    print(f"times picomus: {mean_ratio(seconds)}")
 
 
 def main():

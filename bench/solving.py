@@ -3,15 +3,20 @@
 
     bench/solving.py LEANK [GROUP] [KIND ...]
 
-LEANK is the built program (`dist/leank`). GROUP is `families`, `tools` or `parts`;
-without it all three are measured. Needs python3 and Debian's packages minisat and cadical; `tools` needs yosys and berkeley-abc
-too. Prints rows of tables. Each figure is the least of three runs, by turns, or of one run that takes over 5 seconds; a
-run ends after 30 seconds of the processor, and `solve` may learn as many clauses as it wants. Seconds are those of the
-processor; in `parts`, where two workers are at work, those of the clock.
+LEANK is the built program (`dist/leank`). GROUP is `families`, `formulas`, `tools` or `parts`; without it all four are
+measured. Needs python3 and Debian's packages minisat and cadical; `families` needs picosat, and `tools` yosys and
+berkeley-abc too. Prints rows of tables. Each figure is the least of three runs, by turns, or of one run that takes over
+5 seconds; a run ends after 30 seconds of the processor, and `solve` may learn as many clauses as it wants. Seconds are
+those of the processor; in `parts`, where two workers are at work, those of the clock.
+
+`families` tells how many formulas of a family each program answers within 60 seconds, and the geometric mean of the
+ratios of `solve` to each other one, with the least and the greatest, where both answer. A ratio takes less than 5
+milliseconds as 5, and what takes over half a second runs once. What each formula takes stands on standard error.
 
 `reading` is `verify` of the same answer without its last byte: it reads the formula and the whole answer, and refuses the
 last line. judge.py judges each answer of at most 4 MB. Nothing fails by time.
 """
+import math
 import multiprocessing
 import os
 import random
@@ -24,18 +29,22 @@ from collections import namedtuple
 
 import judge
 import tool_formulas
-from formulas import (adders, counter, machine, parity, pebbles, pigeons, planted_three, random_three, shuffled,
-                      side_by_side, write)
+from formulas import (adders, colouring, counter, factors, filled_square, machine, parities_of_graph, parity, pebbles,
+                      pigeons, planted_three, progressions, queens, ramsey, random_three, round_trip, shuffled,
+                      side_by_side, two_sums, write)
 
 SEED = 1
 RUNS = 3
 MOST_SECONDS = 30
 LONG_SECONDS = 5
+FAMILY_SECONDS = 60
+LONG_FAMILY_SECONDS = 0.5
+LEAST_SECONDS = 0.005
 MOST_BYTES = 10 << 30
 JUDGED_BYTES = 4 << 20
 BUDGET = str(2**63 - 1)
 
-FAMILIES = {
+FORMULAS = {
     "random, 100 variables": lambda draw: random_three(draw, 100),
     "random, 150 variables": lambda draw: random_three(draw, 150),
     "random, 200 variables": lambda draw: random_three(draw, 200),
@@ -56,6 +65,52 @@ FAMILIES = {
     "counter, 8 bits over 40 steps": lambda draw: counter(8, 40),
     "counter, 10 bits over 100 steps": lambda draw: counter(10, 100),
     "counter, 12 bits over 200 steps": lambda draw: counter(12, 200),
+}
+
+
+def drawn(make, *sizes, number=1):
+    """Drawers of so many formulas of each of these sizes, each with a seed of its own."""
+    return [(" ".join(map(str, size)), seed, lambda draw, size=size: make(draw, *size))
+            for size in sizes for seed in range(1, number + 1)]
+
+
+def built(make, *sizes):
+    """Drawers of one formula of each size, in which nothing is drawn."""
+    return drawn(lambda draw, *size: make(*size), *sizes)
+
+
+def shuffled_of(make, *sizes):
+    """The same with numbers and clauses in a drawn order."""
+    return drawn(lambda draw, *size: shuffled(draw, *make(*size)), *sizes)
+
+
+FAMILIES = {
+    "random, 100 variables": drawn(random_three, (100,), number=10),
+    "random, 125 variables": drawn(random_three, (125,), number=10),
+    "random, 150 variables": drawn(random_three, (150,), number=10),
+    "random, 175 variables": drawn(random_three, (175,), number=5),
+    "random, 200 variables": drawn(random_three, (200,), number=5),
+    "random, 225 variables": drawn(random_three, (225,), number=3),
+    "random, 250 variables": drawn(random_three, (250,), number=2),
+    "random with a model": drawn(planted_three, (150,), (200,), (200, 6), (400, 8), number=2),
+    "pigeons": built(pigeons, (7,), (8,), (9,)),
+    "pigeons, shuffled": shuffled_of(pigeons, (7,), (8,), (9,)),
+    "two sums": drawn(two_sums, (20,), (30,), (40,)),
+    "sums at the points of a graph": drawn(parities_of_graph, (16,), (24,), (32,)),
+    "random sums": drawn(parity, (40, -4), (40, 4), (60, -6), (60, 6), (80, -8), (80, 8)),
+    "pebbles, shuffled": shuffled_of(pebbles, (10,), (20,), (40,)),
+    "adders": built(adders, (8,), (16,), (32,)),
+    "adders, shuffled": shuffled_of(adders, (8,), (16,), (32,)),
+    "colouring": drawn(colouring, (100, 2.2), (200, 2.2), (100, 2.6), (80, 4.2, 4), (100, 4.5, 4)),
+    "factors": built(factors, (60491, 8), (1040399, 10), (1034275, 10), (16744463, 12)),
+    "counters, machines": built(counter, (8, 40), (10, 100), (12, 200)) + drawn(machine, (20, 10), (30, 15)),
+    "sudoku": drawn(filled_square, (9, 56, 3), (16, 150, 4), (16, 180, 4), (25, 350, 5)),
+    "Latin squares": drawn(filled_square, (10, 42), (20, 168), (25, 260), (30, 380)),
+    "queens": drawn(queens, (8,), (12, 20), (20,), (30,), (20, 150)),
+    "Ramsey": built(ramsey, (3, 3, 5), (3, 3, 6), (3, 4, 8), (3, 4, 9), (4, 4, 14), (3, 5, 13)),
+    "van der Waerden": built(progressions, (3, 4, 17), (3, 4, 18), (4, 4, 34), (4, 4, 35), (3, 6, 31),
+                             (3, 6, 32), (4, 5, 54), (4, 5, 55)),
+    "round trips": drawn(round_trip, (10, 2), (20, 2.5), (15, 1.5)),
 }
 
 
@@ -84,43 +139,43 @@ PARTS = {
 Run = namedtuple("Run", "clock processor status")
 
 
-def limited():
-    resource.setrlimit(resource.RLIMIT_CPU, (MOST_SECONDS, MOST_SECONDS + 5))
+def limited(most):
+    resource.setrlimit(resource.RLIMIT_CPU, (most, most + 5))
     resource.setrlimit(resource.RLIMIT_AS, (MOST_BYTES, MOST_BYTES))
 
 
-def measured(words, output):
+def measured(words, output, most):
     """Seconds of a command, and its status, which is below 0 if it was stopped."""
     begin = time.monotonic()
     with open(output, "w") as out:
-        process = subprocess.Popen(words, stdout=out, stderr=subprocess.DEVNULL, preexec_fn=limited)
+        process = subprocess.Popen(words, stdout=out, stderr=subprocess.DEVNULL, preexec_fn=lambda: limited(most))
         _, status, usage = os.wait4(process.pid, 0)
     process.returncode = os.waitstatus_to_exitcode(status)
     return Run(time.monotonic() - begin, usage.ru_utime + usage.ru_stime, process.returncode)
 
 
-def by_turns(commands):
+def by_turns(commands, most=MOST_SECONDS, long=LONG_SECONDS):
     """The least seconds of each of the commands, a name with words and an output."""
     least = {}
     for turn in range(RUNS):
         for name, (words, output) in commands.items():
-            if turn > 0 and least[name].processor > LONG_SECONDS:
+            if turn > 0 and least[name].processor > long:
                 continue
-            run = measured(words, output)
+            run = measured(words, output, most)
             before = least.get(name, run)
             least[name] = Run(min(before.clock, run.clock), min(before.processor, run.processor), run.status)
     return least
 
 
-def write_drawn(group, kind, file):
+def write_drawn(make, seed, file):
     """Writes a formula into a file."""
     with open(file, "w") as out:
-        write(out, *group[kind](random.Random(SEED)))
+        write(out, *make(random.Random(seed)))
 
 
-def write_apart(group, kind, file):
+def write_apart(make, file, seed=SEED):
     """The same, by a process of its own, so that this one stays small."""
-    writer = multiprocessing.get_context("fork").Process(target=write_drawn, args=(group, kind, file))
+    writer = multiprocessing.get_context("fork").Process(target=write_drawn, args=(make, seed, file))
     writer.start()
     writer.join()
 
@@ -215,11 +270,64 @@ ANSWER_HEAD = ("formula", "variables and clauses", "model", "`solve`", "minisat 
                "reading (`verify` to it)", "answer", "judge")
 
 
+OTHERS = ("minisat", "cadical", "picosat")
+
+
+def family_runs(leank, folder, kind):
+    """The runs on each formula of a family."""
+    formula, found = os.path.join(folder, "formula"), []
+    for size, seed, make in FAMILIES[kind]:
+        write_apart(make, formula, seed)
+        commands = solver_words(leank, formula, os.path.join(folder, "answer"))
+        commands["picosat"] = (["picosat", "-n", formula], os.devnull)
+        runs = by_turns(commands, FAMILY_SECONDS, LONG_FAMILY_SECONDS)
+        same_status(kind, runs)
+        found.append(runs)
+        told = ", ".join(f"{name} {run.status} {run.processor:.3f}" for name, run in runs.items())
+        print(f"{kind} {size}, seed {seed}: {told}", file=sys.stderr, flush=True)
+    return found
+
+
+def answered(run):
+    return run.status in (10, 20)
+
+
+def mean_ratio(pairs):
+    """The geometric mean of ratios, with the least and the greatest."""
+    logs = [math.log(max(ours, LEAST_SECONDS) / max(theirs, LEAST_SECONDS)) for ours, theirs in pairs]
+    if not logs:
+        return "-"
+    return "{:.2g} ({:.2g} to {:.2g})".format(*map(math.exp, (sum(logs) / len(logs), min(logs), max(logs))))
+
+
+def family_row(kind, found):
+    counts = " / ".join(str(sum(answered(runs[name]) for runs in found)) for name in ("solve", *OTHERS))
+    columns = [kind, str(len(found)), counts]
+    for other in OTHERS:
+        both = [(runs["solve"], runs[other]) for runs in found if answered(runs["solve"]) and answered(runs[other])]
+        columns.append(mean_ratio([(ours.processor, theirs.processor) for ours, theirs in both]))
+    print("| " + " | ".join(columns) + " |", flush=True)
+
+
 def families(leank, folder, kinds):
-    print_head(*ANSWER_HEAD)
+    """A row on each family, on all, and on those formulas that take leank or minisat over a tenth of a second."""
+    answers = "answered by leank / minisat / cadical / picosat"
+    print_head("family", "formulas", answers, *(f"times {name}" for name in OTHERS))
+    everything = []
     for kind in kinds or FAMILIES:
+        found = family_runs(leank, folder, kind)
+        family_row(kind, found)
+        everything += found
+    family_row("all", everything)
+    long = [runs for runs in everything if max(runs["solve"].processor, runs["minisat"].processor) > 0.1]
+    family_row("over 0.1 s", long)
+
+
+def formulas(leank, folder, kinds):
+    print_head(*ANSWER_HEAD)
+    for kind in kinds or FORMULAS:
         formula = os.path.join(folder, "formula")
-        write_apart(FAMILIES, kind, formula)
+        write_apart(FORMULAS[kind], formula)
         answer_row(leank, kind, formula, os.path.join(folder, "answer"))
 
 
@@ -237,7 +345,7 @@ def parts(leank, folder, kinds):
     print_head("formula", "variables and clauses", "model", "one worker", "two workers (to one)", "minisat", "cadical", "judge")
     for kind in kinds or PARTS:
         formula, answer = (os.path.join(folder, name) for name in ("formula", "answer"))
-        write_apart(PARTS, kind, formula)
+        write_apart(PARTS[kind], formula)
         commands = solver_words(leank, formula, answer)
         commands["two"] = solver_words(leank, formula, answer + "2", "--workers", "2")["solve"]
         runs = by_turns(commands)
@@ -252,7 +360,7 @@ def parts(leank, folder, kinds):
         print("| " + " | ".join([*columns, both[0] if both else "-"]) + " |", flush=True)
 
 
-GROUPS = {"families": families, "tools": tools, "parts": parts}
+GROUPS = {"families": families, "formulas": formulas, "tools": tools, "parts": parts}
 
 
 def main():

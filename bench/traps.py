@@ -3,22 +3,27 @@
 
     bench/traps.py LEANK [--only WORD] [--growth | --bounds]
 
-LEANK is the built program (`dist/leank`). Each input has at most 2 MB. For each
-command that takes it stand the processor seconds, the peak of memory in MB and the status; what takes more than 3 seconds
-(5 for forged documents) or 300 MB, or gets no answer in 60, is marked. With --growth each is run at a sixteenth and at a quarter of
-its size instead, under valgrind, which counts instructions (Debian: valgrind); a growth of more than 5 times is marked.
-With --bounds only those runs are made that have a bound of their own: the most instructions for each byte of the formula, or
-the most bytes of memory for each byte of what is written; what is past its bound is marked.
+LEANK is the built program (`dist/leank`). Each input has at most 2 MB. For each command that takes it stand the
+processor seconds, the peak of memory in MB and the status; what takes more than 3 seconds (5 for forged documents) or
+300 MB, or gets no answer in 60, is marked. With --growth each is run at a sixteenth and at a quarter of its size
+instead, under valgrind, which counts instructions (Debian: valgrind); a growth of more than 5 times is marked. With
+--bounds only those runs are made that have a bound of their own: the most instructions for each byte of the inputs, or
+the most bytes of memory for each byte that is read or written; what is past its bound is marked. A run may hold 4 GB.
 """
+import argparse
 import os
 import random
 import re
 import resource
+import signal
 import subprocess
 import sys
 import tempfile
+from collections import namedtuple
 
-LIMIT, FORGED_LIMIT, TIME_OUT, MOST_GROWTH, MOST_MEMORY = 3.0, 5.0, 60, 5.0, 300
+from formulas import colouring, formula_text, pebbles, random_three, shuffled, two_sums
+
+LIMIT, FORGED_LIMIT, TIME_OUT, MOST_GROWTH, MOST_MEMORY, MOST_BYTES = 3.0, 5.0, 60, 5.0, 300, 4 << 30
 
 
 def cnf(n, clauses):
@@ -166,13 +171,6 @@ FORMULA_COMMANDS = [
 ]
 
 
-# A formula, its size, a command, the most instructions for each byte of it, the most bytes of memory for each byte written
-BOUNDS = [
-    (many_parts, 40000, ("mus",), 4000, None), (easy_part_behind, 14, ("mus",), 1000000, None),
-    (implications_refuted, 4200, ("mus",), None, 2.5), (implications_refuted, 6000, ("mus",), None, 2.5),
-]
-
-
 # DOCUMENTS, by a size: a formula and a text for `check`
 
 
@@ -292,23 +290,252 @@ def removed_in_order(n):
 EDITS = [(added_over_many_variables, 100000), (path_taken_anew, 8000), (drawn_edits, 40000), (removed_in_order, 100000)]
 
 
+# RUNS WITH A BOUND OF THEIR OWN, by a size: a formula, or the texts that a command reads
+
+
+def drawn_text(make, *sizes):
+    """A formula of formulas.py, drawn by the usual seed."""
+    return formula_text(*make(random.Random(1), *sizes)).decode()
+
+
+def signed(variables):
+    """Clauses with each choice of signs over these variables."""
+    return [[v if bits >> i & 1 else -v for i, v in enumerate(variables)] for bits in range(2 ** len(variables))]
+
+
+def joined_cubes(n):
+    """n times eight clauses over three variables, each tied to the next."""
+    rows = [clause for a in range(1, 3 * n, 3) for clause in signed((a, a + 1, a + 2))]
+    return cnf(3 * n, rows + [[-a, a + 3] for a in range(1, 3 * n - 3, 3)])
+
+
+def sign_patterns(n):
+    return cnf(n, signed(range(1, n + 1)))
+
+
+def conflicts_that_jump_far(n):
+    """Each of n variables starts two chains of n implications that end in a conflict. What is learned of it names but
+    the first variable, so the search goes back over n others. Each clause stands twice, so matching removes none."""
+    first, free, start, one, other = 1, 2, n + 2, 2 * n + 2, 3 * n + 2
+    rows = [[-first, v, v + 1] for v in range(free, free + n - 1)]
+    rows += [[-v, to] for v in range(start, start + n) for to in (one, other)]
+    rows += [[-v, v + 1] for chain in (one, other) for v in range(chain, chain + n - 1)]
+    return cnf(4 * n + 1, 2 * (rows + [[-first, -(one + n - 1), -(other + n - 1)]]))
+
+
+def two_literals(n):
+    """Twice as many drawn clauses of two literals as variables."""
+    draw = random.Random(1)
+    return cnf(n, [[v if draw.random() < 0.5 else -v for v in draw.sample(range(1, n + 1), 2)] for _ in range(2 * n)])
+
+
+def pigeons_many_times(n):
+    """Pigeons in six holes, each clause n times."""
+    head, rows = pigeons(6).split("\n", 1)
+    variables, clauses = map(int, head.split()[2:])
+    return f"p cnf {variables} {clauses * n}\n" + rows * n
+
+
+def pigeons_behind(n):
+    """Pigeons in six holes behind n variables that imply one another around."""
+    head, rows = pigeons(6).split("\n", 1)
+    variables, clauses = map(int, head.split()[2:])
+    moved = " ".join(str(int(w) + n if int(w) > 0 else int(w) - n if int(w) else 0) for w in rows.split())
+    ring = "".join(f"-{i} {i % n + 1} 0\n{i} {i % n + 1} 0\n" for i in range(1, n + 1))
+    return f"p cnf {variables + n} {clauses + 2 * n}\n" + ring + moved.replace(" 0 ", " 0\n") + "\n"
+
+
+def sums_contradicted(n):
+    return drawn_text(two_sums, n)
+
+
+def pebbles_shuffled(n):
+    return drawn_text(lambda draw: shuffled(draw, *pebbles(n)))
+
+
+def equalities_refuted(n):
+    """All variables are equal, the first one is true, and the last one false."""
+    return cnf(n, [[1]] + [[s * i, -s * (i + 1)] for i in range(1, n) for s in (1, -1)] + [[-n]])
+
+
+def long_clause_refuted(n):
+    return cnf(n, [list(range(1, n + 1))] + [[-i] for i in range(1, n + 1)])
+
+
+def far_over_threshold(n):
+    return drawn_text(random_three, n, 50)
+
+
+def over_threshold(n):
+    return drawn_text(random_three, n, 8)
+
+
+def paths_of_all_lengths(n):
+    """Paths of 1 to n clauses, and behind each a unit of its first variable: its pair moves along the whole path."""
+    rows, v = [], 1
+    for length in range(1, n + 1):
+        rows += [[v + i, v + i + 1] for i in range(length)] + [[v]]
+        v += length + 1
+    return cnf(v - 1, rows)
+
+
+def near_matching_threshold(n):
+    return drawn_text(random_three, n, 0.92)
+
+
+def triangles(n):
+    """Triangles of clauses, tied to one another in a row."""
+    rows = [[a + i, a + (i + 1) % 3] for a in range(1, 3 * n, 3) for i in range(3)]
+    return cnf(3 * n, rows + [[a, a + 3] for a in range(1, 3 * n - 3, 3)])
+
+
+def dense(n):
+    """Clauses of all n variables."""
+    return cnf(n, [[v if (v + k) % 3 else -v for v in range(1, n + 1)] for k in range(n)])
+
+
+def cascade_down(n):
+    return cnf(n, [[-i, i + 1] for i in range(1, n)] + [[i] for i in range(n, 0, -1)])
+
+
+def one_of_each_length(n):
+    return cnf(n, [list(range(1, length + 1)) for length in range(1, n + 1)])
+
+
+def cycle_of_two_colours(n):
+    """Neighbours on a cycle of an even length differ."""
+    return cnf(n, [[s * i, s * (i % n + 1)] for i in range(1, n + 1) for s in (1, -1)])
+
+
+def random_twice(n):
+    return drawn_text(random_three, n, 2)
+
+
+def units_and_long_clause(n):
+    return cnf(n, [[-i for i in range(1, n + 1)]] + [[i] for i in range(1, n + 1)])
+
+
+def three_colours(n):
+    return drawn_text(colouring, n, 2)
+
+
+def blank_lines(n):
+    return "p cnf 1 1\n" + "\n" * n + "1 0\n"
+
+
+def long_number(n):
+    return "p cnf 1 1\n" + "0" * n + "1 0\n"
+
+
+def empty_clauses_come_and_go(n):
+    """Over 1,000,000 variables."""
+    return cnf(1000000, []), "".join(f"a 0\nd {k}\n" for k in range(1, n + 1))
+
+
+def units_come_and_go(n):
+    """Over one variable."""
+    return cnf(1, []), "".join(f"a {1 if k % 2 else -1} 0\nd {k}\n" for k in range(1, n + 1))
+
+
+def few_edits_of_no_clause(n):
+    """Over 1,000,000 variables."""
+    return cnf(1000000, []), "".join(f"a {k} {k + 1} 0\n" for k in range(1, n + 1))
+
+
+def unmatched_units(n):
+    """Each edit adds one more equal clause, and all are in the kernel: what is written is a square."""
+    return cnf(1, []), "a 1 0\n" * n
+
+
+def last_of_one_line(n):
+    """The last clause of a formula on one line goes and comes."""
+    return one_line(n), "".join(f"d {n + k}\na {n} 0\n" for k in range(1000))
+
+
+def model_with_repeats(n):
+    """A document of one clause, and a model that says the same literal again and again."""
+    document = "c leank 1 pure\nc formula 1 1\nc keep 0\nc set 1 0\nc order 1 0\np cnf 1 0\n"
+    return cnf(1, [[1]]), document, "v" + " 1" * n + " 0\n"
+
+
+# As many numbers as one word of a command line may have.
+PROTECTED = ",".join(map(str, range(20000, 0, -1)))
+
+# The texts of a run, their size, the command, and what comes behind the names of the texts. Then the most instructions
+# for each byte of the texts, or the most bytes of memory for each byte that is read or written.
+Bound = namedtuple("Bound", "make size command options instructions memory", defaults=((), None, None))
+BOUNDS = [
+    Bound(many_parts, 40000, ("mus",), (), 4000),
+    Bound(easy_part_behind, 14, ("mus",), (), 1000000),
+    Bound(implications_refuted, 4200, ("mus",), (), None, 2.5),
+    Bound(implications_refuted, 6000, ("mus",), (), None, 2.5),
+    Bound(joined_cubes, 1500, ("solve",), (), 600),
+    Bound(joined_cubes, 1500, ("mus",), (), 600),
+    Bound(two_literals, 10000, ("solve",), (), 700),
+    Bound(two_literals, 10000, ("mus",), (), 700),
+    Bound(two_literals, 10000, ("reduce", "general"), (), 1000),
+    Bound(sign_patterns, 9, ("mus",), (), 15000),
+    Bound(sign_patterns, 11, ("mus",), (), 50000),
+    Bound(conflicts_that_jump_far, 1000, ("solve",), (), 8000),
+    Bound(conflicts_that_jump_far, 4000, ("solve",), (), None, 150),
+    Bound(pigeons_many_times, 300, ("solve",), (), 2000),
+    Bound(pigeons_behind, 10000, ("solve",), (), 1000),
+    Bound(sums_contradicted, 300, ("solve",), ("--conflicts", "2000"), 80000),
+    Bound(sums_contradicted, 300, ("solve",), ("--conflicts", "10000"), None, 7),
+    Bound(pebbles_shuffled, 15, ("mus",), ("--conflicts", "10000"), 400000),
+    Bound(pebbles_shuffled, 20, ("solve",), (), 110000),
+    Bound(pebbles_shuffled, 40, ("solve",), (), None, 80),
+    Bound(equalities_refuted, 6000, ("mus",), (), None, 2.5),
+    Bound(long_clause_refuted, 4000, ("mus",), (), None, 2.5),
+    Bound(far_over_threshold, 300, ("mus",), (), 600),
+    Bound(over_threshold, 100, ("mus",), (), 7500),
+    Bound(paths_of_all_lengths, 150, ("reduce", "matching"), (), 2200),
+    Bound(paths_of_all_lengths, 150, ("deficiency",), (), 2200),
+    Bound(near_matching_threshold, 20000, ("reduce", "matching"), (), 500),
+    Bound(near_matching_threshold, 20000, ("deficiency",), (), 500),
+    Bound(near_matching_threshold, 20000, ("report",), (), 500),
+    Bound(triangles, 15000, ("reduce", "matching"), (), 400),
+    Bound(many_parts, 40000, ("reduce", "matching"), ("--workers", "64"), 500),
+    Bound(dense, 500, ("reduce", "matching"), (), 200),
+    Bound(cascade_down, 40000, ("reduce", "pure"), (), 300),
+    Bound(one_of_each_length, 500, ("reduce", "pure"), (), 250),
+    Bound(cycle_of_two_colours, 1000, ("reduce", "linear"), (), 18000),
+    Bound(random_twice, 100, ("reduce", "linear"), (), 1100000),
+    Bound(units_and_long_clause, 300, ("reduce", "linear"), (), 110000),
+    Bound(three_colours, 60, ("reduce", "linear"), (), 100000),
+    Bound(implications_up, 80000, ("reduce", "general"), ("--protect", PROTECTED), 800),
+    Bound(blank_lines, 1000000, ("report",), (), 120),
+    Bound(long_number, 1000000, ("report",), (), 140),
+    Bound(empty_clauses_come_and_go, 10000, ("edits",), (), 900),
+    Bound(units_come_and_go, 20000, ("edits",), (), 350),
+    Bound(few_edits_of_no_clause, 500, ("edits",), (), 8500),
+    Bound(unmatched_units, 3000, ("edits",), (), None, 1.5),
+    Bound(last_of_one_line, 20000, ("edits",), (), 250),
+    Bound(model_with_repeats, 500000, ("extend",), (), 170),
+]
+
+
 # RUNS
 
 
+# Runs a command and prints its peak of memory and its status. It inherits little memory, unlike a child of the caller.
+RUNNER = f"""
+import resource, subprocess, sys
+resource.setrlimit(resource.RLIMIT_CPU, ({TIME_OUT}, {TIME_OUT} + 5))
+resource.setrlimit(resource.RLIMIT_AS, ({MOST_BYTES}, {MOST_BYTES}))
+done = subprocess.run(sys.argv[1:], stdout=open("out", "wb"), stderr=subprocess.DEVNULL)
+print(resource.getrusage(resource.RUSAGE_CHILDREN).ru_maxrss, done.returncode)
+"""
+
+
 def run(words, folder):
-    """Processor seconds, peak of MB, status, standard output; None for the status where the time ran out."""
+    """Processor seconds, peak of MB, and status, which is None where the time ran out."""
     before = resource.getrusage(resource.RUSAGE_CHILDREN)
-    script = "import resource,subprocess,sys\np=subprocess.run(sys.argv[1:],stdout=open('out','wb'),stderr=subprocess.DEVNULL)\n" \
-             "print(resource.getrusage(resource.RUSAGE_CHILDREN).ru_maxrss, p.returncode)"
-    try:
-        told = subprocess.run([sys.executable, "-c", script] + words, cwd=folder, capture_output=True, text=True, timeout=TIME_OUT)
-        peak, status = map(int, told.stdout.split())
-    except subprocess.TimeoutExpired:
-        subprocess.run(["pkill", "-f", words[0] + " " + words[1]], check=False)
-        peak, status = 0, None
+    told = subprocess.run([sys.executable, "-c", RUNNER] + words, cwd=folder, capture_output=True, text=True)
+    peak, status = map(int, told.stdout.split())
     after = resource.getrusage(resource.RUSAGE_CHILDREN)
     seconds = after.ru_utime + after.ru_stime - before.ru_utime - before.ru_stime
-    return seconds, peak // 1024, status
+    return seconds, peak // 1024, None if status in (-signal.SIGXCPU, -signal.SIGKILL) else status
 
 
 def instructions(words, folder):
@@ -331,7 +558,8 @@ def row(name, words, folder, limit):
     seconds, peak, status = run(words, folder)
     late = status is None or seconds > limit
     large = peak > MOST_MEMORY
-    text = f"{name:28} {' '.join(words[1:]):40} {seconds:7.2f} s {peak:6} MB  {'none' if status is None else status:>4}"
+    shown = " ".join(words[1:])[:40]
+    text = f"{name:28} {shown:40} {seconds:7.2f} s {peak:6} MB  {'none' if status is None else status:>4}"
     print(text + ("  LATE" if late else "") + ("  LARGE" if large else ""), flush=True)
     return late or large
 
@@ -383,20 +611,34 @@ def formula_rows(program, make, size, judge, folders):
     return marked
 
 
-def bound_row(program, make, size, command, most_instructions, most_memory, folder):
+def put_texts(folder, command, texts):
+    """Writes what a command reads, and answers the names and how many bytes there are."""
+    texts = (texts,) if isinstance(texts, str) else texts
+    names = ("f", "e") if command == ("edits",) else ("f", "d", "m")
+    for name, text in zip(names, texts):
+        put(folder, name, text)
+    return list(names[:len(texts)]), sum(map(len, texts))
+
+
+def bound_row(program, bound, folder):
     """Whether a run is past its bound."""
-    text = make(size)
-    put(folder, "f", text)
-    words = [program] + list(command) + ["f"]
-    if most_instructions:
-        count = instructions(words, folder)
-        ratio, most = (count or float("inf")) / len(text), most_instructions
+    names, read = put_texts(folder, bound.command, bound.make(bound.size))
+    words = [program, *bound.command, *names, *bound.options]
+    if bound.instructions:
+        ratio, most = (instructions(words, folder) or float("inf")) / read, bound.instructions
     else:
         _, peak, _ = run(words, folder)
-        ratio, most = peak * 2**20 / os.path.getsize(os.path.join(folder, "out")), most_memory
+        ratio, most = peak * 2**20 / (read + os.path.getsize(os.path.join(folder, "out"))), bound.memory
     past = ratio > most
-    print(f"{make.__name__:28} {size:6} {' '.join(command):10} {ratio:10.2f} of {most}{'  PAST' if past else ''}", flush=True)
+    name, command = f"{bound.make.__name__:28} {bound.size:7}", " ".join(bound.command)
+    print(f"{name} {command:16} {ratio:10.2f} of {most}{'  PAST' if past else ''}", flush=True)
     return past
+
+
+def own_row(program, bound, folder):
+    """The same run beside the time and the memory that all have."""
+    names, _ = put_texts(folder, bound.command, bound.make(bound.size))
+    return row(bound.make.__name__, [program, *bound.command, *names, *bound.options], folder, LIMIT)
 
 
 def document_rows(program, make, size, judge, folders):
@@ -418,34 +660,42 @@ def edits_rows(program, make, size, judge, folders):
     return judge(make.__name__, [program, "edits", "f", "e"], LIMIT)
 
 
-def main():
-    if len(sys.argv) < 2:
-        sys.exit(__doc__)
-    program = os.path.abspath(sys.argv[1])
-    only = sys.argv[sys.argv.index("--only") + 1] if "--only" in sys.argv else ""
-    growth = "--growth" in sys.argv
+def all_rows(program, only, judge, folders):
+    """How many of the rows that all three kinds of inputs have are marked."""
     marked = 0
+    for inputs, rows in ((FORMULAS, formula_rows), (DOCUMENTS, document_rows), (EDITS, edits_rows)):
+        for make, size in inputs:
+            if only in make.__name__:
+                marked += rows(program, make, size, judge, folders)
+    return marked
+
+
+def arguments():
+    parser = argparse.ArgumentParser(description=__doc__, formatter_class=argparse.RawDescriptionHelpFormatter)
+    parser.add_argument("leank", metavar="LEANK", help="the built program")
+    parser.add_argument("--only", metavar="WORD", default="", help="only inputs whose names have the word")
+    kinds = parser.add_mutually_exclusive_group()
+    kinds.add_argument("--growth", action="store_true", help="count instructions at two sizes")
+    kinds.add_argument("--bounds", action="store_true", help="only the runs that have a bound of their own, against it")
+    return parser.parse_args()
+
+
+def main():
+    asked = arguments()
+    program, only = os.path.abspath(asked.leank), asked.only
+    own = [bound for bound in BOUNDS if only in bound.make.__name__]
     with tempfile.TemporaryDirectory() as small, tempfile.TemporaryDirectory() as large:
-        folders = [(small, 16), (large, 4)] if growth else [(large, 1)]
+        folders = [(small, 16), (large, 4)] if asked.growth else [(large, 1)]
 
         def judge(name, words, limit):
-            return growth_row(name, words, small, large) if growth else row(name, words, large, limit)
+            return growth_row(name, words, small, large) if asked.growth else row(name, words, large, limit)
 
-        if "--bounds" in sys.argv:
-            marked = sum(bound_row(program, *bound, large) for bound in BOUNDS if only in bound[0].__name__)
-            print(f"{marked} past their bounds")
-            sys.exit(1 if marked else 0)
-
-        for make, size in FORMULAS:
-            if only in make.__name__:
-                marked += formula_rows(program, make, size, judge, folders)
-        for make, size in DOCUMENTS:
-            if only in make.__name__:
-                marked += document_rows(program, make, size, judge, folders)
-        for make, size in EDITS:
-            if only in make.__name__:
-                marked += edits_rows(program, make, size, judge, folders)
-    print(f"{marked} marked")
+        if asked.bounds:
+            marked = sum(bound_row(program, bound, large) for bound in own)
+        else:
+            marked = all_rows(program, only, judge, folders)
+            marked += 0 if asked.growth else sum(own_row(program, bound, large) for bound in own)
+    print(f"{marked} past their bounds" if asked.bounds else f"{marked} marked")
     sys.exit(1 if marked else 0)
 
 
