@@ -147,6 +147,30 @@ seen_next F j k seen table next h = record {
   told = λ p low high is v first last m. absurd (omega (arith, h.least p low high, next, is));
 }
 
+-- a clause is put into the table
+pub seen_more : (F : Cnf) (k p : ℕ) (seen table after : List ℕ) → 0 < p → p ≤ length F.clauses → BlocksClause F.vars k (clause_at F p) table after → AreSeen F k seen table → AreSeen F k (slice_set seen (p - 1) k) after
+seen_more F k p seen table after first last b h = record {
+  size = length-set seen (p - 1) k ∙ h.size;
+  least = λ q low high. elim (cases_eq q p) [
+    | inl same ↦ (let here = read q same in omega (arith, here))
+    | inr other ↦ (let there = unread q low other in omega (arith, there, h.least q low high))
+  ];
+  told = λ q low high is v one end m. elim (cases_eq q p) [
+    | inl same ↦ b.told v one end ∙ cond-true (mentions (clause_at F p) v) k (get_or table (v - 1) 0) (ap (λ (r : ℕ). mentions (clause_at F r) v) (sym same) ∙ m)
+    | inr other ↦ b.told v one end ∙ still (mentions (clause_at F p) v) (get_or table (v - 1) 0) (h.told q low high (sym (unread q low other) ∙ is) v one end m)
+  ];
+}
+  where
+    read : (q : ℕ) → q ≡ p → get_or (slice_set seen (p - 1) k) (q - 1) 0 ≡ k
+    read q same = ap (λ (r : ℕ). get_or (slice_set seen (p - 1) k) (r - 1) 0) same ∙ get_or-set_same seen (p - 1) k 0 (omega (arith, first, last, h.size))
+
+    unread : (q : ℕ) → 1 ≤ q → (q ≡ p → ⊥) → get_or (slice_set seen (p - 1) k) (q - 1) 0 ≡ get_or seen (q - 1) 0
+    unread q low other = let apart : q - 1 ≢ p - 1 = λ e. other (omega (arith, e, low, first)) in get_or-set_other seen (p - 1) (q - 1) k 0 apart
+
+    still : (m : Bool) (x : ℕ) → x ≡ k → cond m k x ≡ k
+    still true x e = refl
+    still false x e = e
+
 -- the variable of one literal more of a clause
 pub literal_blocked : (n k : ℕ) (clause : List ℤ) (i : ℕ) (l : ℤ) (before mid : List ℕ) → i < length clause → l ≡ get_or clause i l → 1 ≤ variable l → variable l ≤ length mid
     → BlocksClause n k (take i clause) before mid → BlocksClause n k (take (i + 1) clause) before (slice_set mid (variable l - 1) k)
