@@ -219,15 +219,39 @@ def learned_among_equal_clauses(n):
     return cnf(variables, rows), head + "".join("c step " + " ".join(map(str, s)) + " 0\n" for s in steps) + cnf(variables, rows)
 
 
+def chain_over_long_clauses(n, copies):
+    """A formula with a clause of n literals, so many times, and steps whose chain resolves with these clauses in turns."""
+    rows = [list(range(1, n + 2))] * copies + [[-1, n + 1], [-1, -(n + 1)]]
+    m = len(rows)
+    turns = " ".join(f"-1 {k % copies + 1} {n + 1} {m}" for k in range(n))
+    clause = " ".join(map(str, [-1] + list(range(2, n + 1))))
+    return cnf(n + 1, rows), f"c round\nc step {m + 1} {clause} 0 {m - 1} {turns} 0\nc step {m + 2} 0 {m + 1} 0\n"
+
+
+def general_document(formula, rounds):
+    """Rounds over a formula of which all clauses are kept."""
+    variables, m = map(int, formula.split("\n", 1)[0].split()[2:])
+    kept = " ".join(str(p) for p in range(1, m + 1))
+    return formula, f"c leank 1 general\nc formula {variables} {m}\nc keep {kept} 0\nc set 0\n" + rounds + formula
+
+
 def long_clause_joined_often(n):
     """A chain that resolves again and again with one clause of n literals."""
-    rows = [list(range(1, n + 2)), [-1, n + 1], [-1, -(n + 1)]]
-    turns = " ".join(f"-1 1 {n + 1} 3" for _ in range(n))
-    head = f"c leank 1 general\nc formula {n + 1} 3\nc keep 1 2 3 0\nc set 0\nc round\n"
-    clause = " ".join(map(str, [-1] + list(range(2, n + 1))))
-    step = f"c step 4 {clause} 0 2 {turns} 0\nc step 5 0 4 0\n"
-    body = "".join(" ".join(map(str, r)) + " 0\n" for r in rows)
-    return cnf(n + 1, rows), head + step + f"p cnf {n + 1} 3\n" + body
+    return general_document(*chain_over_long_clauses(n, 1))
+
+
+def long_clauses_joined_in_turns(n):
+    """A chain that resolves with two clauses of n literals in turns."""
+    return general_document(*chain_over_long_clauses(n, 2))
+
+
+def rounds_of_one_long_clause(n):
+    """A round that blocks all of n variables, and n others that name a clause of n literals, of which none is left."""
+    rows = [list(range(1, n + 1))] + [[-v] for v in range(1, n + 1)]
+    m = len(rows)
+    turns = " ".join(f"{v} {v + 1}" for v in range(1, n + 1))
+    others = "".join(f"c round\nc step {m + 1 + k} 0 1 0\n" for k in range(1, n + 1))
+    return general_document(cnf(n, rows), f"c round\nc step {m + 1} 0 1 {turns} 0\n" + others)
 
 
 def many_steps_of_one_clause(n):
@@ -246,9 +270,41 @@ def comments_alone(n):
 
 
 DOCUMENTS = [(unit_of_many_shares, 25000), (units_over_long_clauses, 10000), (few_units_far_apart, 1000000),
-             (learned_among_equal_clauses, 20000), (long_clause_joined_often, 30000), (many_steps_of_one_clause, 60000),
+             (learned_among_equal_clauses, 20000), (long_clause_joined_often, 30000), (long_clauses_joined_in_turns, 20000),
+             (rounds_of_one_long_clause, 20000), (many_steps_of_one_clause, 60000),
              (wrong_in_line_two, 70000), (comments_alone, 70000)]
 DOCUMENT_OPTIONS = [[], ["--workers", "64"]]
+
+
+# ANSWERS, by a size: a formula and a text for `verify`
+
+
+def refutation_joined_often(n):
+    """A refutation with such a chain."""
+    formula, rounds = chain_over_long_clauses(n, 1)
+    return formula, "s UNSATISFIABLE\n" + rounds
+
+
+def core_of_sign_patterns(n):
+    """A core of 2^k clauses, at least n, with all signs of k variables: each leaves out one of all assignments."""
+    k = max((n - 1).bit_length(), 1)
+    rows = [[v if p >> (v - 1) & 1 == 0 else -v for v in range(1, k + 1)] for p in range(2**k)]
+    m = len(rows)
+    steps, at, number = "", list(range(1, m + 1)), m
+    for v in range(k, 0, -1):
+        half, below = len(at) // 2, []
+        for i in range(half):
+            number += 1
+            clause = [l for l in rows[i][:v - 1]]
+            steps += f"c step {number} " + "".join(f"{l} " for l in clause) + f"0 {at[i]} {v} {at[i + half]} 0\n"
+            below.append(number)
+        at = below
+    core = " ".join(str(p) for p in range(1, m + 1))
+    without = "".join(f"c without {p + 1} " + " ".join(str(-l) for l in rows[p]) + " 0\n" for p in range(m))
+    return cnf(k, rows), f"c leank 1 mus\nc formula {k} {m}\nc core {core} 0\nc round\n" + steps + without + cnf(k, rows)
+
+
+ANSWERS = [(refutation_joined_often, 30000), (core_of_sign_patterns, 4096)]
 
 
 # EDITS, by a size: a formula and a text for `edits`, whose kernels stay small
@@ -469,6 +525,9 @@ BOUNDS = [
     Bound(easy_part_behind, 14, ("mus",), (), 1000000),
     Bound(implications_refuted, 4200, ("mus",), (), None, 2.5),
     Bound(implications_refuted, 6000, ("mus",), (), None, 2.5),
+    Bound(learned_among_equal_clauses, 20000, ("check",), (), 1000),
+    Bound(long_clause_joined_often, 30000, ("check",), (), 1000),
+    Bound(refutation_joined_often, 30000, ("verify",), (), 1000),
     Bound(joined_cubes, 1500, ("solve",), (), 600),
     Bound(joined_cubes, 1500, ("mus",), (), 600),
     Bound(two_literals, 10000, ("solve",), (), 700),
@@ -641,14 +700,19 @@ def own_row(program, bound, folder):
     return row(bound.make.__name__, [program, *bound.command, *names, *bound.options], folder, LIMIT)
 
 
-def document_rows(program, make, size, judge, folders):
-    """The check of a document."""
+def document_rows(program, make, size, judge, folders, word="check"):
+    """The check of a document, or by another word of an answer."""
     for folder, part in folders:
         formula, text = make(size // part)
         put(folder, "f", formula)
         put(folder, "d", text)
-    options = DOCUMENT_OPTIONS if len(folders) == 1 else DOCUMENT_OPTIONS[:1]
-    return sum(judge(make.__name__, [program, "check", "f", "d"] + it, FORGED_LIMIT) for it in options)
+    options = DOCUMENT_OPTIONS if len(folders) == 1 and word == "check" else DOCUMENT_OPTIONS[:1]
+    return sum(judge(make.__name__, [program, word, "f", "d"] + it, FORGED_LIMIT) for it in options)
+
+
+def answer_rows(program, make, size, judge, folders):
+    """The check of an answer."""
+    return document_rows(program, make, size, judge, folders, "verify")
 
 
 def edits_rows(program, make, size, judge, folders):
@@ -661,9 +725,10 @@ def edits_rows(program, make, size, judge, folders):
 
 
 def all_rows(program, only, judge, folders):
-    """How many of the rows that all three kinds of inputs have are marked."""
+    """How many of the rows that all kinds of inputs have are marked."""
     marked = 0
-    for inputs, rows in ((FORMULAS, formula_rows), (DOCUMENTS, document_rows), (EDITS, edits_rows)):
+    kinds = ((FORMULAS, formula_rows), (DOCUMENTS, document_rows), (ANSWERS, answer_rows), (EDITS, edits_rows))
+    for inputs, rows in kinds:
         for make, size in inputs:
             if only in make.__name__:
                 marked += rows(program, make, size, judge, folders)

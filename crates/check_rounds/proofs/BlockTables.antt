@@ -17,7 +17,7 @@ use Rattle.lk_model.specs.declared.document.DoneDocument.{DoneDocument}
 use Rattle.lk_model.proofs.Booleans.{and_true, or_right}
 use Rattle.lk_model.proofs.Variables.{variable_bound, position_with, among_variables as variables_are}
 use Rattle.check_tables.specs.Occurring.{AreOccurring}
-use Rattle.check_rounds.specs.Blocking.{blocks, first_block, AreBlocks, is_before, is_unblocked, BlocksClause, BlocksRound}
+use Rattle.check_rounds.specs.Blocking.{blocks, first_block, AreBlocks, is_before, is_unblocked, AreSeen, BlocksClause, BlocksRound}
 use Rattle.check_tables.proofs.KeptFlags.{find_to}
 use Rattle.kernel_laws.proofs.Crossing.{mentions_crossed as crossed_mentions}
 
@@ -128,6 +128,48 @@ blocks_none F rounds table e = rw (drop_all (length rounds) rounds (omega arith)
   size = ap length e ∙ length-replicate F.vars (length rounds);
   told = λ v low high. ap (λ (ns : List ℕ). get_or ns (v - 1) 0) e ∙ get_or-replicate F.vars (v - 1) (length rounds) 0 (omega (arith, low, high));
 })
+
+-- behind all rounds each position has their number, and so has each variable
+pub seen_none : (F : Cnf) (k : ℕ) (seen table : List ℕ) → seen ≡ replicate (length F.clauses) k → table ≡ replicate F.vars k → AreSeen F k seen table
+seen_none F k seen table s t = record {
+  size = ap length s ∙ length-replicate (length F.clauses) k;
+  least = λ p low high.
+      let at : get_or seen (p - 1) 0 ≡ k = ap (λ (ns : List ℕ). get_or ns (p - 1) 0) s ∙ get_or-replicate (length F.clauses) (p - 1) k 0 (omega (arith, low, high)) in
+      omega (arith, at);
+  told = λ p low high is v first last m. ap (λ (ns : List ℕ). get_or ns (v - 1) 0) t ∙ get_or-replicate F.vars (v - 1) k 0 (omega (arith, first, last));
+}
+
+-- before a round no position has it
+pub seen_next : (F : Cnf) (j k : ℕ) (seen table : List ℕ) → k ≡ j + 1 → AreSeen F k seen table → AreSeen F j seen table
+seen_next F j k seen table next h = record {
+  size = h.size;
+  least = λ p low high. omega (arith, h.least p low high, next);
+  told = λ p low high is v first last m. absurd (omega (arith, h.least p low high, next, is));
+}
+
+-- a clause is put into the table
+pub seen_more : (F : Cnf) (k p : ℕ) (seen table after : List ℕ) → 0 < p → p ≤ length F.clauses → BlocksClause F.vars k (clause_at F p) table after → AreSeen F k seen table → AreSeen F k (slice_set seen (p - 1) k) after
+seen_more F k p seen table after first last b h = record {
+  size = length-set seen (p - 1) k ∙ h.size;
+  least = λ q low high. elim (cases_eq q p) [
+    | inl same ↦ (let here = read q same in omega (arith, here))
+    | inr other ↦ (let there = unread q low other in omega (arith, there, h.least q low high))
+  ];
+  told = λ q low high is v one end m. elim (cases_eq q p) [
+    | inl same ↦ b.told v one end ∙ cond-true (mentions (clause_at F p) v) k (get_or table (v - 1) 0) (ap (λ (r : ℕ). mentions (clause_at F r) v) (sym same) ∙ m)
+    | inr other ↦ b.told v one end ∙ still (mentions (clause_at F p) v) (get_or table (v - 1) 0) (h.told q low high (sym (unread q low other) ∙ is) v one end m)
+  ];
+}
+  where
+    read : (q : ℕ) → q ≡ p → get_or (slice_set seen (p - 1) k) (q - 1) 0 ≡ k
+    read q same = ap (λ (r : ℕ). get_or (slice_set seen (p - 1) k) (r - 1) 0) same ∙ get_or-set_same seen (p - 1) k 0 (omega (arith, first, last, h.size))
+
+    unread : (q : ℕ) → 1 ≤ q → (q ≡ p → ⊥) → get_or (slice_set seen (p - 1) k) (q - 1) 0 ≡ get_or seen (q - 1) 0
+    unread q low other = let apart : q - 1 ≢ p - 1 = λ e. other (omega (arith, e, low, first)) in get_or-set_other seen (p - 1) (q - 1) k 0 apart
+
+    still : (m : Bool) (x : ℕ) → x ≡ k → cond m k x ≡ k
+    still true x e = refl
+    still false x e = e
 
 -- the variable of one literal more of a clause
 pub literal_blocked : (n k : ℕ) (clause : List ℤ) (i : ℕ) (l : ℤ) (before mid : List ℕ) → i < length clause → l ≡ get_or clause i l → 1 ≤ variable l → variable l ≤ length mid

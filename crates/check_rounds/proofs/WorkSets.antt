@@ -34,7 +34,7 @@ work_removed n c l w v lit flags items h = record {
 
 -- ONE LITERAL MORE OF A CLAUSE
 
-filter-push : (t : ℤ → Bool) (c : List ℤ) (l : ℤ) → filter t (c ++ l ∷ []) ≡ filter t c ++ cond (t l) (l ∷ []) []
+pub filter-push : (t : ℤ → Bool) (c : List ℤ) (l : ℤ) → filter t (c ++ l ∷ []) ≡ filter t c ++ cond (t l) (l ∷ []) []
 filter-push t [] l = elim (cases_Bool (t l)) [ inl y ↦ rw y refl | inr n ↦ rw n refl ]
 filter-push t (k ∷ c) l = elim (cases_Bool (t k)) [ inl y ↦ rw y (ap (λ (ls : List ℤ). k ∷ ls) (filter-push t c l)) | inr n ↦ rw n (filter-push t c l) ]
 

@@ -1,9 +1,9 @@
 -- The first round that blocks each variable, in a table, and the marks of what a round reaches.
-use Rattle.std.specs.Prelude.{◌≡◌, ◌≤◌, ◌<◌, ◌-◌, ◌+◌, ℕ, zero, suc, Bool, false, if◌then◌else◌, not, ◌&&◌, nat_lt, List, [], ◌∷◌, ℤ, map, length, IsTrue, slice_index, slice_index_or}
+use Rattle.std.specs.Prelude.{◌≡◌, ◌≤◌, ◌<◌, ◌-◌, ◌+◌, ℕ, zero, suc, Bool, true, false, if◌then◌else◌, not, ◌&&◌, nat_lt, List, [], ◌∷◌, ℤ, map, length, IsTrue, slice_index, slice_index_or}
 use Rattle.std.specs.List.{list_all}
 use Rattle.lk_model.specs.Lists.{among}
 use Rattle.lk_model.specs.Formulas.Literal.{mentions}
-use Rattle.lk_model.specs.Formulas.Formula.{Cnf, variable_occurs}
+use Rattle.lk_model.specs.Formulas.Formula.{Cnf, clause_at, variable_occurs}
 use Rattle.lk_model.specs.Formulas.Crossed.{Variables}
 use Rattle.lk_model.specs.Held.VariableSets.{is_in}
 use Rattle.lk_model.specs.Chains.Rounds.{is_refutation, used_positions}
@@ -60,6 +60,13 @@ pub record AreMarked (F : Cnf) (k first count : ℕ) (known before : List ℕ) (
 pub record BlocksClause (n k : ℕ) (clause : List ℤ) (before after : List ℕ) : Type 0 where
   pub size : length after ≡ length before
   pub told : (v : ℕ) → 1 ≤ v → v ≤ n → slice_index after (v - 1) ≡ (if mentions clause v then k else slice_index before (v - 1))
+
+-- where a position has k in its list, the variables of its clause have k in the table; no position has less
+pub record AreSeen (F : Cnf) (k : ℕ) (seen table : List ℕ) : Type 0 where
+  pub size : length seen ≡ length F.clauses
+  pub least : (p : ℕ) → 1 ≤ p → p ≤ length F.clauses → k ≤ slice_index seen (p - 1)
+  pub told : (p : ℕ) → 1 ≤ p → p ≤ length F.clauses → slice_index seen (p - 1) ≡ k
+      → (v : ℕ) → 1 ≤ v → v ≤ F.vars → mentions (clause_at F p) v ≡ true → slice_index table (v - 1) ≡ k
 
 -- the variables that the round k blocks have k in the table, and the others what they had
 pub record BlocksRound (F : Cnf) (k : ℕ) (r : Round) (before after : List ℕ) : Type 0 where

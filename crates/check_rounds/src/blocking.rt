@@ -2,10 +2,12 @@
 //!
 //! Each variable has the first round that blocks it, so that one table tells what was blocked before any round. A whole
 //! round is gone through once from its last step backwards, with a mark for each step that is reached; what a reached
-//! step names is marked, or its variables are put into the table.
+//! step names is marked, or its variables are put into the table. Positions have the round that put theirs there last, so
+//! that a clause is gone through once in a round, however often its chains name it.
 ghost use Rattle.std.specs.Prelude.{◌≡◌, ◌≤◌, ◌<◌, ◌+◌, ◌∷◌, ◌++◌, ℕ, List, length, IfOk, OnOk, IsTrue};
 ghost use Rattle.std.specs.List.{list_all};
 ghost use Rattle.lk_model.specs.Formulas.Literal.{is_literal};
+ghost use Rattle.lk_model.specs.Formulas.Formula.{clause_at};
 ghost use Rattle.lk_model.specs.Formulas.Lean.{are_positions};
 ghost use Rattle.lk_model.specs.Formulas.Crossed.{no_variable};
 ghost use Rattle.lk_model.specs.Chains.Chain.{names_of};
@@ -13,7 +15,7 @@ ghost use Rattle.lk_model.specs.Chains.Rounds.{is_refutation};
 ghost use Rattle.lk_model.specs.Documents.Documents.{steps_of};
 ghost use Rattle.lk_model.specs.Documents.Form.{are_steps, is_step};
 ghost use Rattle.lk_model.specs.Checks.RoundChecks.{not_blocked};
-ghost use Rattle.check_rounds.specs.Blocking.{AreBlocks, AreRoundSteps, AreMarked, BlocksClause, BlocksRound};
+ghost use Rattle.check_rounds.specs.Blocking.{AreBlocks, AreRoundSteps, AreMarked, AreSeen, BlocksClause, BlocksRound};
 ghost use Rattle.check_rounds.specs.Blocking.{is_before, is_unblocked, first_number};
 
 use check_places::is_reached;
@@ -68,8 +70,9 @@ pub fn blocks_of(alloc: Global, f: &Formula, rounds: &[Round]) -> Result<Vec<usi
     ensures { IfOk result (λ table. AreBlocks f.now 0 rounds.now table.items) }
 {
     let mut table = vec![in alloc; rounds.len(); f.vars() as usize]?;
+    let mut seen = vec![in alloc; rounds.len(); f.len() as usize]?;
     for k in (0..rounds.len()).rev() {
-        block(alloc, f, k, &rounds[k], &mut table)?;
+        block(alloc, f, k, &rounds[k], &mut seen, &mut table)?;
     }
     Ok(table)
 }
@@ -80,15 +83,18 @@ fn block(
     f: &Formula,
     k: usize,
     round: &Round,
+    seen: &mut [usize],
     table: &mut [usize],
 ) -> Result<(), OutOfMemory>
     requires steps { AreRoundSteps f.now.vars (length f.now.clauses) round.now.steps }
     requires size { length table.old ≡ f.now.vars }
-    ensures { OnOk result (BlocksRound f.now k round.now table.old table.new) }
+    requires seen { AreSeen f.now k seen.old table.old }
+    ensures blocked { OnOk result (BlocksRound f.now k round.now table.old table.new) }
+    ensures seen { OnOk result (AreSeen f.now k seen.new table.new) }
 {
     let steps = round.steps.as_slice();
     if is_refutation(steps) {
-        block_reached(alloc, f, k, steps, table)?;
+        block_reached(alloc, f, k, steps, seen, table)?;
     }
     Ok(())
 }
@@ -109,18 +115,21 @@ fn block_reached(
     f: &Formula,
     k: usize,
     steps: &[Step],
+    seen: &mut [usize],
     table: &mut [usize],
 ) -> Result<(), OutOfMemory>
     requires whole { IsTrue (is_refutation steps.now) }
     requires steps { AreRoundSteps f.now.vars (length f.now.clauses) steps.now }
     requires size { length table.old ≡ f.now.vars }
-    ensures { OnOk result (BlocksRound f.now k (record { steps = steps.now }) table.old table.new) }
+    requires seen { AreSeen f.now k seen.old table.old }
+    ensures blocked { OnOk result (BlocksRound f.now k (record { steps = steps.now }) table.old table.new) }
+    ensures seen { OnOk result (AreSeen f.now k seen.new table.new) }
 {
     let mut marks = vec![in alloc; false; steps.len()]?;
     let first = first_number(steps);
     for i in (0..steps.len()).rev() {
         if is_reached(&marks, i) {
-            mark_names(f, k, first, &steps[i], &mut marks, table);
+            mark_names(f, k, first, &steps[i], &mut marks, seen, table);
         }
     }
     Ok(())
@@ -143,40 +152,69 @@ fn mark_names(
     first: u64,
     step: &Step,
     marks: &mut [bool],
+    seen: &mut [usize],
     table: &mut [usize],
 )
     requires past { length f.now.clauses < first }
     requires form { IsTrue (is_step f.now.vars step.now) }
     requires number { step.now.number ≤ first + length marks.old }
     requires size { length table.old ≡ f.now.vars }
+    requires seen { AreSeen f.now k seen.old table.old }
     ensures marks_size { length marks.new ≡ length marks.old }
     ensures table_size { length table.new ≡ length table.old }
+    ensures seen { AreSeen f.now k seen.new table.new }
     ensures marked { (known before : List ℕ) →
         AreMarked f.now k first (length marks.old) known before marks.old table.old
         → AreMarked f.now k first (length marks.old) (names_of step.now ++ known) before marks.new table.new }
 {
-    mark(f, k, first, step.first, marks, table);
+    mark(f, k, first, step.first, marks, seen, table);
     for turn in step.turns.as_slice() {
-        mark(f, k, first, turn.with, marks, table);
+        mark(f, k, first, turn.with, marks, seen, table);
     }
 }
 
 /// Marks the step of a number, or puts the variables of the clause at a position into the table.
-fn mark(f: &Formula, k: usize, first: u64, number: u64, marks: &mut [bool], table: &mut [usize])
+fn mark(
+    f: &Formula,
+    k: usize,
+    first: u64,
+    number: u64,
+    marks: &mut [bool],
+    seen: &mut [usize],
+    table: &mut [usize],
+)
     requires past { length f.now.clauses < first }
     requires least { 0 < number }
     requires most { number < first + length marks.old }
     requires size { length table.old ≡ f.now.vars }
+    requires seen { AreSeen f.now k seen.old table.old }
     ensures marks_size { length marks.new ≡ length marks.old }
     ensures table_size { length table.new ≡ length table.old }
+    ensures seen { AreSeen f.now k seen.new table.new }
     ensures marked { (known before : List ℕ) →
         AreMarked f.now k first (length marks.old) known before marks.old table.old
         → AreMarked f.now k first (length marks.old) (number ∷ known) before marks.new table.new }
 {
     if number <= u64::from(f.len()) {
-        block_clause(f.vars(), k, f.clause(number as u32), table);
+        block_position(f, k, number as u32, seen, table);
     } else if number >= first {
         marks[(number - first) as usize] = true;
+    }
+}
+
+/// Puts a number into the table at the variables of the clause at a position, if that was not done before.
+fn block_position(f: &Formula, k: usize, p: u32, seen: &mut [usize], table: &mut [usize])
+    requires first { 0 < p }
+    requires last { p ≤ length f.now.clauses }
+    requires size { length table.old ≡ f.now.vars }
+    requires seen { AreSeen f.now k seen.old table.old }
+    ensures blocked { BlocksClause f.now.vars k (clause_at f.now p) table.old table.new }
+    ensures seen { AreSeen f.now k seen.new table.new }
+{
+    let i = p as usize - 1;
+    if seen[i] != k {
+        block_clause(f.vars(), k, f.clause(p), table);
+        seen[i] = k;
     }
 }
 

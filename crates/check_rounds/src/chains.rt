@@ -20,9 +20,11 @@ ghost use Rattle.lk_model.specs.Documents.Form.{are_steps};
 ghost use Rattle.lk_model.specs.Checks.RoundChecks.{bad_step};
 ghost use Rattle.check_rounds.specs.Blocking.{AreBlocks, is_before};
 ghost use Rattle.check_rounds.specs.Chains.{IsRoundAt, IsWork, IsMade, premises_at, round_of, step_numbered, misstates};
+ghost use Rattle.check_rounds.specs.Repeats.{IsIdle, IsNamed, IsRepeated};
 ghost use Rattle.check_rounds.specs.Steps.{AreRounds, first_step, is_step_place};
 
 use crate::blocking::{blocks_of, is_before};
+use crate::repeated::Repeated;
 use crate::steps::{Rounds, StepPlace, flag_count, number_of, round_at, step_places, turn_count};
 use crate::work::Work;
 use check_tables::{Workers, kept_flags};
@@ -73,7 +75,7 @@ pub fn bad_step<'a, R: Threads + Sync, G: Gate>(
     workers
         .for_work(
             turn_count(rounds).saturating_add(places.len()),
-            flag_count(f),
+            flag_count(f).saturating_add(flag_count(f)),
         )
         .first_found(places.as_slice(), &|part| bad_step_in(alloc, &over, part))
 }
@@ -119,60 +121,80 @@ fn bad_step_in(
     ensures { IfOk result (λ place. place ≡ first_step misstates over.now places.now) }
 {
     let mut work = Work::new(alloc, over.formula.vars())?;
-    first_misstated(over, places, &mut work)
+    let mut repeated = Repeated::new(alloc, over.formula.vars())?;
+    first_misstated(over, places, &mut work, &mut repeated)
 }
 
-/// The same, by a work that is empty before.
+/// The same, by a work that is empty before, while no clause is kept.
 fn first_misstated(
     over: &Rounds,
     places: &[StepPlace],
     work: &mut Work,
+    repeated: &mut Repeated,
 ) -> Result<Option<u64>, OutOfMemory>
     requires rounds { AreRounds over.now }
     requires places { IsTrue (list_all (is_step_place over.now.rounds.now) places.now) }
     requires work { IsWork over.now.formula.now.vars [] work.old }
+    requires repeated { IsIdle over.now.formula.now.vars repeated.old }
     ensures { IfOk result (λ place. place ≡ first_step misstates over.now places.now) }
 {
     for j in 0..places.len() {
         let at = places[j];
-        if !states_its_clause(&round_at(over, at.round), at.index, work)? {
+        if !states_its_clause(&round_at(over, at.round), at.index, work, repeated)? {
             return Ok(Some(number_of(over, at)));
         }
     }
     Ok(None)
 }
 
-/// Whether the step at a place states the clause of its chain. The work is empty before and behind.
-fn states_its_clause(over: &RoundAt, i: usize, work: &mut Work) -> Result<bool, OutOfMemory>
+/// Whether the step at a place states the clause of its chain. The work is empty before and behind, and no clause is
+/// kept.
+fn states_its_clause(
+    over: &RoundAt,
+    i: usize,
+    work: &mut Work,
+    repeated: &mut Repeated,
+) -> Result<bool, OutOfMemory>
     requires round { IsRoundAt over.now }
     requires place { i < length over.now.steps.now }
     requires work { IsWork over.now.formula.now.vars [] work.old }
+    requires repeated { IsIdle over.now.formula.now.vars repeated.old }
     ensures stated { IfOk result (λ stated. (s : AStep) → s ≡ slice_index_or over.now.steps.now i s →
         stated ≡ states_its_clause (premises_at over.now i) s) }
     ensures work { OnOk result (IsWork over.now.formula.now.vars [] work.new) }
+    ensures repeated { OnOk result (IsIdle over.now.formula.now.vars repeated.new) }
 {
     let step = &over.steps[i];
-    let is_made = make_clause(over, i, step, work)?;
+    let is_made = make_clause(over, i, step, work, repeated)?;
+    repeated.forget();
     let stated = is_made && work.is_clause(over.formula.vars(), step.clause.as_slice());
     work.clear();
     Ok(stated)
 }
 
 /// Makes the work the clause of a step's chain, where there is one.
-fn make_clause(over: &RoundAt, i: usize, step: &Step, work: &mut Work) -> Result<bool, OutOfMemory>
+fn make_clause(
+    over: &RoundAt,
+    i: usize,
+    step: &Step,
+    work: &mut Work,
+    repeated: &mut Repeated,
+) -> Result<bool, OutOfMemory>
     requires round { IsRoundAt over.now }
     requires place { i < length over.now.steps.now }
     requires step { step.now ≡ slice_index_or over.now.steps.now i step.now }
     requires work { IsWork over.now.formula.now.vars [] work.old }
-    ensures { IfOk result
+    requires repeated { IsIdle over.now.formula.now.vars repeated.old }
+    ensures made { IfOk result
         (λ made. IsMade over.now.formula.now.vars
         (chain_clause (premises_at over.now i) step.now.first step.now.turns) made work.new) }
+    ensures repeated { OnOk result (IsRepeated over.now.formula.now.vars work.new repeated.new) }
 {
     if !start(over, i, step.first, work)? {
         return Ok(false);
     }
     for turn in step.turns.as_slice() {
-        if !take(over, i, *turn, work)? {
+        if !take(over, i, *turn, work, repeated)? {
             return Ok(false);
         }
     }
@@ -199,16 +221,30 @@ fn start(over: &RoundAt, i: usize, first: u64, work: &mut Work) -> Result<bool, 
 }
 
 /// Takes a turn of the chain of the step at a place, where it can be made.
-fn take(over: &RoundAt, i: usize, turn: Turn, work: &mut Work) -> Result<bool, OutOfMemory>
+fn take(
+    over: &RoundAt,
+    i: usize,
+    turn: Turn,
+    work: &mut Work,
+    repeated: &mut Repeated,
+) -> Result<bool, OutOfMemory>
     requires round { IsRoundAt over.now }
     requires place { i < length over.now.steps.now }
     requires literal { IsTrue (is_literal over.now.formula.now.vars turn.lit) }
     requires first { 0 < turn.with }
     requires work { (c : List ℤ) × IsWork over.now.formula.now.vars c work.old }
-    ensures { IfOk result (λ made. (c : List ℤ) → IsWork over.now.formula.now.vars c work.old
+    requires repeated { IsRepeated over.now.formula.now.vars work.old repeated.old }
+    requires named { IsNamed (premises_at over.now i) repeated.old }
+    ensures made { IfOk result (λ made. (c : List ℤ) → IsWork over.now.formula.now.vars c work.old
         → IsMade over.now.formula.now.vars
         (option_and_then (resolvent turn.lit c) (clause_named (premises_at over.now i) turn.with)) made work.new) }
+    ensures repeated { OnOk result (IsRepeated over.now.formula.now.vars work.new repeated.new) }
+    ensures named { OnOk result (IsNamed (premises_at over.now i) repeated.new) }
 {
+    let n = over.formula.vars();
+    if turn.with == repeated.number {
+        return repeated.take(n, over.blocked_at, turn.lit, work);
+    }
     let Some(clause) = named(over, i, turn.with) else {
         return Ok(false);
     };
@@ -218,7 +254,9 @@ fn take(over: &RoundAt, i: usize, turn: Turn, work: &mut Work) -> Result<bool, O
         return Ok(false);
     }
     work.remove(turn.lit);
-    work.add_others(over.formula.vars(), k, over.blocked_at, clause, against)?;
+    work.add_others(n, k, over.blocked_at, clause, against)?;
+    repeated.lose(turn.lit)?;
+    repeated.note(turn.with, n, k, over.blocked_at, clause, against)?;
     Ok(true)
 }
 

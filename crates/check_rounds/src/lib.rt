@@ -5,6 +5,7 @@ mod blocking;
 mod chains;
 mod index;
 mod learned;
+mod repeated;
 mod steps;
 mod work;
 

@@ -1,6 +1,4 @@
-use Rattle.std.proofs.Common.{ℕ, ℤ, List, subst, length, arith}
-use Rattle.lk_model.specs.Formulas.Formula.{clause_at}
-use Rattle.check_rounds.specs.Blocking.{BlocksClause}
+use Rattle.std.proofs.Common.{length, arith}
 use Rattle.check_rounds.proofs.Reaching.{clause_marked, step_marked, nothing_marked}
 use Rattle.check_rounds.proofs.blocking.mark.Goals as goal
 
@@ -8,10 +6,8 @@ pub returns-then-number-from-clause-marked : goal.returns-then-number-from-claus
 returns-then-number-from-clause-marked c known before h =
     let F = c.args.f.now in
     let table = c.args.table.now in
-    let after = c.block_clause.new.table in
-    let blocked : BlocksClause F.vars c.args.k (clause_at F c.args.number) table after = subst (λ (n : ℕ). BlocksClause n c.args.k (clause_at F c.args.number) table after) c.vars.ensures.value
-    (subst (λ (ls : List ℤ). BlocksClause c.vars.result c.args.k ls table after) c.clause.ensures.value c.block_clause.ensures) in
-    clause_marked F c.args.k c.args.first (length c.args.marks.now) c.args.number known before c.args.marks.now table after (omega arith) c.requires.past blocked h
+    let after = c.block_position.new.table in
+    clause_marked F c.args.k c.args.first (length c.args.marks.now) c.args.number known before c.args.marks.now table after (omega arith) c.requires.past c.block_position.ensures.blocked h
 
 pub returns-then-number-first-clause-marked : goal.returns-then-number-first-clause-marked
 returns-then-number-first-clause-marked c known before h =

@@ -12,6 +12,7 @@ loop-turn-preserved c =
     record {
       marks_size = c.mark-in-loop-turn.ensures.marks_size ∙ inv.marks_size;
       table_size = c.mark-in-loop-turn.ensures.table_size ∙ inv.table_size;
+      seen = c.mark-in-loop-turn.ensures.seen;
       marked = λ known before h.
           let names = (c.args.step.now.first ∷ map (λ (t : Turn). t.with) (take c.loop-turn.turn-index turns)) ++ known in
           let so_far = inv.marked known before h in

@@ -3,6 +3,7 @@ use Rattle.std.proofs.lemmas.List.{drop_all}
 use Rattle.lk_model.specs.Formulas.Formula.{Cnf}
 use Rattle.lk_model.specs.Chains.Chain.{states_its_clause}
 use Rattle.check_rounds.specs.Chains.{IsWork, premises_at, step_behind, misstates}
+use Rattle.check_rounds.specs.Repeats.{IsIdle}
 use Rattle.check_rounds.specs.Steps.{first_step, is_step_place, step_at}
 use Rattle.lk_model.proofs.ListTests.{all_at}
 use Rattle.check_rounds.proofs.StepPlaces.{place_at, place_of, place_first, place_later, round_is, step_in, step_reads, step_is}
@@ -42,6 +43,7 @@ loop-j-preserved c =
     let same : step_behind r (take at.index r.steps.now) (step_in r at) ≡ step_at over at = step_is over at r (step_in r at) c.round_at.ensures inside is in
     record {
       work = subst (λ (G : Cnf). IsWork G.vars [] c.states_its_clause.new.work) c.round_at.ensures.formula c.in_ok-states_its_clause.ensures.work;
+      repeated = subst (λ (G : Cnf). IsIdle G.vars c.states_its_clause.new.repeated) c.round_at.ensures.formula c.in_ok-states_its_clause.ensures.repeated;
       rest = sym (place_later misstates over places j at (omega arith) w.is (ap misstates (sym same) ∙ ap not good)) ∙ c.loop-j.invariant.rest;
     }
 
@@ -52,6 +54,9 @@ states_its_clause-requires-clause-place c =
 
 pub states_its_clause-requires-clause-work : goal.states_its_clause-requires-clause-work
 states_its_clause-requires-clause-work c = subst (λ (G : Cnf). IsWork G.vars [] c.loop-j.work) (sym c.round_at.ensures.formula) c.loop-j.invariant.work
+
+pub states_its_clause-requires-clause-repeated : goal.states_its_clause-requires-clause-repeated
+states_its_clause-requires-clause-repeated c = subst (λ (G : Cnf). IsIdle G.vars c.loop-j.repeated) (sym c.round_at.ensures.formula) c.loop-j.invariant.repeated
 
 pub round_at-requires : goal.round_at-requires
 round_at-requires c = (place_of c.args.over.now.rounds.now c.args.places.now c.loop-j.j c.requires.places (omega arith)).round

@@ -28,15 +28,15 @@ take-requires-clause-first c =
     (turn_bounds over.formula.now.vars s c.loop-turn.turn-index c.turn-item.result (step_form over c.args.i s c.requires.round c.requires.place c.requires.step)
     (omega (arith, ap (λ (ts : List Turn). length ts) c.as_slice-turn-items.ensures, c.loop-turn-test.true)) is).0
 
-pub returns-then-not-branch-2 : goal.returns-then-not-branch-2
-returns-then-not-branch-2 c =
+pub returns-then-not-branch-2-clause-made : goal.returns-then-not-branch-2-clause-made
+returns-then-not-branch-2-clause-made c =
     let from = premises_at c.args.over.now c.args.i in
     let n = c.args.over.now.formula.now.vars in
     let inv = c.loop-turn.invariant in
     let t = c.turn-item.result in
     let turns = c.as_slice-turn-items.result.now in
     let taken : IsMade n (option_and_then (resolvent t.lit inv.clause) (clause_named from t.with)) false c.take.new.work =
-    subst (λ (b : Bool). IsMade n (option_and_then (resolvent t.lit inv.clause) (clause_named from t.with)) b c.take.new.work) c.if-not-branch-2.true (c.in_ok-take.ensures inv.clause inv.held) in
+    subst (λ (b : Bool). IsMade n (option_and_then (resolvent t.lit inv.clause) (clause_named from t.with)) b c.take.new.work) c.if-not-branch-2.true (c.in_ok-take.ensures.made inv.clause inv.held) in
     let none = made_none n (option_and_then (resolvent t.lit inv.clause) (clause_named from t.with)) c.take.new.work taken in
     let chain : chain_clause from c.args.step.now.first c.args.step.now.turns ≡ None =
     sym inv.rest ∙ turn_at from inv.clause turns c.loop-turn.turn-index t (omega arith) c.turn-item.is
@@ -51,11 +51,13 @@ loop-turn-preserved c =
     let t = c.turn-item.result in
     let turns = c.as_slice-turn-items.result.now in
     let taken : IsMade n (option_and_then (resolvent t.lit inv.clause) (clause_named from t.with)) true c.take.new.work =
-    subst (λ (b : Bool). IsMade n (option_and_then (resolvent t.lit inv.clause) (clause_named from t.with)) b c.take.new.work) c.if-not-branch-2.false (c.in_ok-take.ensures inv.clause inv.held) in
+    subst (λ (b : Bool). IsMade n (option_and_then (resolvent t.lit inv.clause) (clause_named from t.with)) b c.take.new.work) c.if-not-branch-2.false (c.in_ok-take.ensures.made inv.clause inv.held) in
     let some = made_some n (option_and_then (resolvent t.lit inv.clause) (clause_named from t.with)) c.take.new.work taken in
     record {
       clause = some.0;
       held = some.2;
+      repeated = c.in_ok-take.ensures.repeated;
+      named = c.in_ok-take.ensures.named;
       rest = sym (turn_at from inv.clause turns c.loop-turn.turn-index t (omega arith) c.turn-item.is
           ∙ ap (option_and_then (λ r. after_turns from r (drop (c.loop-turn.turn-index + 1) turns))) some.1) ∙ inv.rest;
     }

@@ -24,7 +24,7 @@ clear-requires c =
     let n = c.args.over.now.formula.now.vars in
     elim c.if-is_made.branch [
       | then-is_made w ↦ (let h = w.is_clause-stated.ensures.work in rw (w.work-is) (listed_within w.vars.result h.0 w.is_clause-stated.new.self h.1))
-      | else-is_made w ↦ (let h = some_work n _ c.in_ok-is_made.is_made c.make_clause.new.work c.in_ok-is_made.ensures in rw (w.work-is) (listed_within n h.0 c.make_clause.new.work h.1))
+      | else-is_made w ↦ (let h = some_work n _ c.in_ok-is_made.is_made c.make_clause.new.work c.in_ok-is_made.ensures.made in rw (w.work-is) (listed_within n h.0 c.make_clause.new.work h.1))
     ]
 
 pub returns-clause-stated : goal.returns-clause-stated
@@ -35,7 +35,7 @@ returns-clause-stated c s is =
     let same : s ≡ r = one_step over.steps.now c.args.i s r c.requires.place is c.index-over-i.is in
     let from = premises_at over c.args.i in
     let made : IsMade n (chain_clause from r.first r.turns) c.in_ok-is_made.is_made c.make_clause.new.work =
-    subst (λ (u : Step). IsMade n (chain_clause from u.first u.turns) c.in_ok-is_made.is_made c.make_clause.new.work) (sym c.index-over-i.is) c.in_ok-is_made.ensures in
+    subst (λ (u : Step). IsMade n (chain_clause from u.first u.turns) c.in_ok-is_made.is_made c.make_clause.new.work) (sym c.index-over-i.is) c.in_ok-is_made.ensures.made in
     let there : c.if-is_made.stated ≡ states_its_clause from r = elim c.if-is_made.branch [
       | then-is_made w ↦
           let some = made_some n (chain_clause from r.first r.turns) c.make_clause.new.work (subst (λ (b : Bool). IsMade n (chain_clause from r.first r.turns) b c.make_clause.new.work) w.if-is_made.true made) in
@@ -56,6 +56,9 @@ returns-clause-work c =
           let h = w.is_clause-stated.ensures.work in
           c.clear.ensures n h.0 (subst (λ (v : Work). IsWork n h.0 v) (sym w.work-is) (subst (λ m. IsWork m h.0 w.is_clause-stated.new.self) w.vars.ensures.value h.1))
       | else-is_made w ↦
-          let h = some_work n _ c.in_ok-is_made.is_made c.make_clause.new.work c.in_ok-is_made.ensures in
+          let h = some_work n _ c.in_ok-is_made.is_made c.make_clause.new.work c.in_ok-is_made.ensures.made in
           c.clear.ensures n h.0 (subst (λ (v : Work). IsWork n h.0 v) (sym w.work-is) h.1)
     ]
+
+pub returns-clause-repeated : goal.returns-clause-repeated
+returns-clause-repeated c = c.forget.ensures c.args.over.now.formula.now.vars c.make_clause.new.work c.in_ok-is_made.ensures.repeated

@@ -1,4 +1,4 @@
-use Rattle.std.proofs.Common.{◌≡◌, ◌<◌, ◌%◌, ℕ, length, sym, subst, arith}
+use Rattle.std.proofs.Common.{◌<◌, ◌%◌, ℕ, length, subst, arith}
 use Rattle.std.proofs.Math.Nat.{mod-lt}
 use Rattle.check_rounds.specs.Index.{IsListed}
 use Rattle.check_rounds.proofs.IndexLemmas.{clauses_next, last_kept, last_more, listed_by, listed_itself}

@@ -1,6 +1,5 @@
-use Rattle.std.proofs.Common.{◌≡◌, ◌<◌, ◌∙◌, ◌-◌, ◌+◌, ℕ, List, length, replicate, ap, subst, sym, arith}
+use Rattle.std.proofs.Common.{◌≡◌, ◌∙◌, ◌+◌, length, replicate, ap, arith}
 use Rattle.std.proofs.lemmas.List.{length-replicate}
-use Rattle.check_rounds.specs.Index.{AreClausesListed}
 use Rattle.check_rounds.proofs.IndexLemmas.{last_none}
 use Rattle.check_rounds.proofs.index.Index.of_formula.Goals as goal
 
