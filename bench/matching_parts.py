@@ -4,13 +4,16 @@
     bench/matching_parts.py rows
     bench/matching_parts.py expected
     bench/matching_parts.py compare LEANK [COUNT [SEED]]
+    bench/matching_parts.py large LEANK [COUNT [SEED]]
 
 A plain program finds the matching of each part of a formula alone, in rounds of shortest paths, and makes the
 document of these. `rows` prints rows for the script of crates/test_commands, by 1, 2, 3, 8 and 64 workers, and
 `expected` prints their answers. If a round also turned the longer paths that it meets, several parts at once would
 get other pairs than each part alone, for each of these formulas. `compare` draws COUNT formulas, or 1,000, and
 compares what LEANK (`dist/leank`) writes by as many workers with the plain document. It prints each formula for which
-one differs, and how many they are; the status is 1 if there is one. Needs python3.
+one differs, and how many they are; the status is 1 if there is one. `large` draws formulas of 4,200 clauses or more,
+which are looked at before their parts are searched (COUNT or 40), and compares what LEANK writes by as many workers
+with what it writes by one. Needs python3.
 """
 import os
 import random
@@ -20,7 +23,8 @@ import tempfile
 
 WORKERS = (1, 2, 3, 8, 64)
 
-# A small formula, of five clauses over four variables and three over three, and the seeds of others.
+# A small formula, of five clauses over four variables and three over three, and the seeds of others, beside which there
+# are a large part among small ones, two equal large ones, and many small ones.
 SMALL = (7, [[3, 1], [4, 1], [2, 4], [2], [5, 7], [5], [3], [7, 6]])
 SEEDS = (1192, 1725, 1797, 2487, 4789, 5833)
 
@@ -41,6 +45,55 @@ def draw_formula(seed):
         size = draw.randint(1, draw.choice((6, 12, 40)))
         clauses += draw_part(draw, variables + 1, size)
         variables += size
+    if draw.random() < 0.5:
+        draw.shuffle(clauses)
+    return variables, clauses
+
+
+def beside(draw, size, count):
+    """A part over this many variables, and smaller ones over one to three until there are so many clauses."""
+    clauses, variables = list(draw_part(draw, 1, size)), size
+    while len(clauses) < count:
+        some = draw.randint(1, 3)
+        clauses += draw_part(draw, variables + 1, some)
+        variables += some
+    return variables, clauses
+
+
+def equal(draw, size, count):
+    """The same clauses over two sets of variables, in turn."""
+    part = []
+    while 2 * len(part) < count:
+        part += draw_part(draw, 1, size)
+    moved = [[l + size if l > 0 else l - size for l in clause] for clause in part]
+    return 2 * size, [clause for both in zip(part, moved) for clause in both]
+
+
+def small(draw, count):
+    """Parts over one to six variables until there are so many clauses."""
+    clauses, variables = [], 0
+    while len(clauses) < count:
+        some = draw.randint(1, 6)
+        clauses += draw_part(draw, variables + 1, some)
+        variables += some
+    return variables, clauses
+
+
+def draw_large(seed):
+    """A formula of 4,200 clauses or more, each kind in turn; in half of the formulas the clauses are shuffled."""
+    draw = random.Random(seed)
+    if seed % 4 == 0:
+        variables, clauses = beside(draw, draw.randint(2000, 5000), draw.randint(6000, 9000))
+    elif seed % 4 == 1:
+        variables, clauses = equal(draw, draw.randint(2100, 4000), 4200)
+    elif seed % 4 == 2:
+        variables, clauses = small(draw, draw.randint(4200, 9000))
+    else:
+        variables, clauses = 0, []
+        while len(clauses) < 4200:
+            size = draw.randint(1, draw.choice((100, 3000)))
+            clauses += draw_part(draw, variables + 1, size)
+            variables += size
     if draw.random() < 0.5:
         draw.shuffle(clauses)
     return variables, clauses
@@ -152,7 +205,9 @@ def spelled(variables, clauses):
 
 def script():
     """The formulas of the rows."""
-    return [SMALL] + [draw_formula(seed) for seed in SEEDS]
+    draw = random.Random(1)
+    shapes = [beside(draw, 24, 40), equal(draw, 16, 30), small(draw, 40)]
+    return [SMALL] + [draw_formula(seed) for seed in SEEDS] + shapes
 
 
 def put_rows():
@@ -186,6 +241,22 @@ def compare(leank, count, seed):
     return 1 if differing else 0
 
 
+def compare_large(leank, count, seed):
+    differing = 0
+    with tempfile.TemporaryDirectory() as folder:
+        name = os.path.join(folder, "formula")
+        for number in range(seed, seed + count):
+            with open(name, "w") as out:
+                out.write(spelled(*draw_large(number)) + "\n")
+            words = [leank, "reduce", "matching", name, "--workers"]
+            runs = [subprocess.run(words + [str(w)], stdout=subprocess.PIPE) for w in WORKERS]
+            if len({run.stdout for run in runs}) > 1 or {run.returncode for run in runs} != {0}:
+                differing += 1
+                print(f"seed {number}: {len({run.stdout for run in runs})} documents")
+    print(f"{count} large formulas, {differing} with another document")
+    return 1 if differing else 0
+
+
 def main():
     words = sys.argv[1:]
     if words == ["rows"]:
@@ -195,6 +266,9 @@ def main():
     elif 2 <= len(words) <= 4 and words[0] == "compare":
         numbers = [int(word) for word in words[2:]] + [1000, 1][len(words) - 2:]
         sys.exit(compare(os.path.abspath(words[1]), *numbers))
+    elif 2 <= len(words) <= 4 and words[0] == "large":
+        numbers = [int(word) for word in words[2:]] + [40, 1][len(words) - 2:]
+        sys.exit(compare_large(os.path.abspath(words[1]), *numbers))
     else:
         sys.exit(__doc__)
 

@@ -1,5 +1,5 @@
 pub mod OneMore
-pub mod Entering
+pub mod Occurring
 pub mod Labelling
 pub mod Passing
 pub mod Numbers

@@ -8,7 +8,7 @@ use Rattle.lk_model.specs.Formulas.Literal.{variable, mentions}
 use Rattle.lk_model.specs.Formulas.Formula.{Cnf, clause_at}
 use Rattle.lk_model.proofs.Booleans.{and_true, or_true, or_left, or_right}
 use Rattle.lk_model.proofs.Lists.{among_at, among_here}
-use Rattle.par_parts.specs.Positions.{HavePositions}
+use Rattle.par_parts.specs.Positions.{HavePositions, positions_of_variable}
 use Rattle.par_parts.specs.Numbering.{Found, labelled, all_labelled, variable_passed, clause_passed, IsSearching, Keeps}
 use Rattle.par_parts.proofs.OneMore.{written, any_push_left, any_push_here, any_push_cases, same_number}
 use Rattle.par_parts.proofs.Labelling.{position_bounds, weight, rehand, IsAtVariable, label_list}
@@ -26,9 +26,9 @@ pub record AfterVariable (F : Cnf) (s t : Found) (c v : ℕ) : Type 0 where
 
 -- a variable is passed when all that mention it have the number
 own : (F : Cnf) (s : Found) (c v part : ℕ) (lists : List (List ℕ)) → HavePositions F lists → IsAtVariable F s c v part → v < length s.owners
-    → AfterVariable F s (record (all_labelled part (get_or lists v []) s) { owners = set (all_labelled part (get_or lists v []) s).owners v part }) c v
+    → AfterVariable F s (record (all_labelled part (positions_of_variable lists v) s) { owners = set (all_labelled part (positions_of_variable lists v) s).owners v part }) c v
 own F s c v part lists lists_are a lt =
-    let ps = get_or lists v [] in
+    let ps = positions_of_variable lists v in
     let t = all_labelled part ps s in
     let r = label_list F s c v part ps a (λ p i. lists_are.only v p i) in
     let h = r.searching in
@@ -75,15 +75,15 @@ pub record IsAtClause (F : Cnf) (s : Found) (c part : ℕ) (lists : List (List �
   pub told : HavePositions F lists
 
 -- a variable that was passed before changes nothing
-pass_one : (F : Cnf) (s : Found) (c v part : ℕ) (lists : List (List ℕ)) → IsAtClause F s c part lists → mentions (clause_at F c) v ≡ true → v < length lists
+pass_one : (F : Cnf) (s : Found) (c v part : ℕ) (lists : List (List ℕ)) → IsAtClause F s c part lists → mentions (clause_at F c) v ≡ true → v < F.vars + 1
     → AfterVariable F s (variable_passed part lists v s) c v
 pass_one F s c v part lists a m lt = at_test (get_or s.owners v 0 == 0) refl
   where
     at_test : (b : Bool) → (get_or s.owners v 0 == 0) ≡ b
-        → AfterVariable F s (cond b (record (all_labelled part (get_or lists v []) s) { owners = set (all_labelled part (get_or lists v []) s).owners v part }) s) c v
+        → AfterVariable F s (cond b (record (all_labelled part (positions_of_variable lists v) s) { owners = set (all_labelled part (positions_of_variable lists v) s).owners v part }) s) c v
     at_test true e =
         own F s c v part lists a.told (record { searching = a.searching; number = a.number; some = a.some; on = m; free = eqb-true (get_or s.owners v 0) 0 e })
-        (let l = a.told.long in let o = a.searching.vars in omega (arith, lt, l, o))
+        (let o = a.searching.vars in omega (arith, lt, o))
     at_test false e =
         let n : get_or s.owners v 0 ≢ 0 = λ z. (let t : true ≡ false = sym (eq-eqb (get_or s.owners v 0) 0 z) ∙ e in let f : ⊥ = cc in f) in
         record { searching = a.searching; roots = refl; owner = n; owners = λ w k. k; keeps = λ p k. k; weight = refl }
@@ -101,7 +101,7 @@ pub record AfterLiterals (F : Cnf) (s t : Found) (c : ℕ) (lits : List ℤ) : T
 
 -- all variables of some literals
 pass_literals : (F : Cnf) (s : Found) (c part : ℕ) (lists : List (List ℕ)) (lits : List ℤ) → IsAtClause F s c part lists
-    → ((v : ℕ) → mentions lits v ≡ true → mentions (clause_at F c) v ≡ true) → list_all (λ l. nat_lt (variable l) (length lists)) lits ≡ true
+    → ((v : ℕ) → mentions lits v ≡ true → mentions (clause_at F c) v ≡ true) → list_all (λ l. nat_lt (variable l) (F.vars + 1)) lits ≡ true
     → AfterLiterals F s (clause_passed part lists lits s) c lits
 pass_literals F s c part lists [] a m small = record {
   searching = a.searching;
@@ -112,9 +112,9 @@ pass_literals F s c part lists [] a m small = record {
   weight = refl;
 }
 pass_literals F s c part lists (l ∷ lits) a m small =
-    let w = and_true (nat_lt (variable l) (length lists)) _ small in
+    let w = and_true (nat_lt (variable l) (F.vars + 1)) _ small in
     let t = variable_passed part lists (variable l) s in
-    let one = pass_one F s c (variable l) part lists a (m (variable l) (or_left (variable l == variable l) (mentions lits (variable l)) (same_number (variable l)))) (leb-true (suc (variable l)) (length lists) w.0) in
+    let one = pass_one F s c (variable l) part lists a (m (variable l) (or_left (variable l == variable l) (mentions lits (variable l)) (same_number (variable l)))) (leb-true (suc (variable l)) (F.vars + 1) w.0) in
     let next : IsAtClause F t c part lists = record {
       searching = one.searching;
       number = a.number ∙ sym (ap (λ (xs : List ℕ). length xs) one.roots);
@@ -143,7 +143,7 @@ pub record AfterClause (F : Cnf) (s t : Found) : Type 0 where
 
 -- all variables of the clause in hand
 pub pass_whole : (F : Cnf) (s : Found) (c part : ℕ) (lists : List (List ℕ)) → IsAtClause F s c part lists
-    → list_all (λ l. nat_lt (variable l) (length lists)) (clause_at F c) ≡ true
+    → list_all (λ l. nat_lt (variable l) (F.vars + 1)) (clause_at F c) ≡ true
     → AfterClause F s (clause_passed part lists (clause_at F c) s)
 pass_whole F s c part lists a small =
     let t = clause_passed part lists (clause_at F c) s in
@@ -226,18 +226,18 @@ pub variable_lengths : (part : ℕ) (lists : List (List ℕ)) (v : ℕ) (s : Fou
     → (length (variable_passed part lists v s).labels ≡ length s.labels) × (length (variable_passed part lists v s).owners ≡ length s.owners)
 variable_lengths part lists v s = at_test (get_or s.owners v 0 == 0)
   where
-    at_test : (b : Bool) → (length (cond b (record (all_labelled part (get_or lists v []) s) { owners = set (all_labelled part (get_or lists v []) s).owners v part }) s).labels ≡ length s.labels)
-        × (length (cond b (record (all_labelled part (get_or lists v []) s) { owners = set (all_labelled part (get_or lists v []) s).owners v part }) s).owners ≡ length s.owners)
+    at_test : (b : Bool) → (length (cond b (record (all_labelled part (positions_of_variable lists v) s) { owners = set (all_labelled part (positions_of_variable lists v) s).owners v part }) s).labels ≡ length s.labels)
+        × (length (cond b (record (all_labelled part (positions_of_variable lists v) s) { owners = set (all_labelled part (positions_of_variable lists v) s).owners v part }) s).owners ≡ length s.owners)
     at_test true =
-        let e = all_lengths part (get_or lists v []) s in
-        (e.0, length-set (all_labelled part (get_or lists v []) s).owners v part ∙ ap (λ (xs : List ℕ). length xs) e.1)
+        let e = all_lengths part (positions_of_variable lists v) s in
+        (e.0, length-set (all_labelled part (positions_of_variable lists v) s).owners v part ∙ ap (λ (xs : List ℕ). length xs) e.1)
     at_test false = (refl, refl)
 
 -- the positions that mention a variable are below the length of the numbers
 pub within_labels : (F : Cnf) (lists : List (List ℕ)) (labels : List ℕ) → HavePositions F lists → length labels ≡ length F.clauses + 1
-    → (v k d : ℕ) → k < length (get_or lists v []) → get_or (get_or lists v []) k d < length labels
+    → (v k d : ℕ) → k < length (positions_of_variable lists v) → get_or (positions_of_variable lists v) k d < length labels
 within_labels F lists labels h long v k d l =
-    let ps = get_or lists v [] in
+    let ps = positions_of_variable lists v in
     let b = (position_bounds F (get_or ps k 0) v (h.only v (get_or ps k 0) (among_at ps k l))).1 in
     let same = get_or_default ps k d 0 l in
     omega (arith, b, long, same)

@@ -1,10 +1,11 @@
--- A search over the clauses of a formula and the lists of the positions that mention a variable.
+-- A search over the clauses of a formula and the positions that mention a variable.
 use Rattle.std.specs.Prelude.{◌≡◌, ◌≢◌, ℕ, ◌+◌, ◌-◌, ◌<◌, ◌≤◌, ◌==◌, ◌⊎◌, cond, List, [], ◌∷◌, ◌++◌, length, slice_index, slice_index_or, slice_set, map, filter, replicate, ℤ, IsTrue, true}
 use Rattle.lk_model.specs.Lists.{among, rises_within, up_to}
 use Rattle.lk_model.specs.Formulas.Literal.{variable, mentions}
 use Rattle.lk_model.specs.Formulas.Formula.{Cnf, clause_at}
 use Rattle.lk_model.specs.Formulas.Lean.{all_of, are_positions}
 use Rattle.lk_model.specs.Formulas.Parts.{share_variable, InOnePart}
+use Rattle.par_parts.specs.Positions.{positions_of_variable}
 use Rattle.par_parts.specs.declared.search.Search.{Search}
 
 -- what a search knows
@@ -37,7 +38,7 @@ all_labelled part (p ∷ ps) s = all_labelled part ps (labelled part p s)
 -- a variable that was not passed is, and the positions that mention it get the number
 abbrev pub variable_passed : ℕ → List (List ℕ) → ℕ → Found → Found
 variable_passed part lists v s =
-    let next = all_labelled part (slice_index_or lists v []) s in
+    let next = all_labelled part (positions_of_variable lists v) s in
     cond (slice_index s.owners v == 0) (record next { owners = slice_set next.owners v part }) s
 
 -- all variables of a clause are passed

@@ -1,24 +1,15 @@
--- Lists of the positions that mention a variable.
-use Rattle.std.specs.Prelude.{◌≡◌, ℕ, ◌+◌, ◌<◌, ◌⊎◌, List, [], length, slice_index_or, ℤ, IsTrue}
+-- The positions that mention a variable.
+use Rattle.std.specs.Prelude.{◌≡◌, ℕ, ◌+◌, ◌*◌, List, [], ◌++◌, length, slice_index_or, IsTrue}
 use Rattle.lk_model.specs.Lists.{among}
 use Rattle.lk_model.specs.Formulas.Literal.{mentions}
 use Rattle.lk_model.specs.Formulas.Formula.{Cnf, clause_at}
 
--- positions below a bound
-pub record HavePositionsBelow (F : Cnf) (bound : ℕ) (lists : List (List ℕ)) : Type 0 where
-  pub long : length lists ≡ F.vars + 1
-  pub told : (v p : ℕ) → p < bound → IsTrue (mentions (clause_at F p) v) → IsTrue (among (slice_index_or lists v []) p)
-  pub only : (v p : ℕ) → IsTrue (among (slice_index_or lists v []) p) → IsTrue (mentions (clause_at F p) v)
+-- those of a variable, in lists of those of each literal
+abbrev pub positions_of_variable : List (List ℕ) → ℕ → List ℕ
+positions_of_variable lists v = slice_index_or lists (2 * v) [] ++ slice_index_or lists (2 * v + 1) []
 
--- for each variable the positions whose clauses mention it; at 0 there is none
+-- they are the positions whose clauses mention it
 pub record HavePositions (F : Cnf) (lists : List (List ℕ)) : Type 0 where
-  pub long : length lists ≡ F.vars + 1
-  pub told : (v p : ℕ) → IsTrue (mentions (clause_at F p) v) → IsTrue (among (slice_index_or lists v []) p)
-  pub only : (v p : ℕ) → IsTrue (among (slice_index_or lists v []) p) → IsTrue (mentions (clause_at F p) v)
-
--- one more position for each variable of a clause
-pub record IsEntered (old new : List (List ℕ)) (p : ℕ) (c : List ℤ) : Type 0 where
-  pub long : length new ≡ length old
-  pub kept : (v q : ℕ) → IsTrue (among (slice_index_or old v []) q) → IsTrue (among (slice_index_or new v []) q)
-  pub told : (v : ℕ) → IsTrue (mentions c v) → IsTrue (among (slice_index_or new v []) p)
-  pub only : (v q : ℕ) → IsTrue (among (slice_index_or new v []) q) → IsTrue (among (slice_index_or old v []) q) ⊎ ((q ≡ p) × IsTrue (mentions c v))
+  pub long : length lists ≡ 2 * F.vars + 2
+  pub told : (v p : ℕ) → IsTrue (mentions (clause_at F p) v) → IsTrue (among (positions_of_variable lists v) p)
+  pub only : (v p : ℕ) → IsTrue (among (positions_of_variable lists v) p) → IsTrue (mentions (clause_at F p) v)

@@ -1,10 +1,9 @@
 //! The parts of a formula.
-ghost use Rattle.std.specs.Prelude.{◌≡◌, ◌≢◌, ◌+◌, ◌<◌, ◌≤◌, ℕ, length, slice_index, IfOk};
+ghost use Rattle.std.specs.Prelude.{◌≡◌, ◌≢◌, ◌+◌, ◌<◌, ◌≤◌, ℕ, [], length, replicate, slice_index, IfOk};
 ghost use Rattle.lk_model.specs.Formulas.Parts.{AreParts};
 ghost use Rattle.lk_model.specs.Limits.{max_clauses};
 ghost use Rattle.par_parts.specs.Numbering.{gathered};
 
-use crate::incidence::empty_lists;
 use crate::search::number_parts;
 use lk_model::{Formula, List, OutOfMemory};
 use std::alloc::Global;
@@ -37,4 +36,15 @@ pub(crate) fn gather(
         parts[labels[p as usize] as usize - 1].push(p)?;
     }
     Ok(parts)
+}
+
+// So many lists without an item.
+fn empty_lists(alloc: Global, count: usize) -> Result<Vec<List<u32>>, OutOfMemory>
+    ensures { IfOk result (λ v. v.items ≡ replicate count []) }
+{
+    let mut lists = Vec::with_capacity(alloc, count)?;
+    for _ in 0..count {
+        lists.push(List::new(alloc))?;
+    }
+    Ok(lists)
 }

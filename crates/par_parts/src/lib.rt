@@ -3,7 +3,6 @@
 
 mod gathering;
 mod grouping;
-mod incidence;
 mod search;
 
 pub use gathering::parts;

@@ -1,15 +1,15 @@
 //! The search for parts.
-ghost use Rattle.std.specs.Prelude.{◌≡◌, ◌+◌, ◌<◌, ◌≤◌, ℕ, [], length, slice_index_or};
+ghost use Rattle.std.specs.Prelude.{◌≡◌, ◌+◌, ◌*◌, ◌<◌, ◌≤◌, ℕ, [], length};
 ghost use Rattle.std.specs.Prelude.{nat_lt, IfOk, OnOk, IsTrue};
 ghost use Rattle.std.specs.List.{list_all, All};
 ghost use Rattle.lk_model.specs.Limits.{max_clauses};
 ghost use Rattle.lk_model.specs.Formulas.Literal.{variable};
-ghost use Rattle.par_parts.specs.Positions.{HavePositions};
+ghost use Rattle.par_parts.specs.Positions.{HavePositions, positions_of_variable};
 ghost use Rattle.par_parts.specs.Numbering.{found_of, none_found, labelled, all_labelled, variable_passed};
 ghost use Rattle.par_parts.specs.Numbering.{clause_passed, part_begun, AreLabels, IsSearching, IsSpread, IsUpTo};
 
-use crate::incidence::positions_by_variable;
-use lk_model::{Formula, List, Lit, OutOfMemory};
+use lk_model::{Formula, Lit, OutOfMemory};
+use occurrence_lists::OccurrenceLists;
 use std::alloc::Global;
 
 /// What a search knows.
@@ -62,14 +62,19 @@ impl Search {
     }
 
     // A variable that was not passed is passed: all positions that mention it get the number.
-    fn pass_variable(&mut self, part: u32, lists: &[List<u32>], v: u32) -> Result<(), OutOfMemory>
-        requires list { v < length lists.now }
+    fn pass_variable(
+        &mut self,
+        part: u32,
+        lists: &OccurrenceLists,
+        v: u32,
+    ) -> Result<(), OutOfMemory>
+        requires list { 2 * v + 1 < length lists.now }
         requires owner { v < length self.old.owners.items }
-        requires within { All (λ p. p < length self.old.labels.items) (slice_index_or lists.now v []) }
+        requires within { All (λ p. p < length self.old.labels.items) (positions_of_variable lists.now v) }
         ensures { OnOk result (found_of self.new ≡ variable_passed part lists.now v (found_of self.old)) }
     {
         if self.owners[v as usize] == 0 {
-            self.label_all(part, lists[v as usize].as_slice())?;
+            self.label_all(part, lists.positions_of_variable(v))?;
             self.owners[v as usize] = part;
         }
         Ok(())
@@ -79,12 +84,12 @@ impl Search {
     fn pass_clause(
         &mut self,
         part: u32,
-        lists: &[List<u32>],
+        lists: &OccurrenceLists,
         lits: &[Lit],
     ) -> Result<(), OutOfMemory>
-        requires lists { IsTrue (list_all (λ l. nat_lt (variable l) (length lists.now)) lits.now) }
-        requires owners { length lists.now ≡ length self.old.owners.items }
-        requires within { (v : ℕ) → All (λ p. p < length self.old.labels.items) (slice_index_or lists.now v []) }
+        requires owners { IsTrue (list_all (λ l. nat_lt (variable l) (length self.old.owners.items)) lits.now) }
+        requires lists { length lists.now ≡ 2 * length self.old.owners.items }
+        requires within { (v : ℕ) → All (λ p. p < length self.old.labels.items) (positions_of_variable lists.now v) }
         ensures { OnOk result (found_of self.new ≡ clause_passed part lists.now lits.now (found_of self.old)) }
     {
         for l in lits {
@@ -107,7 +112,7 @@ impl Search {
     }
 
     // All positions to which chains lead from those that wait get the number of the last part.
-    fn spread(&mut self, f: &Formula, lists: &[List<u32>]) -> Result<(), OutOfMemory>
+    fn spread(&mut self, f: &Formula, lists: &OccurrenceLists) -> Result<(), OutOfMemory>
         requires lists { HavePositions f.now lists.now }
         requires some { 0 < length self.old.roots.items }
         requires few { length self.old.roots.items ≤ max_clauses + 1 }
@@ -122,7 +127,12 @@ impl Search {
     }
 
     // All positions below this one have their numbers, and now it has one too.
-    fn pass_position(&mut self, f: &Formula, lists: &[List<u32>], p: u32) -> Result<(), OutOfMemory>
+    fn pass_position(
+        &mut self,
+        f: &Formula,
+        lists: &OccurrenceLists,
+        p: u32,
+    ) -> Result<(), OutOfMemory>
         requires lists { HavePositions f.now lists.now }
         requires first { 0 < p }
         requires last { p ≤ length f.now.clauses }
@@ -143,7 +153,7 @@ pub(crate) fn number_parts(alloc: Global, f: &Formula) -> Result<Search, OutOfMe
     ensures labels { IfOk result (λ s. AreLabels f.now s.labels.items s.roots.items) }
     ensures few { IfOk result (λ s. length s.labels.items ≤ max_clauses + 1) }
 {
-    let lists = positions_by_variable(alloc, f)?;
+    let lists = OccurrenceLists::new(alloc, f)?;
     let mut search = Search::new(alloc, f)?;
     for p in 1..f.len() + 1 {
         search.pass_position(f, &lists, p)?;

@@ -4,6 +4,7 @@
 mod copied;
 mod general;
 mod laws;
+mod look;
 mod matching;
 mod renaming;
 

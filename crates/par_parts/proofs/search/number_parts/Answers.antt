@@ -1,7 +1,11 @@
 use Rattle.std.proofs.Common.{arith}
 use Rattle.par_parts.specs.Numbering.{found_of}
 use Rattle.par_parts.proofs.Numbers.{labels_are}
+use Rattle.par_parts.proofs.Occurring.{have_positions}
 use Rattle.par_parts.proofs.search.number_parts.Goals as goal
+
+pub pass_position-requires-clause-lists : goal.pass_position-requires-clause-lists
+pass_position-requires-clause-lists c = have_positions c.args.f.now c.in_ok-lists.lists c.len-p-end.ensures.formula c.in_ok-lists.ensures
 
 pub returns-clause-labels : goal.returns-clause-labels
 returns-clause-labels c =
