@@ -2,7 +2,7 @@
 use Rattle.std.proofs.Common.{◌≡◌, ◌⊎◌, ◌*◌, ℕ, ◌+◌, ◌-◌, ◌≤◌, ◌^◌, Bool, true, ◌&&◌, ◌||◌, ◌==◌, nat_lt, nat_le, List, [], ◌∷◌, refl, sym, ◌∙◌, ap, subst, arith, inl, inr, map, length}
 use Rattle.std.specs.List.{list_all}
 use Rattle.std.proofs.lemmas.Bool.{cases_Bool, cond-true, cond-false, eqb-true, leb-true, leb-false, lt-ltb, ltb-true}
-use Rattle.std.proofs.lemmas.List.{append-nil}
+use Rattle.std.proofs.lemmas.List.{append-nil, get_or_default}
 use Rattle.lk_model.specs.Lists.{among, is_between, rises_within}
 use Rattle.lk_model.specs.Formulas.Literal.{rank_of, is_literal}
 use Rattle.lk_model.specs.Formulas.Formula.{Cnf}
@@ -18,7 +18,7 @@ use Rattle.lk_model.proofs.ListTests.{all_weaker}
 use Rattle.lk_model.proofs.Lists.{in_mapped}
 use Rattle.lk_model.specs.Checks.RoundChecks.{IsRefutation}
 use Rattle.general_laws.proofs.JoinLaws.{join_law}
-use Rattle.renaming_laws.specs.Renaming.{nth, number_in_whole, renamed_turn, renamed_step, renamed_round}
+use Rattle.renaming_laws.specs.Renaming.{nth, named, number_in_whole, turn_under, step_under, renamed_round}
 use Rattle.renaming_laws.proofs.Mapped.{all_mapped}
 use Rattle.mus_core.specs.Named.{is_one, names_only}
 
@@ -102,7 +102,8 @@ number_one : (m : ℕ) (part places : List ℕ) (k : ℕ) → 1 ≤ k → is_one
     → (nat_lt m (number_in_whole part m k) || among (map (nth part) places) (number_in_whole part m k)) ≡ true
 number_one m part places k low e = elim (cases_Bool (nat_le k (length part))) [
   | inl within ↦
-      (let is : number_in_whole part m k ≡ nth part k = cond-true (nat_le k (length part)) _ _ within in
+      (let is : number_in_whole part m k ≡ nth part k =
+      cond-true (nat_le k (length part)) _ _ within ∙ get_or_default part (k - 1) k 0 (let near = leb-true k (length part) within in omega (arith, low, near)) in
       or_right (nat_lt m (number_in_whole part m k)) (among (map (nth part) places) (number_in_whole part m k))
       (subst (λ (j : ℕ). among (map (nth part) places) j ≡ true) (sym is)
       (in_mapped (nth part) places k (elim (one_above (length part) places k low e) [
@@ -116,19 +117,22 @@ number_one m part places k low e = elim (cases_Bool (nat_le k (length part))) [
 ]
 
 told_names : (u : ℕ → Bool) (m : ℕ) (part names : List ℕ) (s : Step)
-    → list_all u (names_of (renamed_step m part names s)) ≡ list_all (λ k. u (number_in_whole part m k)) (names_of s)
+    → list_all u (names_of (step_under (named names) (number_in_whole part m) s)) ≡ list_all (λ k. u (number_in_whole part m k)) (names_of s)
 told_names u m part names s =
     ap (λ (b : Bool). u (number_in_whole part m s.first) && b)
-    (all_mapped (λ (t : Turn). t.with) u (λ (t : Turn). u t.with) (λ t. refl) (map (renamed_turn m part names) s.turns)
-    ∙ all_mapped (renamed_turn m part names) (λ (t : Turn). u t.with) (λ (t : Turn). u (number_in_whole part m t.with)) (λ t. refl) s.turns
+    (all_mapped (λ (t : Turn). t.with) u (λ (t : Turn). u t.with) (λ t. refl) (map turn s.turns)
+    ∙ all_mapped turn (λ (t : Turn). u t.with) (λ (t : Turn). u (number_in_whole part m t.with)) (λ t. refl) s.turns
     ∙ sym (all_mapped (λ (t : Turn). t.with) (λ k. u (number_in_whole part m k)) (λ (t : Turn). u (number_in_whole part m t.with)) (λ t. refl) s.turns))
+  where
+    turn : Turn → Turn
+    turn = turn_under (named names) (number_in_whole part m)
 
 -- those of a copy, told of the formula
 pub narrowed_told : (F : Cnf) (n : ℕ) (part names places : List ℕ) (r : Round) → list_all (is_step n) r.steps ≡ true → names_only (length part) places r ≡ true
     → IsRefutation F part (renamed_round (length F.clauses) part names r) → IsRefutation F (map (nth part) places) (renamed_round (length F.clauses) part names r)
 narrowed_told F n part names places r form only h =
     narrowed F part (map (nth part) places) (renamed_round m part names r) h
-    (all_mapped (renamed_step m part names) (λ (s : Step). list_all u (names_of s)) (λ (s : Step). list_all (λ k. u (number_in_whole part m k)) (names_of s))
+    (all_mapped (step_under (named names) (number_in_whole part m)) (λ (s : Step). list_all u (names_of s)) (λ (s : Step). list_all (λ k. u (number_in_whole part m k)) (names_of s))
     (told_names u m part names) r.steps
     ∙ steps_weaker (is_one (length part) places) (λ k. u (number_in_whole part m k)) n (number_one m part places) r.steps form only)
   where

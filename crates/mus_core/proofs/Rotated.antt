@@ -21,7 +21,7 @@ use Rattle.occurrence_lists.specs.Occurrences.{AreOccurrences}
 use Rattle.mus_core.specs.declared.rotation.Rotating.{Rotating}
 use Rattle.mus_core.specs.Named.{flag_at}
 use Rattle.mus_core.specs.Rotations.{fails, IsOnly, IsRotating, IsWitnessOf, WentOn}
-use Rattle.mus_core.specs.WitnessValues.{witness_at, AreHeld, IsCopyOf, IsRotated}
+use Rattle.mus_core.specs.WitnessValues.{witness_at, AreHeld, IsRotated}
 use Rattle.mus_core.proofs.Naming.{one_more}
 
 -- A WITNESS IS PUT
@@ -78,25 +78,13 @@ put_held F S ws us p values h above model vars put = record {
 pub rotated_then : (F : Cnf) (S : Positions) (ws us vs : List (Option (List (Option Bool)))) → IsRotated F S ws us → IsRotated F S us vs → IsRotated F S ws vs
 rotated_then F S ws us vs first second = record { held = second.held; kept = λ q e. second.kept q (first.kept q e) }
 
--- the copy of a witness is one
-pub copy_held : (c : Rotating) (ws : List (Option (List (Option Bool)))) (p : ℕ) (values : List (Option Bool)) → AreHeld c.clauses.now (flag_at c.inside.now) ws
-    → flag_at c.inside.now p ≡ true → IsCopyOf (witness_at ws p) (Some values) → IsWitnessOf c p values
-copy_held c ws p values h there = at (witness_at ws p) refl (h.vars p)
-  where
-    at : (o : Option (List (Option Bool))) → witness_at ws p ≡ o → IfSome o (λ values. length values ≡ c.clauses.now.vars) → IsCopyOf o (Some values) → IsWitnessOf c p values
-    at None is vars copy = absurd copy
-    at (Some old) is vars copy = record {
-      vars = copy.0 ∙ vars;
-      satisfied = subst (λ (φ : Assignment). IsModel c.clauses.now (all_but (flag_at c.inside.now) p) φ) (sym copy.1) (h.witnesses p old there is);
-    }
-
--- an assignment over itself
-pub over_itself : (φ : Assignment) → composed φ φ ≡ φ
-over_itself φ j v = at (φ v) j
-  where
-    at : (o : Option Bool) → cond (is_some o) o o ≡ o
-    at None = refl
-    at (Some b) = refl
+-- what is held at a place of the set is a witness for it
+pub witness_held : (c : Rotating) (ws : List (Option (List (Option Bool)))) (p : ℕ) (values : List (Option Bool)) → AreHeld c.clauses.now (flag_at c.inside.now) ws
+    → flag_at c.inside.now p ≡ true → witness_at ws p ≡ Some values → IsWitnessOf c p values
+witness_held c ws p values h there is = record {
+  vars = subst (λ (o : Option (List (Option Bool))). IfSome o (λ values. length values ≡ c.clauses.now.vars)) is (h.vars p);
+  satisfied = h.witnesses p values there is;
+}
 
 -- ONE CLAUSE ALONE
 
@@ -161,17 +149,14 @@ against_bounds G l ks k is m =
 -- FLIPPED
 
 pub flipped : (c : Rotating) (p q : ℕ) (l : ℤ) (values copy new : List (Option Bool)) → IsWitnessOf c p values → is_nonzero l ≡ true
-    → contains (clause_at c.clauses.now p) l ≡ true → IsOnly c (assignment_by values) l q → assignment_by copy ≡ composed (assignment_by values) (assignment_by values)
+    → contains (clause_at c.clauses.now p) l ≡ true → IsOnly c (assignment_by values) l q → copy ≡ values
     → ((v : ℕ) → assignment_by new v ≡ with_made_true (assignment_by copy) l v) → IsModel c.clauses.now (all_but (flag_at c.inside.now) q) (assignment_by new)
 flipped c p q l values copy new w real there only_one copied made =
     subst (λ (φ : Assignment). IsModel c.clauses.now (all_but (flag_at c.inside.now) q) φ) (sym same)
     (witness_law.rotates c.clauses.now (flag_at c.inside.now) p q l (assignment_by values) real w.satisfied there only_one.others)
   where
-    from_values : assignment_by copy ≡ assignment_by values
-    from_values = copied ∙ over_itself (assignment_by values)
-
     same : assignment_by new ≡ with_made_true (assignment_by values) l
-    same = (λ j v. made v j) ∙ ap (λ (φ : Assignment). with_made_true φ l) from_values
+    same = (λ j v. made v j) ∙ ap (λ (vs : List (Option Bool)). with_made_true (assignment_by vs) l) copied
 
 -- ALL PLACES
 

@@ -49,10 +49,6 @@ literals_rise G places ws p = at (witness_at ws p)
     at None = refl
     at (Some values) = set_rises (variable_occurs G places) (assignment_by values) G.vars
 
-pub literals_within : (G : Cnf) (places : List ℕ) (ws : List (Option (List (Option Bool)))) (p n : ℕ) → G.vars ≡ n → list_all (is_literal n) (literals_at G places ws p) ≡ true
-literals_within G places ws p n vars = subst (λ (k : ℕ). list_all (is_literal k) (literals_at G places ws p) ≡ true) vars
-    (set_within 0 G.vars (literals_at G places ws p) (literals_rise G places ws p))
-
 -- and so they do told of the formula
 told_ascend : (names : List ℕ) (top : ℕ) (lits : List ℤ) → rises_within 0 top names ≡ true → rises_within 0 (length names) (map variable lits) ≡ true
     → rises_within 0 top (map variable (map (named names) lits)) ≡ true

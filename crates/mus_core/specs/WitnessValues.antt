@@ -43,12 +43,6 @@ pub record IsRotated (F : Cnf) (S : Positions) (ws us : List (Option (List (Opti
   pub held : AreHeld F S us
   pub kept : (p : ℕ) → IsTrue (is_some (witness_at ws p)) → IsTrue (is_some (witness_at us p))
 
--- the same values, where there are some
-abbrev pub IsCopyOf : Option (List (Option Bool)) → Option (List (Option Bool)) → Type 0
-IsCopyOf (Some old) (Some new) = (length new ≡ length old) × (assignment_by new ≡ assignment_by old)
-IsCopyOf None (Some new) = ⊥
-IsCopyOf old None = ⊤
-
 -- a place of the set without a witness
 abbrev pub is_open : List ℕ → List (Option (List (Option Bool))) → ℕ → Bool
 is_open places ws p = among places p && not (is_some (witness_at ws p))

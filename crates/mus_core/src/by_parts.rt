@@ -16,7 +16,8 @@ use autarky_compose::join_general;
 use cdcl_core::Schedule;
 use lk_model::{Budget, Decided, Formula, GeneralResult, List, Lit, OutOfMemory, Round};
 use par_parts::parts;
-use part_formula::{Renaming, dense_formula, names_of};
+use part_formula::{dense_formula, names_of};
+use result_renaming::Renaming;
 use std::alloc::Global;
 
 /// How many clauses each order may learn of a part when all parts are searched for the first time.
@@ -106,7 +107,8 @@ fn tell_decided(
     match decide_copy(alloc, of, &mut Schedule::of_all_orders(), conflicts)? {
         Decided::Model(set) => {
             let renaming = Renaming {
-                clauses: u64::from(of.formula.len()),
+                positions: of.part.len() as u64,
+                last: u64::from(of.formula.len()),
                 part: of.part,
                 names: of.names,
             };

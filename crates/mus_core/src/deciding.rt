@@ -12,7 +12,8 @@ ghost use Rattle.mus_core.specs.Copies.{IsCopy, IsDecided, IsRefutedWithin};
 use crate::named::named_positions;
 use cdcl_core::Schedule;
 use lk_model::{Budget, Decided, Formula, List, Lit, OutOfMemory, Round};
-use part_formula::{Renaming, decide_clauses};
+use part_formula::decide_clauses;
+use result_renaming::Renaming;
 use std::alloc::Global;
 
 /// The clauses of a formula at some positions, and a copy of them, whose variables are the places of their names.
@@ -63,7 +64,8 @@ fn tell_refutation(alloc: Global, of: &Copied, round: Round) -> Result<Refutatio
 {
     let places = named_positions(alloc, of.clauses.len(), &round)?;
     let renaming = Renaming {
-        clauses: u64::from(of.formula.len()),
+        positions: of.part.len() as u64,
+        last: u64::from(of.formula.len()),
         part: of.part,
         names: of.names,
     };
@@ -82,9 +84,11 @@ fn tell_open(alloc: Global, of: &Copied, round: Round) -> Result<Open, OutOfMemo
 {
     let texts = of.formula.clauses_at(alloc, of.part)?;
     let all = texts.positions(alloc)?;
+    let part = all.as_slice();
     let renaming = Renaming {
-        clauses: u64::from(texts.len()),
-        part: all.as_slice(),
+        positions: part.len() as u64,
+        last: u64::from(texts.len()),
+        part,
         names: of.names,
     };
     let round = renaming.only(alloc, round)?;

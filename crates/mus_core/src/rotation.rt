@@ -27,7 +27,7 @@ use crate::named::{flag_at, flags_of};
 use crate::witnesses::Witnesses;
 use lk_model::{Formula, Lit, OutOfMemory};
 use occurrence_lists::OccurrenceLists;
-use partial_assign::{Partial, compose};
+use partial_assign::Partial;
 use std::alloc::Global;
 
 /// The clauses of a refuted set among others, and where their literals occur.
@@ -205,7 +205,7 @@ fn flip(
 {
     if let Some(q) = only_failing(core, values, l) {
         if walk.come_to(q)? {
-            let mut flipped = compose(alloc, values, values)?;
+            let mut flipped = values.copy(alloc)?;
             flipped.make_true(l);
             witnesses.put(q, flipped);
         }

@@ -23,8 +23,8 @@ use crate::witnesses::{Witnesses, first_open};
 use cdcl_core::Schedule;
 use lk_model::{Budget, Decided, Formula, List, OutOfMemory};
 use occurrence_lists::OccurrenceLists;
-use part_formula::nth;
 use partial_assign::assignment_of;
+use result_renaming::nth;
 use std::alloc::Global;
 
 /// How many clauses each order of variables learns in a turn of a decision.

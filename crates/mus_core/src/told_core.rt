@@ -9,7 +9,7 @@ ghost use Rattle.mus_core.specs.WitnessValues.{witness_at, line_at};
 use crate::deciding::{Copied, Refutation};
 use crate::witnesses::Witnesses;
 use lk_model::{List, MusResult, OutOfMemory, Without};
-use part_formula::{Renaming, nth};
+use result_renaming::{Renaming, nth};
 use std::alloc::Global;
 
 /// The core at the places of a refutation, each of which has a witness.
@@ -26,7 +26,8 @@ pub(crate) fn told_core(
 {
     let without = lines(alloc, core, refutation.places.as_slice(), witnesses)?;
     let renaming = Renaming {
-        clauses: u64::from(core.formula.len()),
+        positions: core.part.len() as u64,
+        last: u64::from(core.formula.len()),
         part: core.part,
         names: core.names,
     };
@@ -73,7 +74,8 @@ fn line(
 {
     let literals = witnesses.literals(alloc, core.clauses, places, p)?;
     let renaming = Renaming {
-        clauses: u64::from(core.formula.len()),
+        positions: core.part.len() as u64,
+        last: u64::from(core.formula.len()),
         part: core.part,
         names: core.names,
     };

@@ -2,11 +2,11 @@
 ghost use Rattle.std.specs.Prelude.{◌≡◌, ◌≢◌, ◌<◌, ◌≤◌, ℕ, Some, None, find, not, is_some, length, replicate, IfOk};
 ghost use Rattle.std.specs.Prelude.{IfSome, IsTrue};
 ghost use Rattle.lk_model.specs.Formulas.Lean.{are_positions};
-ghost use Rattle.mus_core.specs.WitnessValues.{witness_at, literals_at, IsCopyOf};
+ghost use Rattle.mus_core.specs.WitnessValues.{witness_at, literals_at};
 
 use general_kernel::set_of;
 use lk_model::{Formula, List, Lit, OutOfMemory};
-use partial_assign::{Partial, compose};
+use partial_assign::Partial;
 use std::alloc::Global;
 use std::marker::Model;
 
@@ -59,10 +59,10 @@ impl Witnesses {
 
     /// A copy of the values for a place, where there are some.
     pub fn copy(&self, alloc: Global, p: u32) -> Result<Option<Partial>, OutOfMemory>
-        ensures { IfOk result (IsCopyOf (witness_at self.now p)) }
+        ensures { IfOk result (λ copy. copy ≡ witness_at self.now p) }
     {
         match self.values.get(p.saturating_sub(1) as usize) {
-            Some(Some(values)) => Ok(Some(compose(alloc, values, values)?)),
+            Some(Some(values)) => Ok(Some(values.copy(alloc)?)),
             _ => Ok(None),
         }
     }

@@ -4,8 +4,7 @@ use Rattle.std.specs.Prelude.{slice_index_or}
 use Rattle.std.specs.List.{list_all, range_with_len}
 use Rattle.std.proofs.lemmas.Bool.{and_from}
 use Rattle.std.proofs.lemmas.List.{append-nil}
-use Rattle.lk_model.specs.Lists.{is_empty, rises_within}
-use Rattle.lk_model.specs.Formulas.Literal.{variable, is_literal}
+use Rattle.lk_model.specs.Lists.{is_empty}
 use Rattle.lk_model.specs.Formulas.Formula.{Cnf, is_formula, clause_at, positions_of}
 use Rattle.lk_model.specs.Formulas.Crossed.{no_variable}
 use Rattle.lk_model.specs.Formulas.Lean.{are_positions}
@@ -15,13 +14,10 @@ use Rattle.lk_model.specs.Documents.Form.{are_steps}
 use Rattle.lk_model.specs.declared.document.Step.{Step}
 use Rattle.lk_model.specs.declared.document.Round.{Round}
 use Rattle.lk_model.proofs.Booleans.{and_true}
-use Rattle.lk_model.proofs.Ranks.{rising_literals as set_within}
 use Rattle.general_laws.specs.Found.{has_only, covered, IsDone, IsUnfinished}
 use Rattle.general_kernel.proofs.States.{none_progress}
 use Rattle.renaming_laws.specs.Renaming.{IsDense, named, renamed_round}
 use Rattle.renaming_laws.proofs.RenamingLaws.{renaming_law}
-use Rattle.part_formula.specs.Named.{is_round_within}
-use Rattle.part_formula.proofs.Within.{all_within}
 use Rattle.part_formula.specs.Decisions.{are_filled, IsPartModel, sets_only, IsPartRefuted}
 
 -- THE COPY
@@ -63,25 +59,9 @@ filled_copy F part names G dense h =
     filled_all G.clauses G.clauses 0 (λ i. ap (λ (k : ℕ). slice_index_or G.clauses k []) (let z : 0 + i ≡ i = omega arith in z))
     (filled_clauses F (named names) part G.clauses dense.clauses h) G refl
 
--- WHAT IS FOUND THERE HAS NAMES
-
 -- the steps of a round by itself
 in_form : (G : Cnf) (r : Round) → are_steps G.vars (length G.clauses) r.steps ≡ true → are_steps G.vars (length G.clauses) (steps_of (r ∷ [])) ≡ true
 in_form G r e = subst (λ (us : List Step). are_steps G.vars (length G.clauses) us ≡ true) (sym (append-nil r.steps)) e
-
-pub one_form : (G : Cnf) (r : Round) → are_steps G.vars (length G.clauses) (steps_of (r ∷ [])) ≡ true → are_steps G.vars (length G.clauses) r.steps ≡ true
-one_form G r e = subst (λ (us : List Step). are_steps G.vars (length G.clauses) us ≡ true) (append-nil r.steps) e
-
-pub model_within : (F : Cnf) (part names : List ℕ) (G : Cnf) (lits : List ℤ) → IsDense F part names G → IsPartModel G (positions_of G) lits
-    → list_all (is_literal (length names)) lits ≡ true
-model_within F part names G lits dense h = set_within 0 (length names) lits (subst (λ (n : ℕ). rises_within 0 n (map variable lits) ≡ true) dense.vars h.set)
-
-pub round_within : (F : Cnf) (part names : List ℕ) (G : Cnf) (r : Round) → IsDense F part names G → are_steps G.vars (length G.clauses) r.steps ≡ true
-    → is_round_within (length names) r ≡ true
-round_within F part names G r dense steps =
-    (and_true (is_round_within (length names) r) true
-    (all_within (length names) (length G.clauses) (r ∷ [])
-    (subst (λ (n : ℕ). are_steps n (length G.clauses) (steps_of (r ∷ [])) ≡ true) dense.vars (in_form G r steps)))).0
 
 -- TOLD OF THE PART
 

@@ -9,10 +9,10 @@ ghost use Rattle.part_formula.specs.Decisions.{are_filled, IsDecision};
 
 use crate::dense::dense_formula;
 use crate::names::names_of;
-use crate::renaming::Renaming;
 use cdcl_core::{Schedule, decide_by_schedule};
 use general_kernel::set_of;
 use lk_model::{Budget, Crossed, Decided, Formula, List, Lit, OutOfMemory, Round, VarSet};
+use result_renaming::Renaming;
 use std::alloc::Global;
 
 /// What is decided of the clauses of a part of a formula: literals on variables of the part, ascending by variable, that
@@ -53,7 +53,8 @@ pub fn decide_part_by(
     let names = names_of(alloc, f, part)?;
     let dense = dense_formula(alloc, f, part, &names)?;
     let renaming = Renaming {
-        clauses,
+        positions: part.len() as u64,
+        last: clauses,
         part,
         names: &names,
     };

@@ -5,10 +5,8 @@ mod deciding;
 mod dense;
 mod kernel;
 mod names;
-mod renaming;
 
 pub use deciding::{Decision, decide_clauses, decide_part, decide_part_by};
 pub use dense::dense_formula;
 pub use kernel::kernel_of_part;
 pub use names::names_of;
-pub use renaming::{Renaming, nth};

@@ -13,7 +13,8 @@ ghost use Rattle.part_kernels.specs.Renamed.{IsFoundInCopy};
 use crate::renaming::renamed;
 use lk_model::{Formula, MatchingResult, OutOfMemory};
 use matching_kernel::matching_kernel;
-use part_formula::{Renaming, dense_formula, names_of};
+use part_formula::{dense_formula, names_of};
+use result_renaming::Renaming;
 use std::alloc::Global;
 
 /// The matching kernel of the part of a formula at some positions, which ascend and count from 1, a variable for
@@ -32,7 +33,8 @@ pub fn matching_of_part(
     let names = variables.as_slice();
     let found = found_in_copy(alloc, f, part, names)?;
     let renaming = Renaming {
-        clauses,
+        positions: part.len() as u64,
+        last: clauses,
         part,
         names,
     };

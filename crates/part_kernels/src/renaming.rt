@@ -3,7 +3,7 @@ ghost use Rattle.std.specs.Prelude.{◌≡◌, map};
 ghost use Rattle.part_kernels.specs.Renamed.{renamed_matching, renamed_own, renamed_row};
 
 use lk_model::{List, MatchRow, MatchingResult, Own};
-use part_formula::{Renaming, nth};
+use result_renaming::{Renaming, nth};
 
 /// The result, renamed.
 pub(crate) fn renamed(to: &Renaming, found: MatchingResult) -> MatchingResult

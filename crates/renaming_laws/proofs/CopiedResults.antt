@@ -23,7 +23,8 @@ use Rattle.general_laws.proofs.Renumbering.{among_renumbered}
 use Rattle.general_laws.specs.Found.{IsDone, IsUnfinished}
 use Rattle.renaming_laws.proofs.Mapped.{map_twice, rises_by, rises_mapped}
 use Rattle.renaming_laws.proofs.RenamedClauses.{literal_on}
-use Rattle.renaming_laws.proofs.RenamedChains.{round_under, IsCopied, Agrees, misstated_renamed, unlearned_renamed}
+use Rattle.renaming_laws.specs.Renaming.{round_under}
+use Rattle.renaming_laws.proofs.RenamedChains.{IsCopied, Agrees, misstated_renamed, unlearned_renamed}
 use Rattle.renaming_laws.proofs.RenamedRounds.{agrees_after, progress_renamed, none_in_renamed}
 use Rattle.renaming_laws.proofs.RenamedForms.{AreInOrder, wholes_renamed, ends_renamed, learned_count, are_steps_renamed}
 use Rattle.renaming_laws.proofs.RenamedSets.{from_mentioned, occurs_renamed, from_occurring, covered_renamed}

@@ -14,7 +14,7 @@ use Rattle.renaming_laws.proofs.Mapped.{rising_same, map_agrees, row_mapped}
 use Rattle.renaming_laws.proofs.RenamedClauses.{Renames, literal_on, positive_on, renames}
 use Rattle.renaming_laws.proofs.RenamedChains.{IsCopied}
 use Rattle.renaming_laws.proofs.RenamedForms.{AreInOrder}
-use Rattle.renaming_laws.proofs.Told.{told, told_zero, told_within, told_past, told_low, told_rise, nth_told}
+use Rattle.renaming_laws.proofs.Told.{told, told_zero, told_within, told_past, told_low, told_rise, name_told}
 
 -- the new numbers of variables and of positions and steps, and the literals on these variables
 abbrev pub variable_in : Cnf → List ℕ → ℕ → ℕ
@@ -38,7 +38,7 @@ renaming ns m r = renames (told ns m) (rising_same (told ns m) (told_rise ns m r
 -- a literal on one of the names
 pub literal_told : (names : List ℕ) (top : ℕ) (l : ℤ) → is_literal (length names) l ≡ true → named names l ≡ literal_on (told names top) l
 literal_told names top l e =
-    let b = literal_bounds (length names) l e in ap (λ (v : ℕ). literal_of v (is_positive l)) (nth_told names top (variable l) b.0 b.1)
+    let b = literal_bounds (length names) l e in ap (λ (v : ℕ). literal_of v (is_positive l)) (name_told names top (variable l) b.0 b.1)
 
 -- and a clause of such literals
 pub clause_told : (names : List ℕ) (top : ℕ) (c : List ℤ) → list_all (is_literal (length names)) c ≡ true → map (named names) c ≡ map (literal_on (told names top)) c

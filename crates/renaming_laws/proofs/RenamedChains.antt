@@ -12,24 +12,14 @@ use Rattle.lk_model.specs.Chains.Chain.{Premises, clause_named, resolvent, after
 use Rattle.lk_model.specs.Chains.Rounds.{StepAt}
 use Rattle.lk_model.specs.declared.document.Turn.{Turn}
 use Rattle.lk_model.specs.declared.document.Step.{Step}
-use Rattle.lk_model.specs.declared.document.Round.{Round}
 use Rattle.general_laws.proofs.Numbering.{premises_in, clause_of}
 use Rattle.general_laws.proofs.Stated.{step_at, NoneOf}
 use Rattle.general_laws.proofs.Reaching.{is_misstated}
 use Rattle.general_laws.proofs.Learning.{is_unlearned}
 use Rattle.general_laws.proofs.Renumbering.{among_renumbered}
+use Rattle.renaming_laws.specs.Renaming.{turn_under, step_under}
 use Rattle.renaming_laws.proofs.Mapped.{any_mapped, find_mapped, empty_mapped}
 use Rattle.renaming_laws.proofs.RenamedClauses.{Renames, within_renamed, same_set_renamed, tautology_renamed, crossed_renamed, resolvent_renamed}
-
--- turns, steps and rounds with other literals and by other numbers
-abbrev pub turn_under : (ℤ → ℤ) → (ℕ → ℕ) → Turn → Turn
-turn_under g f t = record { lit = g t.lit; with = f t.with }
-
-abbrev pub step_under : (ℤ → ℤ) → (ℕ → ℕ) → Step → Step
-step_under g f s = record { number = f s.number; clause = map g s.clause; first = f s.first; turns = map (turn_under g f) s.turns }
-
-abbrev pub round_under : (ℤ → ℤ) → (ℕ → ℕ) → Round → Round
-round_under g f r = record { steps = map (step_under g f) r.steps }
 
 -- F has the clauses of G under other variables and at other positions, which rise with the old ones; numbers past all
 -- positions of G go past all positions of F

@@ -13,7 +13,7 @@ use Rattle.lk_model.specs.declared.document.Step.{Step}
 use Rattle.lk_model.specs.declared.document.Round.{Round}
 use Rattle.lk_model.proofs.Booleans.{and_true}
 use Rattle.renaming_laws.proofs.Mapped.{all_mapped, filter_mapped, empty_mapped, map_twice, rising_le, rises_by}
-use Rattle.renaming_laws.proofs.RenamedChains.{turn_under, step_under, round_under}
+use Rattle.renaming_laws.specs.Renaming.{turn_under, step_under, round_under}
 
 -- ROUNDS
 

@@ -19,7 +19,8 @@ use Rattle.general_laws.proofs.Stated.{step_at, NoneIn}
 use Rattle.general_laws.proofs.Renumbering.{among_renumbered}
 use Rattle.renaming_laws.proofs.Mapped.{filter_mapped, empty_mapped, map_twice, flat_mapped, rises_mapped, only_these}
 use Rattle.renaming_laws.proofs.RenamedClauses.{variables_renamed}
-use Rattle.renaming_laws.proofs.RenamedChains.{turn_under, step_under, round_under, IsCopied, Agrees, crossed_copied, none_renamed}
+use Rattle.renaming_laws.specs.Renaming.{turn_under, step_under, round_under}
+use Rattle.renaming_laws.proofs.RenamedChains.{IsCopied, Agrees, crossed_copied, none_renamed}
 
 -- WHAT IS REACHED
 

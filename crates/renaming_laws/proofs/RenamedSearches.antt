@@ -12,7 +12,8 @@ use Rattle.lk_model.specs.declared.document.Round.{Round}
 use Rattle.general_laws.proofs.Renumbering.{among_renumbered}
 use Rattle.renaming_laws.proofs.Mapped.{all_mapped, filter_mapped, empty_mapped, map_twice}
 use Rattle.renaming_laws.proofs.RenamedClauses.{literal_on}
-use Rattle.renaming_laws.proofs.RenamedChains.{step_under, round_under, IsCopied, Agrees, crossed_copied}
+use Rattle.renaming_laws.specs.Renaming.{step_under, round_under}
+use Rattle.renaming_laws.proofs.RenamedChains.{IsCopied, Agrees, crossed_copied}
 use Rattle.renaming_laws.proofs.RenamedRounds.{reached_renamed, agrees_after, progress_renamed}
 use Rattle.renaming_laws.proofs.RenamedAssignments.{undecided_renamed}
 use Rattle.renaming_laws.proofs.RenamedSets.{occurs_renamed}

@@ -12,10 +12,9 @@ use Rattle.lk_model.specs.declared.document.Step.{Step}
 use Rattle.lk_model.specs.declared.document.Round.{Round}
 use Rattle.lk_model.proofs.Booleans.{and_true}
 use Rattle.lk_model.proofs.ListTests.{all_weaker}
-use Rattle.renaming_laws.specs.Renaming.{nth, named, number_in_whole, renamed_turn, renamed_step, renamed_round}
+use Rattle.renaming_laws.specs.Renaming.{nth, named, number_in_whole, turn_under, step_under, round_under, renamed_round}
 use Rattle.renaming_laws.proofs.Mapped.{map_agrees, rises_all, rising_all}
 use Rattle.renaming_laws.proofs.RenamedClauses.{literal_on}
-use Rattle.renaming_laws.proofs.RenamedChains.{turn_under, step_under, round_under}
 use Rattle.renaming_laws.proofs.Told.{told, nth_told, number_told}
 use Rattle.renaming_laws.proofs.Copies.{literal_told, clause_told}
 
@@ -54,13 +53,13 @@ kept_told part m kept e =
 before_told : (part : List ℕ) (m number k : ℕ) → is_between 1 (number - 1) k ≡ true → number_in_whole part m k ≡ told part m k
 before_told part m number k e = number_told part m k (leb-true 1 k (and_true (nat_le 1 k) (nat_le k (number - 1)) e).0)
 
-turn_told : (part names : List ℕ) (top m number : ℕ) (t : Turn) → is_turn (length names) number t ≡ true → renamed_turn m part names t ≡ turn_under (literal_on (told names top)) (told part m) t
+turn_told : (part names : List ℕ) (top m number : ℕ) (t : Turn) → is_turn (length names) number t ≡ true → turn_under (named names) (number_in_whole part m) t ≡ turn_under (literal_on (told names top)) (told part m) t
 turn_told part names top m number t e =
     let both = and_true (is_literal (length names) t.lit) (is_between 1 (number - 1) t.with) e in
     let l = literal_told names top t.lit both.0 in let w = before_told part m number t.with both.1 in
     λ j. record { lit = l j; with = w j }
 
-step_told : (part names : List ℕ) (top m : ℕ) (s : Step) → is_step (length names) s ≡ true → renamed_step m part names s ≡ step_under (literal_on (told names top)) (told part m) s
+step_told : (part names : List ℕ) (top m : ℕ) (s : Step) → is_step (length names) s ≡ true → step_under (named names) (number_in_whole part m) s ≡ step_under (literal_on (told names top)) (told part m) s
 step_told part names top m s e =
     let n = length names in
     let a = and_true (nat_lt s.number (2 ^ 64) && rises_within 1 (2 * n + 1) (map rank_of s.clause) && is_between 1 (s.number - 1) s.first) (list_all (is_turn n s.number) s.turns) e in
@@ -71,7 +70,7 @@ step_told part names top m s e =
     let number = number_told part m s.number (omega (arith, least, most)) in
     let clause = ranked_told names top s.clause c.1 in
     let first = before_told part m s.number s.first b.1 in
-    let turns = map_agrees (renamed_turn m part names) (turn_under (literal_on (told names top)) (told part m)) (is_turn n s.number) (turn_told part names top m s.number) s.turns a.1 in
+    let turns = map_agrees (turn_under (named names) (number_in_whole part m)) (turn_under (literal_on (told names top)) (told part m)) (is_turn n s.number) (turn_told part names top m s.number) s.turns a.1 in
     λ j. record { number = number j; clause = clause j; first = first j; turns = turns j }
 
 -- ROUNDS
@@ -82,6 +81,6 @@ rounds_told part names top m [] e = refl
 rounds_told part names top m (r ∷ rounds) e =
     let both = and_true (list_all (is_step (length names)) r.steps) (list_all (is_step (length names)) (steps_of rounds))
     (sym (list_all-append (is_step (length names)) r.steps (steps_of rounds)) ∙ e) in
-    let here = map_agrees (renamed_step m part names) (step_under (literal_on (told names top)) (told part m)) (is_step (length names)) (step_told part names top m) r.steps both.0 in
+    let here = map_agrees (step_under (named names) (number_in_whole part m)) (step_under (literal_on (told names top)) (told part m)) (is_step (length names)) (step_told part names top m) r.steps both.0 in
     let later = rounds_told part names top m rounds both.1 in
     λ j. (record { steps = here j }) ∷ later j

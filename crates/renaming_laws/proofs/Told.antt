@@ -1,9 +1,10 @@
 -- Numbers told anew by a list that rises: the first ones by what stands there, those past it after all others.
 use Rattle.std.proofs.Common.{◌≡◌, ℕ, zero, suc, ◌+◌, ◌-◌, ◌<◌, ◌≤◌, true, cond, nat_lt, nat_le, List, [], ◌∷◌, refl, sym, ◌∙◌, ap, inl, inr, length, get_or, arith}
 use Rattle.std.proofs.lemmas.Bool.{cases_Bool, lt-ltb, le-ltb, ltb-true, ltb-false, leb-true, leb-false, cond-true, cond-false}
+use Rattle.std.proofs.lemmas.List.{get_or_default}
 use Rattle.lk_model.specs.Lists.{rises_within}
 use Rattle.lk_model.proofs.Rising.{rises, rising_bounds}
-use Rattle.renaming_laws.specs.Renaming.{nth, number_in_whole}
+use Rattle.renaming_laws.specs.Renaming.{nth, name_of, number_in_whole}
 
 -- 0 stays, the numbers up to the length of the list are its elements, and those past it go on from m
 pub told : List ℕ → ℕ → ℕ → ℕ
@@ -71,10 +72,14 @@ nth_told ns m (suc k) least most =
     let e : suc k - 1 ≡ k = omega arith in
     ap (λ (j : ℕ). get_or ns j 0) e ∙ sym (told_within ns m k (omega (arith, most)))
 
+-- where a number past the list stays
+pub name_told : (ns : List ℕ) (m k : ℕ) → 1 ≤ k → k ≤ length ns → name_of ns k ≡ told ns m k
+name_told ns m k least most = get_or_default ns (k - 1) k 0 (omega (arith, least, most)) ∙ nth_told ns m k least most
+
 -- a number in a chain
 pub number_told : (ns : List ℕ) (m k : ℕ) → 1 ≤ k → number_in_whole ns m k ≡ told ns m k
 number_told ns m k least = elim (cases_Bool (nat_le k (length ns))) [
-  | inl le ↦ cond-true (nat_le k (length ns)) _ _ le ∙ nth_told ns m k least (leb-true k (length ns) le)
+  | inl le ↦ cond-true (nat_le k (length ns)) _ _ le ∙ name_told ns m k least (leb-true k (length ns) le)
   | inr gt ↦
       (let past = leb-false k (length ns) gt in
       let e = told_past ns m k past in

@@ -20,9 +20,13 @@ use Rattle.general_laws.specs.Found.{IsDone, IsUnfinished}
 abbrev pub nth : List ℕ → ℕ → ℕ
 nth ns k = slice_index_or ns (k - 1) 0
 
+-- a number told by that list, past which it stays
+abbrev pub name_of : List ℕ → ℕ → ℕ
+name_of ns k = slice_index_or ns (k - 1) k
+
 -- the literal on the variable of that name
 abbrev pub named : List ℕ → ℤ → ℤ
-named names l = literal_of (nth names (variable l)) (is_positive l)
+named names l = literal_of (name_of names (variable l)) (is_positive l)
 
 -- G has the clauses of F at the positions of the part, in their order, under the numbers of these names, which ascend
 pub record IsDense (F : Cnf) (part names : List ℕ) (G : Cnf) : Type 0 where
@@ -31,23 +35,27 @@ pub record IsDense (F : Cnf) (part names : List ℕ) (G : Cnf) : Type 0 where
   pub formula : IsTrue (is_formula G)
   pub clauses : map (map (named names)) G.clauses ≡ (clauses_at F part).clauses
 
--- A number in a chain, told for a formula of m clauses: a position of the part, or a step, whose numbers count on from m.
+-- A number in a chain over so many positions: a position is told by the part, and steps, which come after them, count
+-- on from `last`.
+abbrev pub number_after : ℕ → ℕ → List ℕ → ℕ → ℕ
+number_after positions last part k = if nat_le k positions then name_of part k else (k - positions + last)
+
+-- turns, steps and rounds with other literals and by other numbers
+abbrev pub turn_under : (ℤ → ℤ) → (ℕ → ℕ) → Turn → Turn
+turn_under g f t = record { lit = g t.lit; with = f t.with }
+
+abbrev pub step_under : (ℤ → ℤ) → (ℕ → ℕ) → Step → Step
+step_under g f s = record { number = f s.number; clause = map g s.clause; first = f s.first; turns = map (turn_under g f) s.turns }
+
+abbrev pub round_under : (ℤ → ℤ) → (ℕ → ℕ) → Round → Round
+round_under g f r = record { steps = map (step_under g f) r.steps }
+
+-- told for a formula of m clauses
 abbrev pub number_in_whole : List ℕ → ℕ → ℕ → ℕ
-number_in_whole part m k = if nat_le k (length part) then nth part k else (k - length part + m)
-
-abbrev pub renamed_turn : ℕ → List ℕ → List ℕ → Turn → Turn
-renamed_turn m part names t = record { lit = named names t.lit; with = number_in_whole part m t.with }
-
-abbrev pub renamed_step : ℕ → List ℕ → List ℕ → Step → Step
-renamed_step m part names s = record {
-  number = number_in_whole part m s.number;
-  clause = map (named names) s.clause;
-  first = number_in_whole part m s.first;
-  turns = map (renamed_turn m part names) s.turns;
-}
+number_in_whole part m = number_after (length part) m part
 
 abbrev pub renamed_round : ℕ → List ℕ → List ℕ → Round → Round
-renamed_round m part names r = record { steps = map (renamed_step m part names) r.steps }
+renamed_round m part names = round_under (named names) (number_in_whole part m)
 
 abbrev pub renamed_result : ℕ → List ℕ → List ℕ → GeneralResult → GeneralResult
 renamed_result m part names r = record {

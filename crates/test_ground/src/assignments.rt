@@ -8,9 +8,10 @@ use partial_assign::{Partial, compose, extend_total};
 use std::alloc::{AllocError, Global};
 use std::test::Fail;
 
-/// `values N | LITERALS`: how many variables the assignment has that makes these true, and the values of all.
-/// `clause N | LITERALS | CLAUSE`: whether it touches and satisfies the clause. `first N | LITERALS | CLAUSES`: the
-/// first position whose clause is touched and not satisfied. `compose` and `extend` of N and two such assignments.
+/// `values N | LITERALS`: how many variables the assignment has that makes these true, and the values of all. `copy`:
+/// the same of its copy. `clause N | LITERALS | CLAUSE`: whether it touches and satisfies the clause.
+/// `first N | LITERALS | CLAUSES`: the first position whose clause is touched and not satisfied. `compose` and `extend`
+/// of N and two such assignments.
 pub(crate) fn put_assignment(
     alloc: Global,
     word: &str,
@@ -21,6 +22,7 @@ pub(crate) fn put_assignment(
     let assignment = assignment_of(alloc, n, parts.second)?;
     match word {
         "values" => Ok(put_values(&assignment, out)?),
+        "copy" => Ok(put_values(&assignment.copy(alloc)?, out)?),
         "clause" => put_tests(alloc, &assignment, n, parts.third, out),
         "first" => put_first(alloc, &assignment, n, parts.third, out),
         _ => put_both(alloc, word, &assignment, n, parts.third, out),

@@ -3,7 +3,7 @@ use Rattle.lk_model.specs.Limits.{max_vars}
 use Rattle.lk_model.specs.Formulas.Formula.{positions_of}
 use Rattle.lk_model.proofs.Rising.{rises_to}
 use Rattle.part_formula.specs.Decisions.{IsPartModel}
-use Rattle.part_formula.proofs.ToldDecisions.{filled_copy, model_told, model_within}
+use Rattle.part_formula.proofs.ToldDecisions.{filled_copy, model_told}
 use Rattle.lk_model.specs.declared.decided.Decided.{Decided}
 use Rattle.mus_core.specs.declared.deciding.Refutation.{Refutation}
 use Rattle.mus_core.specs.declared.deciding.Open.{Open}
@@ -12,15 +12,9 @@ use Rattle.mus_core.specs.Found.{IsStoppedAt}
 use Rattle.mus_core.proofs.PartModels.{refuted_whole}
 use Rattle.mus_core.proofs.by_parts.tell_decided.Goals as goal
 
-pub literals-requires-clause-names : goal.literals-requires-clause-names
-literals-requires-clause-names c =
+pub literals-requires : goal.literals-requires
+literals-requires c =
     rises_to 0 c.args.of.now.formula.now.vars max_vars c.args.of.now.names.now c.len.ensures.limits.vars c.requires.dense.ascend
-
-pub literals-requires-clause-within : goal.literals-requires-clause-within
-literals-requires-clause-within c =
-    let of = c.args.of.now in
-    model_within of.formula.now of.part.now of.names.now of.clauses.now c.in-Model.set c.requires.dense
-    (subst (λ (d : Decided (List ℤ) Refutation Open). IsDecided of c.args.conflicts d) c.in-Model.is c.in_ok-set.ensures)
 
 pub returns-in-Model : goal.returns-in-Model
 returns-in-Model c =

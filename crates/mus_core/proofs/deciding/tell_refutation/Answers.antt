@@ -1,19 +1,14 @@
 use Rattle.std.proofs.Common.{◌≡◌, ◌∙◌, ℕ, true, subst}
 use Rattle.lk_model.specs.Limits.{max_vars}
 use Rattle.lk_model.specs.Lists.{rises_within}
-use Rattle.part_formula.proofs.ToldDecisions.{round_within}
 use Rattle.mus_core.specs.Named.{names_only}
 use Rattle.mus_core.proofs.Telling.{refutation_told}
 use Rattle.mus_core.proofs.deciding.tell_refutation.Goals as goal
 use Rattle.lk_model.proofs.Rising.{rises_to}
 
-pub only-requires-clause-names : goal.only-requires-clause-names
-only-requires-clause-names c =
+pub only-requires : goal.only-requires
+only-requires c =
     rises_to 0 c.args.of.now.formula.now.vars max_vars c.args.of.now.names.now c.len-2.ensures.limits.vars c.requires.copy.dense.ascend
-
-pub only-requires-clause-within : goal.only-requires-clause-within
-only-requires-clause-within c =
-    round_within c.args.of.now.formula.now c.args.of.now.part.now c.args.of.now.names.now c.args.of.now.clauses.now c.args.round c.requires.copy.dense c.requires.refuted.steps
 
 pub returns : goal.returns
 returns c =

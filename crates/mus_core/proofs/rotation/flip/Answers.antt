@@ -1,4 +1,4 @@
-use Rattle.std.proofs.Common.{◌∙◌}
+use Rattle.std.proofs.Common.{◌∙◌, Bool, List, Option, ap, length}
 use Rattle.mus_core.specs.Named.{flag_at}
 use Rattle.mus_core.proofs.Rotated.{put_held, flipped}
 use Rattle.mus_core.proofs.rotation.flip.Goals as goal
@@ -13,7 +13,7 @@ returns-in_ok-flipped c =
     record {
       rotated = put_held G S c.args.witnesses.now c.put.new.self c.in-Some.q c.make_true.new.self c.requires.held c.requires.core.first
           (flipped c.args.core.now c.args.p c.in-Some.q c.args.l c.args.values.now c.in_ok-flipped.flipped c.make_true.new.self c.requires.values real c.requires.there
-          c.in-Some.ensures c.in_ok-flipped.ensures.values c.make_true.ensures.assignment)
-          (c.make_true.ensures.vars ∙ c.in_ok-flipped.ensures.vars ∙ c.requires.values.vars) (record { size = e.size; own = e.own; others = e.others });
+          c.in-Some.ensures c.in_ok-flipped.ensures c.make_true.ensures.assignment)
+          (c.make_true.ensures.vars ∙ ap (λ (vs : List (Option Bool)). length vs) c.in_ok-flipped.ensures ∙ c.requires.values.vars) (record { size = e.size; own = e.own; others = e.others });
       walk = c.come_to.ensures S c.in-Some.ensures.there c.requires.walk;
     }

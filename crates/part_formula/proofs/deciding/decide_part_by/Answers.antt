@@ -5,7 +5,7 @@ use Rattle.lk_model.specs.declared.document.Round.{Round}
 use Rattle.renaming_laws.specs.Renaming.{renamed_round}
 use Rattle.general_laws.specs.Found.{IsUnfinished}
 use Rattle.part_formula.specs.Decisions.{Decision, IsDecision, IsPartModel, IsPartRefuted}
-use Rattle.part_formula.proofs.ToldDecisions.{filled_copy, dense_again, model_within, round_within, one_form, model_told, refuted_told, stopped_told}
+use Rattle.part_formula.proofs.ToldDecisions.{filled_copy, dense_again, model_told, refuted_told, stopped_told}
 use Rattle.part_formula.proofs.deciding.decide_part_by.Goals as goal
 use Rattle.lk_model.proofs.Rising.{rises_to}
 
@@ -13,20 +13,12 @@ pub decide_clauses-requires : goal.decide_clauses-requires
 decide_clauses-requires c =
     filled_copy c.args.f.now c.args.part.now c.deref.result.now c.in_ok-dense.dense c.in_ok-dense.ensures c.requires.filled
 
-pub literals-requires-clause-names : goal.literals-requires-clause-names
-literals-requires-clause-names c =
+pub literals-requires : goal.literals-requires
+literals-requires c =
     let F = c.args.f.now in
     let names = c.deref-2.result.now in
     let dense = dense_again F c.args.part.now c.deref.result.now names c.in_ok-dense.dense (c.deref.ensures.value ∙ sym c.deref-2.ensures.value) c.in_ok-dense.ensures in
     rises_to 0 F.vars max_vars names c.len.ensures.limits.vars dense.ascend
-
-pub literals-requires-clause-within : goal.literals-requires-clause-within
-literals-requires-clause-within c =
-    let F = c.args.f.now in
-    let names = c.deref-2.result.now in
-    let G = c.in_ok-dense.dense in
-    let dense = dense_again F c.args.part.now c.deref.result.now names G (c.deref.ensures.value ∙ sym c.deref-2.ensures.value) c.in_ok-dense.ensures in
-    model_within F c.args.part.now names G c.in-Model.set dense (subst (λ (d : Decision). IsDecision G (positions_of G) c.args.conflicts d) c.in-Model.is c.in_ok-set.ensures)
 
 pub returns-in-Model : goal.returns-in-Model
 returns-in-Model c =
@@ -41,22 +33,12 @@ returns-in-Model c =
     (filled_copy F part names G dense c.requires.filled)
     (subst (λ (d : Decision). IsDecision G (positions_of G) c.args.conflicts d) c.in-Model.is c.in_ok-set.ensures))
 
-pub only-requires-clause-names : goal.only-requires-clause-names
-only-requires-clause-names c =
+pub only-requires : goal.only-requires
+only-requires c =
     let F = c.args.f.now in
     let names = c.deref-2.result.now in
     let dense = dense_again F c.args.part.now c.deref.result.now names c.in_ok-dense.dense (c.deref.ensures.value ∙ sym c.deref-2.ensures.value) c.in_ok-dense.ensures in
     rises_to 0 F.vars max_vars names c.len.ensures.limits.vars dense.ascend
-
-pub only-requires-clause-within : goal.only-requires-clause-within
-only-requires-clause-within c =
-    let F = c.args.f.now in
-    let names = c.deref-2.result.now in
-    let G = c.in_ok-dense.dense in
-    let dense = dense_again F c.args.part.now c.deref.result.now names G (c.deref.ensures.value ∙ sym c.deref-2.ensures.value) c.in_ok-dense.ensures in
-    let found : IsPartRefuted G (positions_of G) c.args.conflicts c.in-Refuted.round =
-    subst (λ (d : Decision). IsDecision G (positions_of G) c.args.conflicts d) c.in-Refuted.is c.in_ok-set.ensures in
-    round_within F c.args.part.now names G c.in-Refuted.round dense found.refutation.steps
 
 pub returns-in-Refuted : goal.returns-in-Refuted
 returns-in-Refuted c =
@@ -72,22 +54,12 @@ returns-in-Refuted c =
     (refuted_told F part names G c.args.conflicts round c.requires.part dense (subst (λ (k : ℕ). k + length round.steps < 2 ^ 64) m e.numbers)
     (subst (λ (d : Decision). IsDecision G (positions_of G) c.args.conflicts d) c.in-Refuted.is c.in_ok-set.ensures))
 
-pub only-requires-in-Stopped-clause-names : goal.only-requires-in-Stopped-clause-names
-only-requires-in-Stopped-clause-names c =
+pub only-requires-in-Stopped : goal.only-requires-in-Stopped
+only-requires-in-Stopped c =
     let F = c.args.f.now in
     let names = c.deref-2.result.now in
     let dense = dense_again F c.args.part.now c.deref.result.now names c.in_ok-dense.dense (c.deref.ensures.value ∙ sym c.deref-2.ensures.value) c.in_ok-dense.ensures in
     rises_to 0 F.vars max_vars names c.len.ensures.limits.vars dense.ascend
-
-pub only-requires-in-Stopped-clause-within : goal.only-requires-in-Stopped-clause-within
-only-requires-in-Stopped-clause-within c =
-    let F = c.args.f.now in
-    let names = c.deref-2.result.now in
-    let G = c.in_ok-dense.dense in
-    let dense = dense_again F c.args.part.now c.deref.result.now names G (c.deref.ensures.value ∙ sym c.deref-2.ensures.value) c.in_ok-dense.ensures in
-    let found : IsUnfinished G (positions_of G) c.args.conflicts (c.in-Stopped.round ∷ []) =
-    subst (λ (d : Decision). IsDecision G (positions_of G) c.args.conflicts d) c.in-Stopped.is c.in_ok-set.ensures in
-    round_within F c.args.part.now names G c.in-Stopped.round dense (one_form G c.in-Stopped.round found.result.steps)
 
 pub returns : goal.returns
 returns c =
