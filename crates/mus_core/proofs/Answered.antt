@@ -1,7 +1,7 @@
 -- Where no clause is empty, and the whole model of literals.
-use Rattle.std.proofs.Common.{◌≡◌, Result, Ok, Err, IfOk, ℕ, ◌-◌, ◌≤◌, Bool, true, nat_le, List, [], ◌∷◌, refl, sym, ◌∙◌, ap, subst, ℤ, Option, Some, None, map, length, find, arith}
+use Rattle.std.proofs.Common.{◌≡◌, Result, Ok, Err, IfOk, ℕ, ◌≤◌, Bool, true, nat_le, List, [], ◌∷◌, refl, sym, ◌∙◌, ap, subst, ℤ, Option, Some, None, map, length, find, arith}
 use Rattle.std.proofs.lemmas.Bool.{le-leb, leb-true, and_from, cond-true}
-use Rattle.lk_model.specs.Lists.{among, is_between, is_empty}
+use Rattle.lk_model.specs.Lists.{is_between, is_empty}
 use Rattle.lk_model.specs.Formulas.Literal.{variable, literal_of}
 use Rattle.lk_model.specs.Formulas.Formula.{Cnf, clause_at, positions_of, variables_to, is_formula}
 use Rattle.lk_model.specs.Formulas.Assignment.{Assignment, assignment_of, makes_true, satisfies, extended, extended_value, extended_literals}

@@ -1,12 +1,12 @@
 -- Witnesses that are put and flipped.
 use Rattle.std.specs.Prelude.{⊤}
-use Rattle.std.proofs.Common.{OnOk, Result, Ok, Err, IsTrue, ◌≡◌, ◌≢◌, ◌⊎◌, ℕ, ◌+◌, ◌<◌, ◌≤◌, Bool, true, false, not, ◌&&◌, ◌||◌, ◌==◌, List, refl, sym, ◌∙◌, ap, subst, arith, ℤ, Option, Some, None, IfSome, is_some, cond, inl, inr, filter, length, take, get_or}
+use Rattle.std.proofs.Common.{OnOk, Result, Ok, Err, IsTrue, ◌≡◌, ◌≢◌, ◌⊎◌, ℕ, ◌+◌, ◌<◌, ◌≤◌, Bool, true, false, not, ◌&&◌, ◌||◌, ◌==◌, List, refl, sym, ◌∙◌, ap, subst, arith, ℤ, Option, Some, None, IfSome, is_some, inl, inr, filter, length, take, get_or}
 use Rattle.std.specs.List.{list_all}
 use Rattle.std.proofs.lemmas.Bool.{both_ways, cases_Bool, eqb-true, eq-eqb}
 use Rattle.lk_model.specs.Lists.{among, is_nonzero}
 use Rattle.lk_model.specs.Formulas.Literal.{complement, contains}
 use Rattle.lk_model.specs.Formulas.Formula.{Cnf, clause_at, positions_of}
-use Rattle.lk_model.specs.Formulas.Assignment.{Assignment, composed, satisfies, IsModel}
+use Rattle.lk_model.specs.Formulas.Assignment.{Assignment, satisfies, IsModel}
 use Rattle.lk_model.specs.Formulas.Autarky.{Positions}
 use Rattle.lk_model.specs.Formulas.Lean.{are_positions}
 use Rattle.lk_model.specs.Formulas.Minimal.{all_but, with_made_true}

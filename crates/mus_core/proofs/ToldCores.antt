@@ -17,7 +17,6 @@ use Rattle.lk_model.proofs.Clauses.{literals_of as formula_literals}
 use Rattle.lk_model.proofs.Founds.{all_pass}
 use Rattle.lk_model.proofs.Rising.{bounded}
 use Rattle.lk_model.proofs.Variables.{occurs, variable_bound}
-use Rattle.lk_model.proofs.Ranks.{rising_literals as set_within}
 use Rattle.lk_model.proofs.ListTests.{one_number}
 use Rattle.kernel_laws.proofs.Clauses.{mentions_of}
 use Rattle.kernel_laws.proofs.Assignments.{satisfying, satisfied_at}

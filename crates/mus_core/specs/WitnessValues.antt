@@ -1,5 +1,5 @@
 -- Witnesses for places of a refuted set.
-use Rattle.std.specs.Prelude.{length, ◌≡◌, ℕ, ◌-◌, Bool, not, ◌&&◌, List, [], map, ℤ, Option, Some, None, is_some, slice_index_or, ⊤, IfSome, IsTrue}
+use Rattle.std.specs.Prelude.{length, ◌≡◌, ℕ, ◌-◌, Bool, not, ◌&&◌, List, [], map, ℤ, Option, Some, None, is_some, slice_index_or, IfSome, IsTrue}
 use Rattle.std.specs.Option.{option_map_or}
 use Rattle.lk_model.specs.Lists.{among}
 use Rattle.lk_model.specs.Formulas.Formula.{Cnf, variable_occurs}

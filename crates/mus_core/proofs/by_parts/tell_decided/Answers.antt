@@ -1,6 +1,5 @@
-use Rattle.std.proofs.Common.{◌∙◌, ◌<◌, ◌^◌, ℕ, ℤ, List, sym, subst, arith}
+use Rattle.std.proofs.Common.{ℤ, List, sym, subst, arith}
 use Rattle.lk_model.specs.Limits.{max_vars}
-use Rattle.lk_model.specs.Formulas.Formula.{positions_of}
 use Rattle.lk_model.proofs.Rising.{rises_to}
 use Rattle.part_formula.specs.Decisions.{IsPartModel}
 use Rattle.part_formula.proofs.ToldDecisions.{filled_copy, model_told}
@@ -8,7 +7,6 @@ use Rattle.lk_model.specs.declared.decided.Decided.{Decided}
 use Rattle.mus_core.specs.declared.deciding.Refutation.{Refutation}
 use Rattle.mus_core.specs.declared.deciding.Open.{Open}
 use Rattle.mus_core.specs.Copies.{IsDecided}
-use Rattle.mus_core.specs.Found.{IsStoppedAt}
 use Rattle.mus_core.proofs.PartModels.{refuted_whole}
 use Rattle.mus_core.proofs.by_parts.tell_decided.Goals as goal
 

@@ -1,7 +1,4 @@
-use Rattle.std.proofs.Common.{◌≡◌, true, length, List, ℤ, sym, subst}
-use Rattle.std.specs.List.{list_all}
 use Rattle.lk_model.specs.Limits.{max_vars}
-use Rattle.lk_model.specs.Formulas.Literal.{is_literal}
 use Rattle.mus_core.proofs.told_core.line.Goals as goal
 use Rattle.lk_model.proofs.Rising.{rises_to}
 

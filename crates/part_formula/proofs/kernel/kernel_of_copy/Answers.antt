@@ -7,7 +7,7 @@ use Rattle.lk_model.specs.declared.result.GeneralResult.{GeneralResult}
 use Rattle.general_laws.specs.Found.{IsDone, IsUnfinished, IsFound}
 use Rattle.lk_model.specs.declared.result.General.{General}
 use Rattle.lk_model.specs.declared.result.General.TheVariants.{Done, Unfinished}
-use Rattle.renaming_laws.specs.Renaming.{IsDense, renamed_result, renamed_round}
+use Rattle.renaming_laws.specs.Renaming.{renamed_result, renamed_round}
 use Rattle.renaming_laws.proofs.RenamingLaws.{renaming_law}
 use Rattle.part_formula.proofs.kernel.kernel_of_copy.Goals as goal
 use Rattle.lk_model.proofs.Rising.{rises_to}
