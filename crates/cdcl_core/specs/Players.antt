@@ -1,4 +1,4 @@
--- Searches that take turns.
+-- Searches that alternate.
 use Rattle.std.specs.Prelude.{◌≡◌, ◌==◌, ℕ, ◌<◌, ◌≤◌, if◌then◌else◌, List, length, slice_index_or, Option, Some, None}
 use Rattle.std.specs.List.{AllWithin}
 use Rattle.lk_model.specs.declared.crossed.Crossed.{Crossed}
@@ -36,7 +36,7 @@ pub record IsPaused (over : Crossed) (next pause : ℕ) (s : Search) : Type 0 wh
   pub search : IsSearch over s
   pub stopped : IsStoppedOver over next pause s.log
 
--- it has paused within the budget, and if the turns are at the end of the budget, there
+-- it has paused within the budget, and if the slices are at the end of the budget, there
 pub record HasPaused (over : Crossed) (next pause budget : ℕ) (s : Search) : Type 0 where
   pub learned : ℕ
   pub paused : IsPaused over next learned s

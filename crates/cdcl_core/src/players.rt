@@ -1,4 +1,4 @@
-//! Searches that take turns.
+//! Searches that alternate.
 ghost use Rattle.std.specs.Prelude.{◌≡◌, ◌+◌, ◌-◌, ◌<◌, ◌≤◌, ◌^◌, ℕ, [], length, IfOk, OnOk};
 ghost use Rattle.lk_model.specs.Held.VariableSets.{IsCrossed};
 ghost use Rattle.cdcl_core.specs.Searching.{decided_by};
@@ -31,8 +31,8 @@ pub(crate) struct Won {
     pub end: End,
 }
 
-/// Lets searches go on by turns, from where nothing is learned, until one ends. The others are begun only if the first
-/// turn of the one that begins is not enough.
+/// Lets searches alternate, from where nothing is learned, until one ends. The others are begun only if the first slice
+/// of the one that begins is not enough.
 pub(crate) fn play(
     players: &mut Vec<Player>,
     alloc: Global,
@@ -57,7 +57,7 @@ pub(crate) fn play(
     alternate(players, alloc, over, schedule.further, first, bounds)
 }
 
-/// Begins the searches that take turns with the first one.
+/// Begins the searches that alternate with the first one.
 fn begin_others(
     players: &mut Vec<Player>,
     alloc: Global,
@@ -98,7 +98,7 @@ fn begin(
     Ok(())
 }
 
-/// Goes on by turns. If all use up the budget, the one at place 0 tells so.
+/// Alternates. If all use up the budget, the one at place 0 tells so.
 fn alternate(
     players: &mut Vec<Player>,
     alloc: Global,
@@ -152,15 +152,15 @@ fn go_on_each(
     Ok(None)
 }
 
-/// A search that takes turns.
+/// A search that alternates with others.
 #[derive(Drop)]
 pub(crate) struct Player {
     search: Search,
     signs: Signs,
     activity: Activity,
-    /// How many clauses it learns in its first turn.
+    /// How many clauses it learns in its first slice.
     first: u64,
-    /// Whether it learns less in a turn than one by activity does.
+    /// Whether it learns less in a slice than one by activity does.
     is_slow: bool,
 }
 

@@ -1,8 +1,8 @@
-//! Orders by turns.
+//! Orders that alternate.
 //!
 //! No order of the variables is good for all clauses, and one that is bad may take thousands of times as long as
-//! another. So searches, each with an order of its own, go on by turns, each from where it paused, but by activity from
-//! level 0. None learns from the others: what is answered is what one of them answers by itself (algorithms that are run
+//! another. So searches, each with an order of its own, alternate. Each goes on from where it paused, but by activity
+//! from level 0. None learns from the others: what is answered is what one of them answers by itself (algorithms that are run
 //! side by side: Huberman, Lukose and Hogg, "An Economics Approach to Hard Computational Problems", 1997).
 ghost use Rattle.std.specs.Prelude.{◌≡◌, ◌+◌, ◌-◌, ◌<◌, ◌^◌, length, Some, None, IfOk, OnErr};
 ghost use Rattle.lk_model.specs.Held.VariableSets.{IsCrossed};
@@ -18,10 +18,10 @@ use lk_model::{Crossed, OutOfMemory};
 use std::alloc::Global;
 use variable_orders::{ascending, by_connection, by_occurrences};
 
-/// How many clauses are learned in the first turn of each order.
+/// How many clauses are learned in the first slice of each order.
 const FIRST_SLICE: u64 = 512;
 
-/// How many more are learned in each further turn.
+/// How many more are learned in each further slice.
 const FURTHER_SLICES: u64 = 512;
 
 /// An order in which variables are decided, and the values with which they are.
@@ -33,7 +33,7 @@ pub enum By {
     Connection,
     /// That of how often they occur, with the values that they last had.
     Occurrences,
-    /// That of what they had to do with conflicts, with the values that they last had. Each turn begins at level 0, with
+    /// That of what they had to do with conflicts, with the values that they last had. Each slice begins at level 0, with
     /// all that is learned.
     Activity,
 }
@@ -78,25 +78,25 @@ impl By {
     }
 }
 
-/// How orders take turns, and the values that are kept from call to call.
+/// How orders alternate, and the values that are kept from call to call.
 #[derive(Drop)]
 pub struct Schedule {
     /// The order that begins.
     pub by: By,
-    /// The order that takes turns with it.
+    /// The order that alternates with it.
     pub second: By,
-    /// A further order, if three take turns.
+    /// A further order, if three alternate.
     pub third: Option<By>,
-    /// How many clauses are learned in the first turn of each order.
+    /// How many clauses are learned in the first slice of each order.
     pub first: u64,
-    /// How many more are learned in each further turn; at least one is.
+    /// How many more are learned in each further slice; at least one is.
     pub further: u64,
     /// If values are kept, those that variables last had, by variable, with nothing at 0.
     kept: Option<Vec<bool>>,
 }
 
 impl Schedule {
-    /// The usual turns: the numbers, which begin, the connection and the activity. No values are kept.
+    /// The usual schedule: the numbers, which begin, the connection and the activity. No values are kept.
     pub fn new() -> Schedule
         ensures by { result.by ≡ By.Number }
         ensures second { result.second ≡ By.Connection }
@@ -200,8 +200,8 @@ impl Schedule {
     }
 }
 
-/// As `decide`, by orders that take turns: each learns at most `budget` clauses, and if all do, the answer is that of
-/// the order that began. If `budget` is at most the first turn, only that one is tried. The order that answered begins
+/// As `decide`, by orders that alternate: each learns at most `budget` clauses, and if all do, the answer is that of
+/// the order that began. If `budget` is at most the first slice, only that one is tried. The order that answered begins
 /// in a further call with this schedule, with its values if they are kept. (No clause says which order answers, which one
 /// begins, and which values are kept; tests do.) Where a call fails, the schedule is as it was.
 pub fn decide_by_schedule(

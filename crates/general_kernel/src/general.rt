@@ -6,7 +6,7 @@
 //! lean set.
 //!
 //! What unit propagation alone refutes comes first in each round, and then what short clauses refute. Only where
-//! neither does, all clauses of the part are searched, by orders of the variables that take turns; the one that
+//! neither does, all clauses of the part are searched, by orders of the variables that alternate; the one that
 //! answered begins in the next such search. A refutation is kept with what it uses of it, so that the kernel can be
 //! checked without a search.
 ghost use Rattle.std.specs.Prelude.{◌≡◌, ◌<◌, ◌^◌, length, IfOk, IsTrue};

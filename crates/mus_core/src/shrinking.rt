@@ -27,7 +27,7 @@ use partial_assign::assignment_of;
 use result_renaming::nth;
 use std::alloc::Global;
 
-/// How many clauses each order of variables learns in a turn of a decision.
+/// How many clauses each order of variables learns in a slice of a decision.
 const SLICE: u64 = 300;
 
 /// Leaves out clauses of a refuted set until each has a witness.

@@ -37,7 +37,7 @@ pub fn decide_part(
     decide_part_by(alloc, f, part, &mut Schedule::new(), conflicts)
 }
 
-/// The same by orders that take turns as handed in.
+/// The same by the schedule that is handed in.
 pub fn decide_part_by(
     alloc: Global,
     f: &Formula,

@@ -18,21 +18,21 @@ pub(crate) enum Way {
     Usual,
     /// By one order, with the last values or true first.
     One { by: By, last: bool },
-    /// By the numbers and the connection in turns: so many clauses are learned at first, and so many more in each further
-    /// turn.
+    /// By the numbers and the connection, which alternate: so many clauses are learned at first, and so many more in each
+    /// further slice.
     Schedule { first: u64, further: u64 },
-    /// By the activity in turns with itself, so that the first one answers.
+    /// By the activity beside itself, so that the first one answers.
     Activity { first: u64, further: u64 },
-    /// By the usual three in turns.
+    /// By the usual three, which alternate.
     WithActivity { first: u64, further: u64 },
-    /// By all three in turns.
+    /// By all three, which alternate.
     All { first: u64, further: u64 },
-    /// By all three in turns that keep values, and then again with these: the second answer.
+    /// By all three, which keep values, and then again with these: the second answer.
     Twice { first: u64, further: u64 },
 }
 
 impl Way {
-    /// How many clauses are learned in the first turn, and how many more in each further one.
+    /// How many clauses are learned in the first slice, and how many more in each further one.
     pub(crate) fn lengths(self) -> (u64, u64) {
         match self {
             Way::Usual | Way::One { .. } => (0, 0),
@@ -73,7 +73,7 @@ fn decide_by_one(
     decide_by(alloc, over, order, &mut signs, next, budget)
 }
 
-/// Decides by all orders in turns that keep values, and then again with these.
+/// Decides by all orders, which keep values, and then again with these.
 fn decide_twice(
     alloc: Global,
     over: &Crossed,
@@ -199,7 +199,7 @@ pub(crate) fn answer(
     Ok(ask(alloc, &over, way, next, budget)?)
 }
 
-/// The answer by turns that may have kept values of earlier questions, where the question may be asked.
+/// The answer by a schedule that may have kept values of earlier questions, where the question may be asked.
 pub(crate) fn answer_by_schedule(
     alloc: Global,
     asked: &Asked,

@@ -1,11 +1,11 @@
-//! Budgets around the edges of turns: what orders answer by turns, beside what each answers by itself.
+//! Budgets around the edges of slices: what orders that alternate answer, beside what each answers by itself.
 use crate::asking::{Asked, Way, answer};
 use cdcl_core::By;
 use lk_model::Decided;
 use std::alloc::Global;
 use std::test::Fail;
 
-/// The numbers and the connection by themselves, as they take turns.
+/// The numbers and the connection by themselves, as they alternate.
 pub(crate) const USUAL: [Way; 2] = [
     Way::One {
         by: By::Number,
@@ -17,7 +17,7 @@ pub(crate) const USUAL: [Way; 2] = [
     },
 ];
 
-/// All orders by themselves, as they take turns.
+/// All orders by themselves, as they alternate.
 pub(crate) const ALL: [Way; 3] = [
     Way::One {
         by: By::Occurrences,
@@ -67,9 +67,9 @@ fn enough(alloc: Global, asked: &Asked, way: Way, next: u64, bound: u32) -> Resu
 }
 
 /// The place of the order that answers first within a budget, by the budgets that are enough for each, or none. Each has
-/// as many clauses as a turn allows, and then so many more, at least one; the others begin after the first one's turn.
-fn winner(enough: &[u64], turn: u64, further: u64, budget: u64) -> Option<usize> {
-    let mut pause = turn.min(budget);
+/// as many clauses as a slice allows, and then so many more, at least one; the others begin after its first slice.
+fn winner(enough: &[u64], slice: u64, further: u64, budget: u64) -> Option<usize> {
+    let mut pause = slice.min(budget);
     let leading = enough.first().copied().unwrap_or(0);
     if pause == budget && leading > pause {
         return None;
@@ -103,7 +103,7 @@ fn all_enough(
     Ok(budgets)
 }
 
-/// Of how many budgets up to a bound the answer by turns is that of the order that answers first, or a stop.
+/// Of how many budgets up to a bound the schedule's answer is that of the order that answers first, or a stop.
 pub(crate) fn right_budgets(
     alloc: Global,
     asked: &Asked,
@@ -113,11 +113,11 @@ pub(crate) fn right_budgets(
 ) -> Result<u32, Fail> {
     let next = u64::from(asked.formula.len()) + 1;
     let budgets = all_enough(alloc, asked, orders, next, bound.saturating_add(1))?;
-    let (turn, further) = way.lengths();
+    let (slice, further) = way.lengths();
     let mut right = 0u32;
     for budget in 0..bound {
         let budget = u64::from(budget) + 1;
-        let first = winner(budgets.as_slice(), turn, further, budget);
+        let first = winner(budgets.as_slice(), slice, further, budget);
         let wanted = match first.and_then(|place| orders.get(place)) {
             Some(order) => answered(alloc, asked, *order, next, budget)?,
             None => Told::Stopped(budget as usize),

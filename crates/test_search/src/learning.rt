@@ -10,15 +10,15 @@
 //!     chain | LENGTH
 //!     drawn | SEED | COUNT | WAY
 //!     orders | NAME | VARS | CLAUSES | PART | BLOCKED
-//!     turns | HOLES | WAY | MOST
+//!     pigeons | HOLES | WAY | MOST
 //!     kept | NAME | VARS | FIRST | FURTHER | BUDGET | CLAUSES | CLAUSES ..
 //!
 //! Commas stand between clauses, and a blank part is all positions. Of `budgets` each budget from 1 to 9 is tried. A chain
 //! is one of implications that cannot all hold. Drawn formulas are compared with a search through all assignments
 //! (`drawn`), by `decide` where there is no WAY, and else by `numbers`, `connection` or `occurrences`, with `last`
-//! after it for the last values, or by `turns FIRST FURTHER` for the usual two orders, `all FIRST FURTHER` for three,
-//! or `twice FIRST FURTHER`. Of `turns` each budget up to one is tried on pigeons (`edges`). The formulas of `kept` are
-//! decided one after another by turns that keep values.
+//! after it for the last values, or by `both FIRST FURTHER` for the numbers and the connection, `all FIRST FURTHER` for
+//! three, or `twice FIRST FURTHER`. Of `pigeons` each budget up to MOST is tried (`edges`). The formulas of `kept` are
+//! decided one after another by orders that keep values.
 use crate::answers::put_decided;
 use crate::asking::{Asked, Way, answer, answer_by_schedule, put_orders};
 use crate::built::{implications, pigeons};
@@ -142,7 +142,7 @@ pub(crate) fn way_of(text: &str) -> Way {
             by: By::Occurrences,
             last,
         },
-        "turns" => Way::Schedule { first, further },
+        "both" => Way::Schedule { first, further },
         "activity" => Way::Activity { first, further },
         "usual" => Way::WithActivity { first, further },
         "all" => Way::All { first, further },
@@ -170,7 +170,7 @@ fn right_of(alloc: Global, asked: &Asked, way: Way, most: u32) -> Result<u32, Fa
     }
 }
 
-/// Decides pigeons by turns with each budget: `HOLES | WAY | MOST`.
+/// Decides pigeons by a schedule with each budget: `HOLES | WAY | MOST`.
 fn put_schedule(alloc: Global, text: &str, out: &mut String) -> Result<(), Fail> {
     let (holes, text) = part_of(text);
     let (way, most) = part_of(text);
@@ -197,7 +197,7 @@ fn leading(schedule: &Schedule) -> &'static str {
     }
 }
 
-/// Decides a formula by turns that keep values, and writes which order begins with the next one.
+/// Decides a formula by orders that keep values, and writes which order begins with the next one.
 fn put_formula(
     alloc: Global,
     f: &Formula,
@@ -234,7 +234,7 @@ fn put_formulas(
     Ok(())
 }
 
-/// Decides formulas by turns that keep values: `NAME | VARS | FIRST | FURTHER | BUDGET | CLAUSES | CLAUSES ..`.
+/// Decides formulas by orders that keep values: `NAME | VARS | FIRST | FURTHER | BUDGET | CLAUSES | CLAUSES ..`.
 fn put_kept(alloc: Global, text: &str, out: &mut String) -> Result<(), Fail> {
     let (name, text) = part_of(text);
     let (vars, text) = part_of(text);
@@ -255,7 +255,7 @@ pub(crate) fn tell(alloc: Global, line: &str, out: &mut String) -> Result<(), Fa
         "pigeons" => put_pigeons(alloc, text, out),
         "chain" => put_chain(alloc, text, out),
         "drawn" => put_seed(alloc, text, out),
-        "turns" => put_schedule(alloc, text, out),
+        "pigeons" => put_schedule(alloc, text, out),
         "kept" => put_kept(alloc, text, out),
         kind => put_case(alloc, kind, text, out),
     }
