@@ -10,14 +10,14 @@
 //!     chain | LENGTH
 //!     drawn | SEED | COUNT | WAY
 //!     orders | NAME | VARS | CLAUSES | PART | BLOCKED
-//!     pigeons | HOLES | WAY | MOST
+//!     edges | HOLES | WAY | MOST
 //!     kept | NAME | VARS | FIRST | FURTHER | BUDGET | CLAUSES | CLAUSES ..
 //!
 //! Commas stand between clauses, and a blank part is all positions. Of `budgets` each budget from 1 to 9 is tried. A chain
 //! is one of implications that cannot all hold. Drawn formulas are compared with a search through all assignments
 //! (`drawn`), by `decide` where there is no WAY, and else by `numbers`, `connection` or `occurrences`, with `last`
 //! after it for the last values, or by `both FIRST FURTHER` for the numbers and the connection, `all FIRST FURTHER` for
-//! three, or `twice FIRST FURTHER`. Of `pigeons` each budget up to MOST is tried (`edges`). The formulas of `kept` are
+//! three, or `twice FIRST FURTHER`. Of `edges` each budget up to MOST is tried on pigeons. The formulas of `kept` are
 //! decided one after another by orders that keep values.
 use crate::answers::put_decided;
 use crate::asking::{Asked, Way, answer, answer_by_schedule, put_orders};
@@ -255,7 +255,7 @@ pub(crate) fn tell(alloc: Global, line: &str, out: &mut String) -> Result<(), Fa
         "pigeons" => put_pigeons(alloc, text, out),
         "chain" => put_chain(alloc, text, out),
         "drawn" => put_seed(alloc, text, out),
-        "pigeons" => put_schedule(alloc, text, out),
+        "edges" => put_schedule(alloc, text, out),
         "kept" => put_kept(alloc, text, out),
         kind => put_case(alloc, kind, text, out),
     }
