@@ -8,7 +8,7 @@ use std::test::Fail;
 pub(crate) fn is_shape(word: &str) -> bool {
     matches!(
         word,
-        "units" | "chain" | "fours" | "squares" | "matching-end"
+        "units" | "chain" | "fours" | "squares" | "two" | "beside" | "matching-end"
     )
 }
 
@@ -29,8 +29,16 @@ fn count(shape: &str, n: i32) -> i32 {
         "chain" => n.wrapping_sub(1).wrapping_mul(4),
         "fours" => (n / 2).wrapping_mul(5).wrapping_add(n % 2),
         "squares" => (n / 2).wrapping_mul(4),
+        "two" => n.wrapping_sub(2).wrapping_mul(4),
+        "beside" => (n / 2).wrapping_mul(5).wrapping_sub(4),
         _ => n.wrapping_add(4),
     }
+}
+
+/// A variable and the one so many after it, in turn for each variable for which there is one.
+fn linked(n: i32, i: i32, step: i32) -> (i32, i32) {
+    let v = (i % n.wrapping_sub(step).max(1)).wrapping_add(1);
+    (v, v.wrapping_add(step))
 }
 
 /// The literals of a clause, which are numbered from 0 on. The second one is 0 in a unit clause.
@@ -39,13 +47,15 @@ fn count(shape: &str, n: i32) -> i32 {
 /// - `chain`: each two neighbouring variables, four times;
 /// - `fours`: of an odd variable one unit clause, of an even one four, in turn positive and negative;
 /// - `squares`: for each two numbers the four clauses over their scattered variables, those of all numbers in turn;
+/// - `two`: each variable and the next but one, four times;
+/// - `beside`: each variable of the second half, and then each two neighbouring ones of the first half, four times;
 /// - else each variable, and the four clauses over the last two.
 fn clause_of(shape: &str, n: i32, i: i32) -> (i32, i32) {
     match shape {
-        "chain" => {
-            let v = (i % n.wrapping_sub(1).max(1)).wrapping_add(1);
-            (v, v.wrapping_add(1))
-        }
+        "chain" => linked(n, i, 1),
+        "two" => linked(n, i, 2),
+        "beside" if i >= n / 2 => linked(n / 2, i.wrapping_sub(n / 2), 1),
+        "beside" => ((n / 2).wrapping_add(i).wrapping_add(1), 0),
         "fours" => {
             let odd = (i / 5).wrapping_mul(2).wrapping_add(1);
             match i % 5 {

@@ -30,14 +30,17 @@
 //!   numbers are scattered, how much is kept by how many rounds and steps, whether two workers find the same,
 //!   and compares one part of each 20 as `alone` does.
 //! - `fours N` counts the kept clauses of parts of one variable each: four unit clauses, which are kept, or
-//!   one, which is not, in turn.
+//!   one, which is not, in turn; tells whether 2, 3, 8 and 64 workers keep the same; and as `workers` does
+//!   how often each half entered the gate.
+//! - `two N` tells it of two chains, each over every second variable, and `beside N` of a chain over the first
+//!   half of the variables beside a unit clause for each other one.
 //! - `groups N; CLAUSES` tells the parts of a formula over 40 variables in at most so many groups.
 use crate::alone::{tell_alone, tell_drawn};
 use crate::command::Command;
 use crate::deciding::tell_decision;
 use crate::halves::tell_halves;
 use crate::lists::tell_parts;
-use crate::workers::{tell_fours, tell_met, tell_same, tell_squares};
+use crate::workers::{tell_built, tell_met, tell_same, tell_squares};
 use std::alloc::Global;
 use std::test::Fail;
 use std::thread::Threads;
@@ -58,7 +61,7 @@ pub(crate) fn tell<R: Threads + Sync>(
         "alone-drawn" | "matching-drawn" => tell_drawn(alloc, c, out),
         "decide" => tell_decision(alloc, c, out),
         "squares" => tell_squares(rt, alloc, c, out),
-        "fours" => tell_fours(rt, alloc, c, out),
+        "fours" | "two" | "beside" => tell_built(rt, alloc, c, out),
         _ => Ok(()),
     }
 }

@@ -16,7 +16,7 @@ use std::thread::Threads;
 /// What a command looks for in its formula.
 fn search_of<'a>(c: &Command<'_>, formula: &'a Formula) -> Search<'a> {
     let way = match c.word {
-        "kernel" | "workers" | "fours" => "matching",
+        "kernel" | "workers" | "fours" | "two" | "beside" => "matching",
         "general" | "general-workers" | "squares" => "general",
         "told" => "solution",
         _ => "judged",
@@ -91,18 +91,20 @@ fn put_same<R: Threads + Sync>(
     Ok(())
 }
 
-/// Tells how many clauses are kept of parts of four and of one, and whether any number of workers keeps the same.
-pub(crate) fn tell_fours<R: Threads + Sync>(
+/// Tells how many clauses of a built formula are kept, whether any number of workers keeps the same, and whether the
+/// halves of two meet at a gate.
+pub(crate) fn tell_built<R: Threads + Sync>(
     rt: &R,
     alloc: Global,
     c: &Command<'_>,
     out: &mut String,
 ) -> Result<(), Fail> {
     let f = formula(alloc, c)?;
-    put_fours(rt, alloc, &search_of(c, &f), out)
+    put_kept(rt, alloc, &search_of(c, &f), out)?;
+    put_entered(rt, alloc, &f, out)
 }
 
-fn put_fours<R: Threads + Sync>(
+fn put_kept<R: Threads + Sync>(
     rt: &R,
     alloc: Global,
     s: &Search<'_>,
@@ -110,8 +112,20 @@ fn put_fours<R: Threads + Sync>(
 ) -> Result<(), Fail> {
     let kept = kept_count(rt, alloc, s.formula)?;
     let same = first_of(rt, alloc, s, &[2, 3, 8, 64])?.1;
-    writeln!(out, "= {kept} of {}; the same {same}", s.formula.len())?;
+    write!(out, "= {kept} of {}; the same {same}", s.formula.len())?;
     Ok(())
+}
+
+/// Writes whether the halves of two workers meet at a gate.
+fn put_entered<R: Threads + Sync>(
+    rt: &R,
+    alloc: Global,
+    f: &Formula,
+    out: &mut String,
+) -> Result<(), Fail> {
+    let gate = Meeting::new();
+    matching_by_parts(rt, alloc, &gate, f, 2)?;
+    Ok(put_gate(&gate, false, out)?)
 }
 
 /// How many clauses one worker keeps.
