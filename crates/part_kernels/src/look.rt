@@ -2,7 +2,7 @@
 //!
 //! The search needs lists of where each variable occurs, and may cost as much as the matching of clauses that hang
 //! together. The look takes a few passes along the clauses, with a label for each variable, and for this label in turn
-//! (as in Shiloach and Vishkin's parallel components, 1982): labels alone would take twice as many passes. Variables
+//! (as in Shiloach and Vishkin's parallel components, 1982): labels alone would take more passes. Variables
 //! with equal labels are in one part. No clause says so, and no result rests on it.
 
 use lk_model::{Formula, Lit, OutOfMemory};

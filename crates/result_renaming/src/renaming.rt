@@ -17,7 +17,7 @@ pub struct Renaming<'a> {
     pub positions: u64,
     /// The new number after which steps are numbered.
     pub last: u64,
-    /// The new positions. One past this list stays.
+    /// The new positions. In a chain, one past this list stays; as a kept position it becomes 0.
     pub part: &'a [u32],
     /// The new variables. One past this list stays.
     pub names: &'a [u32],
@@ -136,7 +136,8 @@ impl<'a> Renaming<'a> {
         self.round(alloc, round)
     }
 
-    /// Appends more rounds, renamed. What is returned is the number of the last step. It is to fit in 64 bits.
+    /// Appends more rounds, renamed. What is returned is `last` and one more for each of their steps. It is to fit in 64
+    /// bits.
     pub fn append(
         &self,
         alloc: Global,
@@ -167,6 +168,7 @@ impl<'a> Renaming<'a> {
         let _last = self.append(alloc, &mut renamed, rounds)?;
         Ok(renamed)
     }
+
     /// The result, renamed. Its steps are to have numbers of 64 bits.
     pub fn result(&self, alloc: Global, r: GeneralResult) -> Result<GeneralResult, OutOfMemory>
         requires { IsTrue (rises_within 0 max_vars self.now.names.now) }
