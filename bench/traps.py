@@ -220,7 +220,7 @@ def learned_among_equal_clauses(n):
 
 
 def chain_over_long_clauses(n, copies):
-    """A formula with a clause of n literals, so many times, and steps whose chain resolves with these clauses in turns."""
+    """A formula with a clause of n literals, so many times, and steps whose chain resolves with these alternately."""
     rows = [list(range(1, n + 2))] * copies + [[-1, n + 1], [-1, -(n + 1)]]
     m = len(rows)
     turns = " ".join(f"-1 {k % copies + 1} {n + 1} {m}" for k in range(n))
@@ -241,7 +241,7 @@ def long_clause_joined_often(n):
 
 
 def long_clauses_joined_in_turns(n):
-    """A chain that resolves with two clauses of n literals in turns."""
+    """A chain that resolves with two clauses of n literals alternately."""
     return general_document(*chain_over_long_clauses(n, 2))
 
 

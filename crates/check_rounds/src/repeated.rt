@@ -2,7 +2,7 @@
 //!
 //! The clause so far has each literal of a clause that was joined, but for those on which was resolved since. So a
 //! further turn with it puts in those alone, and looks its literal up in a set. A clause is kept for this at its second
-//! turn in a row among the turns with long clauses, so that chains without repeats copy nothing.
+//! turn in a row among the turns with long clauses that are not kept, so that chains without repeats copy nothing.
 ghost use Rattle.std.specs.Prelude.{◌≡◌, ◌≤◌, ◌<◌, ◌⊎◌, ◌++◌, true, ℕ, ℤ, List, length, IfOk, OnOk, IsTrue};
 ghost use Rattle.std.specs.List.{list_all};
 ghost use Rattle.lk_model.specs.Formulas.Literal.{is_literal, rank_of};
