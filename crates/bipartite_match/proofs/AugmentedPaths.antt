@@ -59,6 +59,23 @@ augment_starts F part m from q v place root s e = record {
   done = λ z. let a = e.free.some in absurd (omega (arith, a, z));
 }
 
+-- the clause at the place has the variable by which the search reached it, and none where the search began
+pub own_is : (F : Cnf) (part : List ℕ) (m : Matching) (from : Start) (q : List Visit) (now : Matching) (v place i : ℕ) → CanSearch F part m from → AreVisits F part m from q
+    → Going F part m from q now v place → i < length part → get_or part i 0 ≡ (visit_at q place).pos → get_or now.of_clause i 0 ≡ (visit_at q place).by
+own_is F part m from q now v place i s a g inside is = g.agrees place i (omega arith) inside is ∙ elim (cases_eq (visit_at q place).by 0) [
+  | inl z ↦
+      (let u = root_unmatched F part m from (visit_at q place).pos s.start (a.root place g.inside z) in
+      let same = rising_once 0 (length F.clauses) part i u.index s.part_rises inside u.inside (is ∙ sym u.is) in
+      ap (λ x. get_or m.of_clause x 0) same ∙ u.none ∙ sym z)
+  | inr n ↦
+      (let mate = a.mate place g.inside n in
+      let partner = s.matching.held ((visit_at q place).by - 1) (λ z. some_position F part i s.part_rises inside (is ∙ sym mate ∙ z)) in
+      let own : get_or m.of_clause partner.0 0 ≡ (visit_at q place).by = partner.2 ∙ (let e : (visit_at q place).by - 1 + 1 ≡ (visit_at q place).by = omega (arith, n) in e) in
+      let same = rising_once 0 (length F.clauses) part i partner.0 s.part_rises inside
+      (index_within F part m partner.0 s.matching (λ z. n (sym own ∙ z))) (is ∙ sym mate ∙ sym partner.1) in
+      ap (λ x. get_or m.of_clause x 0) same ∙ own)
+]
+
 pub augment_goes : (F : Cnf) (part : List ℕ) (m : Matching) (from : Start) (q : List Visit) (now after : Matching) (v place i : ℕ) → IsTrue (is_formula F) → CanSearch F part m from
     → AreVisits F part m from q → Going F part m from q now v place → i < length part → get_or part i 0 ≡ (visit_at q place).pos → after ≡ with_own now i (visit_at q place).pos v
     → AugmentState F part m from q after (visit_at q place).by (visit_at q place).from (visit_at q place).pos
@@ -94,8 +111,11 @@ augment_goes F part m from q now after v place i form s a g inside is made = rec
     there : get_or after.of_var (v - 1) 0 ≢ 0
     there z = some_position F part i s.part_rises inside (sym next.at ∙ z)
 
-    step : get_or now.of_clause i 0 ≡ (visit_at q place).by → IsStep F part m from q now after i v place
-    step own = record {
+    by_is : get_or now.of_clause i 0 ≡ (visit_at q place).by
+    by_is = own_is F part m from q now v place i s a g inside is
+
+    step : IsStep F part m from q now after i v place
+    step = record {
       formula = form;
       can = s;
       visits = a;
@@ -105,7 +125,7 @@ augment_goes F part m from q now after v place i form s a g inside is made = rec
       holds = g.holds;
       is = is;
       owns = next;
-      own = own;
+      own = by_is;
     }
 
     -- another clause without a variable is not on the path
@@ -121,8 +141,7 @@ augment_goes F part m from q now after v place i form s a g inside is made = rec
     ends : (visit_at q place).by ≡ 0 → IsAugmented F part from m after pos
     ends z =
         let u = root_unmatched F part m from pos s.start (a.root place g.inside z) in
-        let same = rising_once 0 (length F.clauses) part i u.index s.part_rises inside u.inside (is ∙ sym u.is) in
-        let none : get_or now.of_clause i 0 ≡ 0 = old ∙ ap (λ x. get_or m.of_clause x 0) same ∙ u.none in
+        let none : get_or now.of_clause i 0 ≡ 0 = by_is ∙ z in
         record {
           longer = record {
             matching = next.matching;
@@ -133,7 +152,7 @@ augment_goes F part m from q now after v place i form s a g inside is made = rec
               | inr ne ↦ (λ y. g.vars k ne n (sym (next.vars k ne (inl none)) ∙ y))
             ];
           };
-          covered = λ R c. closed_last F part m from q now after i v place R (step (none ∙ sym z)) z some kept_clauses c (g.covers R c);
+          covered = λ R c. closed_last F part m from q now after i v place R step z some kept_clauses c (g.covers R c);
           began = u;
           others = λ p. (
             λ x. (
@@ -169,21 +188,9 @@ augment_goes F part m from q now after v place i form s a g inside is made = rec
         | inl e ↦ (λ z. there (ap (λ x. get_or after.of_var x 0) (sym e) ∙ z))
         | inr far ↦ (λ z. g.vars k far y (sym (next.vars k far (inr (λ x. ne (x ∙ ap (λ w. w - 1) by_is)))) ∙ z))
       ];
-      covers = λ R c. closed_next F part m from q now after i v place R (step by_is) c (g.covers R c);
+      covers = λ R c. closed_next F part m from q now after i v place R step c (g.covers R c);
     }
       where
-        partner : (j : ℕ) × (get_or part j 0 ≡ get_or m.of_var ((visit_at q place).by - 1) 0) × (get_or m.of_clause j 0 ≡ (visit_at q place).by - 1 + 1)
-        partner = s.matching.held ((visit_at q place).by - 1) (λ z. some_position F part i s.part_rises inside (is ∙ sym (a.mate place g.inside n) ∙ z))
-
-        own : get_or m.of_clause partner.0 0 ≡ (visit_at q place).by
-        own = partner.2 ∙ (let e : (visit_at q place).by - 1 + 1 ≡ (visit_at q place).by = omega (arith, n) in e)
-
-        by_is : get_or now.of_clause i 0 ≡ (visit_at q place).by
-        by_is =
-            let same = rising_once 0 (length F.clauses) part i partner.0 s.part_rises inside
-            (index_within F part m partner.0 s.matching (λ z. n (sym own ∙ z))) (is ∙ sym (a.mate place g.inside n) ∙ sym partner.1) in
-            old ∙ ap (λ x. get_or m.of_clause x 0) same ∙ own
-
         had : get_or now.of_clause i 0 ≢ 0
         had z = n (sym by_is ∙ z)
 

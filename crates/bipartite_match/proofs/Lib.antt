@@ -12,11 +12,13 @@ pub mod Unmatched
 pub mod Owning
 pub mod Restoring
 pub mod AugmentedPaths
+pub mod Passing
 pub mod Seeking
 pub mod Marks
 pub mod Rooted
 pub mod Roots
 pub mod Sought
+pub mod Outcomes
 pub mod Koenig
 pub mod Covering
 pub mod Used

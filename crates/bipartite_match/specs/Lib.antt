@@ -5,6 +5,8 @@ pub mod Walks
 pub mod Ways
 pub mod Covers
 pub mod Counts
+-- Matchings of which no table by clauses is held.
+pub mod Behind
 -- How the searches hold a matching, what a search finds, and the walks whose pairs are exchanged.
 pub mod Pairing
 pub mod Found

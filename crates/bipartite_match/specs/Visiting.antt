@@ -9,7 +9,7 @@ use Rattle.bipartite_match.specs.declared.augmenting.Start.TheVariants.{Clause, 
 use Rattle.bipartite_match.specs.declared.matching.Matching.{Matching}
 use Rattle.bipartite_match.specs.declared.visits.Visit.{Visit}
 use Rattle.bipartite_match.specs.declared.visits.Visits.{Visits}
-use Rattle.bipartite_match.specs.Matchings.{IsMatching, IsUnmatched}
+use Rattle.bipartite_match.specs.Matchings.{IsMatching, IsUnmatched, IsReady}
 use Rattle.bipartite_match.specs.Ways.{IsStart, IsFree}
 
 abbrev pub no_visit : Visit
@@ -96,6 +96,19 @@ pub record CanVisit (F : Cnf) (part : List ℕ) (m : Matching) (from : Start) : 
   pub part_rises : IsTrue (are_positions F part)
   pub matching : IsMatching F part m
   pub bare : (p : ℕ) → IsRoot part m from p → IsUnmatched part m p
+
+-- A search reads the positions of the variables, the unmatched positions and the marks. Behind them stands a matching of a
+-- part, ready for the search. No code need hold the part or the variables of its clauses.
+pub record CanRead (F : Cnf) (of_var unmatched : List ℕ) (marks : List Bool) (from : Start) (part : List ℕ) (m : Matching) : Type 0 where
+  pub can : CanVisit F part m from
+  pub ready : IsReady F part m
+  pub vars : m.of_var ≡ of_var
+  pub bare : m.unmatched ≡ unmatched
+  pub marks_are : m.seen ≡ marks
+
+-- the same where the roots are in the queue
+abbrev pub CanBegin : Cnf → List ℕ → List Bool → List Visit → Start → List ℕ → Matching → Type 0
+CanBegin F of_var marks q from part m = CanRead F of_var m.unmatched marks from part m × (q ≡ roots_of m.unmatched from)
 
 -- what a search for a path asks
 pub record CanSearch (F : Cnf) (part : List ℕ) (m : Matching) (from : Start) : Type 0 where

@@ -45,7 +45,14 @@ pub fn augment<L>(
     ensures step { steps.new ≡ steps.old + 1 }
 {
     steps.tick();
-    let visits = Visits::of(alloc, f, part, m, from)?;
+    let visits = Visits::of(
+        alloc,
+        f,
+        m.of_var.as_slice(),
+        m.unmatched.as_slice(),
+        &mut m.seen,
+        from,
+    )?;
     if visits.end == 0 {
         return Ok(false);
     }

@@ -1,13 +1,15 @@
 //! The exchange of the pairs of a path that a search found.
-ghost use Rattle.std.specs.Prelude.{◌≡◌, ◌<◌, ◌≤◌, ◌-◌, ℕ, length, slice_index, true, IsTrue};
+ghost use Rattle.std.specs.Prelude.{◌≡◌, ◌<◌, ◌≤◌, ◌-◌, ℕ, List, length, slice_index, true, IsTrue};
 ghost use Rattle.lk_model.specs.Formulas.Formula.{Cnf, is_formula};
 ghost use Rattle.lk_model.specs.Lists.{among, rises_within};
 ghost use Rattle.bipartite_match.specs.declared.augmenting.Start.{Start as AnyStart};
+ghost use Rattle.bipartite_match.specs.declared.matching.Matching.{Matching as AMatching};
 ghost use Rattle.bipartite_match.specs.Covers.{IsAugmented};
 ghost use Rattle.bipartite_match.specs.Visiting.{EndsIn, CanSearch, with_own};
 
 use crate::matching::Matching;
 use crate::visits::{Visits, visit_at};
+use lk_model::List;
 
 /// Exchanges the pairs of the path that a search found, from its end back to where it began. Answers the position of the
 /// clause there, which has a variable now.
@@ -28,6 +30,30 @@ pub fn augment_found(visits: &Visits, part: &[u32], m: &mut Matching) -> u32
         let visit = visit_at(&visits.queue, place);
         root = visit.pos;
         take(m, index_of(part, root), root, v);
+        v = visit.by;
+        place = visit.from as usize;
+    }
+    root
+}
+
+/// The same in the positions of the variables alone, where no variable is kept for each clause: each clause on the path
+/// takes the variable that leads on, and the one that it gives up is the next that is taken.
+pub fn exchange(visits: &Visits, of_var: &mut List<u32>) -> u32
+    requires found { (F : Cnf) × (part : List ℕ) × (m : AMatching) × (from : AnyStart) × (m.of_var ≡ of_var.old) ×
+        IsTrue (is_formula F) × CanSearch F part m from ×
+        EndsIn F part m from visits.now.queue.items visits.now.place visits.now.end }
+    ensures augmented { (F : Cnf) (part : List ℕ) (m : AMatching) (from : AnyStart) → m.of_var ≡ of_var.old
+        → IsTrue (is_formula F) → CanSearch F part m from
+        → EndsIn F part m from visits.now.queue.items visits.now.place visits.now.end →
+        (own : List ℕ) × IsAugmented F part from m (record m { of_clause = own; of_var = of_var.new }) result }
+{
+    let mut root = 0;
+    let mut place = visits.place;
+    let mut v = visits.end;
+    'back: while v != 0 {
+        let visit = visit_at(&visits.queue, place);
+        root = visit.pos;
+        of_var.set(v as usize - 1, root);
         v = visit.by;
         place = visit.from as usize;
     }

@@ -1,16 +1,15 @@
 //! A search in breadth for one alternating path.
 //!
-//! It visits clauses by their positions, and reads of the matching only which clause has a variable. A variable by
-//! which it reached a clause is marked; the marks are the matching's own, so no list of all variables is made for a
-//! search, and they are lowered again by going through the queue. So a search costs what it visits.
-ghost use Rattle.std.specs.Prelude.{◌≡◌, ◌-◌, ◌<◌, ◌≤◌, [], ◌∷◌, length, map, replicate, false, IfOk};
+//! It visits clauses by their positions, and reads of a matching only which clause has a variable, and which ones have
+//! none. A variable by which it reached a clause is marked; the marks are kept from search to search, so no list of all
+//! variables is made for one, and they are lowered again by going through the queue. So a search costs what it visits.
+ghost use Rattle.std.specs.Prelude.{◌≡◌, ◌-◌, ◌<◌, ◌≤◌, [], ◌∷◌, ℕ, List, length, map, replicate, false, IfOk};
 ghost use Rattle.std.specs.Prelude.{OnOk, OnErr};
-ghost use Rattle.bipartite_match.specs.Matchings.{IsReady};
+ghost use Rattle.bipartite_match.specs.declared.matching.Matching.{Matching as AMatching};
 ghost use Rattle.bipartite_match.specs.Visiting.{visit_at, seen_of, roots_of, goal_of, met, AreMarks, IsSearched};
-ghost use Rattle.bipartite_match.specs.Visiting.{CanVisit, root_visit};
+ghost use Rattle.bipartite_match.specs.Visiting.{CanRead, CanBegin, root_visit};
 
 use crate::augmenting::Start;
-use crate::matching::Matching;
 use lk_model::{Formula, OutOfMemory, VarSet};
 use std::alloc::Global;
 
@@ -47,23 +46,24 @@ pub struct Visits {
 }
 
 impl Visits {
-    /// Visits clauses from the start on, up to the first free variable that is looked for. The matching is the same
-    /// after it.
+    /// Visits clauses from the start on, up to the first free variable that is looked for. It reads the position of each
+    /// variable and the unmatched positions; the marks are the same after it.
     pub fn of(
         alloc: Global,
         f: &Formula,
-        part: &[u32],
-        m: &mut Matching,
+        of_var: &[u32],
+        unmatched: &[u32],
+        seen: &mut VarSet,
         from: Start,
     ) -> Result<Visits, OutOfMemory>
-        requires can { CanVisit f.now part.now m.old from }
-        requires ready { IsReady f.now part.now m.old }
-        ensures searched { IfOk result (IsSearched f.now part.now m.old from) }
-        ensures same { m.new ≡ m.old }
+        requires can { (part : List ℕ) × (m : AMatching) × CanRead f.now of_var.now unmatched.now seen.old from part m }
+        ensures searched { (part : List ℕ) (m : AMatching) → CanRead f.now of_var.now unmatched.now seen.old from part m
+            → IfOk result (IsSearched f.now part m from) }
+        ensures same { seen.new ≡ seen.old }
     {
-        let mut visits = Visits::start(alloc, m.unmatched.as_slice(), from)?;
-        let done = visits.go_on(f, part, m, from);
-        visits.lower(&mut m.seen);
+        let mut visits = Visits::start(alloc, unmatched, from)?;
+        let done = visits.go_on(f, of_var, seen, from);
+        visits.lower(seen);
         done?;
         Ok(visits)
     }
@@ -80,22 +80,22 @@ impl Visits {
         })
     }
 
-    // Visits clauses from the roots on. The part is there for the contract alone.
+    // Visits clauses from the roots on.
     fn go_on(
         &mut self,
         f: &Formula,
-        _part: &[u32],
-        m: &mut Matching,
+        of_var: &[u32],
+        seen: &mut VarSet,
         from: Start,
     ) -> Result<(), OutOfMemory>
-        requires can { CanVisit f.now _part.now m.old from }
-        requires ready { IsReady f.now _part.now m.old }
-        requires queue { self.old.queue.items ≡ roots_of m.old.unmatched from }
+        requires can { (part : List ℕ) × (m : AMatching) ×
+            CanBegin f.now of_var.now seen.old self.old.queue.items from part m }
         requires end { self.old.end ≡ 0 }
-        ensures searched { OnOk result (IsSearched f.now _part.now m.old from self.new) }
-        ensures marks { AreMarks self.new.queue.items m.new.seen }
-        ensures size { length m.new.seen ≡ f.now.vars }
-        ensures rest { m.new ≡ record m.old { seen = m.new.seen } }
+        ensures searched { (part : List ℕ) (m : AMatching)
+            → CanBegin f.now of_var.now seen.old self.old.queue.items from part m
+            → OnOk result (IsSearched f.now part m from self.new) }
+        ensures marks { AreMarks self.new.queue.items seen.new }
+        ensures size { length seen.new ≡ f.now.vars }
     {
         let goal = goal_of(from);
         'places: for place in 0..f.len() {
@@ -104,7 +104,7 @@ impl Visits {
             }
             let pos = visit_at(&self.queue, place as usize).pos;
             'literals: for l in f.clause(pos) {
-                self.meet(m.of_var.as_slice(), &mut m.seen, goal, place, l.var())?;
+                self.meet(of_var, seen, goal, place, l.var())?;
                 if self.end != 0 {
                     self.place = place as usize;
                     return Ok(());

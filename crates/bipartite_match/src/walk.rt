@@ -7,10 +7,13 @@
 //!
 //! Here each variable that is reached is given an escape and a rank besides, so that who reads the result can see
 //! without a search that its clauses are lean for matching autarkies.
-ghost use Rattle.std.specs.Prelude.{◌≡◌, ◌≢◌, ◌+◌, ◌-◌, ◌≤◌, ℕ, length, slice_index, map, IfOk, IsTrue};
+ghost use Rattle.std.specs.Prelude.{◌≡◌, ◌≢◌, ◌+◌, ◌-◌, ◌≤◌, ℕ, List, length, slice_index, map, IfOk, IsTrue};
 ghost use Rattle.lk_model.specs.Formulas.Lean.{are_positions};
 ghost use Rattle.bipartite_match.specs.Matchings.{IsMaximum, IsReady};
 ghost use Rattle.bipartite_match.specs.Walks.{AreReached, IsReached};
+ghost use Rattle.bipartite_match.specs.Visiting.{CanRead};
+ghost use Rattle.bipartite_match.specs.declared.augmenting.Start.TheVariants.{Variable};
+ghost use Rattle.bipartite_match.specs.declared.matching.Matching.{Matching as AMatching};
 ghost use Rattle.bipartite_match.specs.declared.visits.Visit.{Visit as AVisit};
 ghost use Rattle.bipartite_match.specs.Found.{kept_of, rank_of};
 
@@ -19,7 +22,7 @@ use crate::matching::Matching;
 use crate::mates::{Mates, into_positions};
 use crate::search::Search;
 use crate::visits::{Visit, Visits};
-use lk_model::{Formula, List, OutOfMemory};
+use lk_model::{Formula, List, OutOfMemory, VarSet};
 use std::alloc::Global;
 
 /// What alternating walks from the unmatched clauses of a part reach: the positions, ascending, and for each variable
@@ -61,8 +64,31 @@ pub fn reached_positions(
     ensures reached { IfOk result (AreReached f.now part.now m.old) }
     ensures same { m.new ≡ m.old }
 {
+    visited_positions(
+        alloc,
+        f,
+        m.of_var.as_slice(),
+        m.unmatched.as_slice(),
+        &mut m.seen,
+    )
+}
+
+/// The same by what a search reads: the position of each variable, the unmatched positions and marks.
+pub fn visited_positions(
+    alloc: Global,
+    f: &Formula,
+    of_var: &[u32],
+    unmatched: &[u32],
+    seen: &mut VarSet,
+) -> Result<List<u32>, OutOfMemory>
+    requires can { (part : List ℕ) × (m : AMatching) × IsMaximum f.now part m ×
+        CanRead f.now of_var.now unmatched.now seen.old (Variable 0) part m }
+    ensures reached { (part : List ℕ) (m : AMatching) → IsMaximum f.now part m
+        → CanRead f.now of_var.now unmatched.now seen.old (Variable 0) part m → IfOk result (AreReached f.now part m) }
+    ensures same { seen.new ≡ seen.old }
+{
     // From all unmatched clauses, to any free variable: there is none.
-    let visits = Visits::of(alloc, f, part, m, Start::Variable(0))?;
+    let visits = Visits::of(alloc, f, of_var, unmatched, seen, Start::Variable(0))?;
     let mut kept = positions_of(alloc, &visits.queue)?;
     kept.sort_unstable();
     kept.dedup();

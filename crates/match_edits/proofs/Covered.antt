@@ -1,12 +1,10 @@
 -- A clause goes, and each one that stays has a variable: the matching is maximum without a search.
-use Rattle.std.proofs.Common.{◌≡◌, ◌≢◌, ℕ, ◌-◌, ◌<◌, ◌≤◌, List, [], ◌∷◌, length, get_or, sym, ◌∙◌, arith, IsTrue}
+use Rattle.std.proofs.Common.{◌≡◌, ℕ, List, [], ◌∷◌, length, arith, IsTrue}
 use Rattle.lk_model.specs.Lists.{among}
 use Rattle.lk_model.specs.Formulas.Formula.{Cnf}
 use Rattle.bipartite_match.specs.declared.augmenting.Start.{Start}
 use Rattle.bipartite_match.specs.declared.matching.Matching.{Matching}
 use Rattle.bipartite_match.specs.Covers.{HasCover}
-use Rattle.bipartite_match.proofs.Numbers.{within}
-use Rattle.bipartite_match.proofs.Owning.{some_position}
 use Rattle.match_edits.specs.Followed.{IsLive}
 use Rattle.match_edits.specs.EditLaws.{RestoredBy}
 
@@ -31,10 +29,3 @@ bare_restored F part m from r none = record {
         closed = λ p v e j. absurd (let f : ⊥ = cc in f);
       },
     )
-
--- the variable of a clause is one of those that the matching knows
-pub own_within : (F : Cnf) (part : List ℕ) (m : Matching) (i : ℕ) → IsLive F part m → i < length part → get_or m.of_clause i 0 ≢ 0 → get_or m.of_clause i 0 ≤ length m.of_var
-own_within F part m i h l n =
-    let back = h.ready.matching.paired i n in
-    let lt = within m.of_var (get_or m.of_clause i 0 - 1) (λ z. some_position F part i h.positions l (sym back ∙ z)) in
-    omega (arith, lt)

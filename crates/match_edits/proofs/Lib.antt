@@ -5,3 +5,4 @@ pub mod Rooms
 pub mod Edited
 pub mod LiveKernels
 pub mod Covered
+pub mod Holding

@@ -20,7 +20,7 @@ use Rattle.bipartite_match.proofs.Owning.{index_within, some_position}
 use Rattle.bipartite_match.proofs.Unmatched.{rises_remove, among_rest, from_rest}
 use Rattle.match_edits.specs.EditLaws.{RestoredBy}
 use Rattle.match_edits.specs.Followed.{IsLive, without_unmatched, without_matched}
-use Rattle.match_edits.proofs.Rows.{length_remove, was_at, is_at, set_back}
+use Rattle.match_edits.proofs.Rows.{length_remove, was_at, is_at}
 
 -- the matching without the clause at index i, with these positions for the variables and these for the unmatched clauses
 without_clause : Matching → ℕ → List ℕ → List ℕ → Matching
@@ -229,19 +229,3 @@ matched_removed law F part m i form s l had = record {
       gone = λ n. get_or-set_same m.of_var (get_or m.of_clause i 0 - 1) 0 0 (within m.of_var (get_or m.of_clause i 0 - 1) (λ z. some_position F part i s.positions l (sym (s.ready.matching.paired i had) ∙ z)));
       others = λ v first ne. get_or-set_other m.of_var (get_or m.of_clause i 0 - 1) (v - 1) 0 0 (λ q. ne (omega (arith, q, first, had)));
     }
-
--- its variable has it again
-pub as_before : (F : Cnf) (part : List ℕ) (m : Matching) (i : ℕ) → are_positions F part ≡ true → IsMatching F part m → i < length part → get_or m.of_clause i 0 ≢ 0
-    → set (set m.of_var (get_or m.of_clause i 0 - 1) 0) (get_or m.of_clause i 0 - 1) (get_or part i 0) ≡ m.of_var
-as_before F part m i r h l had =
-    let at : get_or m.of_var (get_or m.of_clause i 0 - 1) 0 ≡ get_or part i 0 = h.paired i had in
-    set_back m.of_var (get_or m.of_clause i 0 - 1) (get_or part i 0) 0 (within m.of_var (get_or m.of_clause i 0 - 1) (λ z. some_position F part i r l (sym at ∙ z))) at
-
--- so all is as it was
-pub matching_back : (m n : Matching) (cl vs : List ℕ) → cl ≡ m.of_clause → vs ≡ m.of_var → n.unmatched ≡ m.unmatched → n.seen ≡ m.seen
-    → record n { of_clause = cl; of_var = vs } ≡ m
-matching_back m n cl vs a b c d =
-    ap (λ (xs : List ℕ). let x : Matching = record n { of_clause = xs; of_var = vs } in x) a
-    ∙ ap (λ (xs : List ℕ). let x : Matching = record n { of_clause = m.of_clause; of_var = xs } in x) b
-    ∙ ap (λ (xs : List ℕ). let x : Matching = record { of_clause = m.of_clause; of_var = m.of_var; unmatched = xs; seen = n.seen } in x) c
-    ∙ ap (λ (xs : List Bool). let x : Matching = record { of_clause = m.of_clause; of_var = m.of_var; unmatched = m.unmatched; seen = xs } in x) d

@@ -1,3 +1,4 @@
 pub mod Followed
 pub mod EditLaws
+pub mod Held
 pub mod LiveKernel

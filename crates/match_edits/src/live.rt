@@ -4,6 +4,9 @@
 //! the matching maximum again; after a matched clause is removed, one search from its variable does (Berge, "Two
 //! Theorems in Graph Theory", 1957; here by the covers of König 1931). So an edit costs one search, and the kernel one
 //! more. Where a search has no memory, the edit is taken back.
+//!
+//! The matching alone says which clauses are live: those that a variable has, and those that have none. So an edit moves
+//! no list of all live clauses.
 ghost use Rattle.std.specs.Prelude.{◌≡◌, ◌+◌, ◌≤◌, ◌↔◌, length, OnOk, OnErr, IfOk, IsErrOf, IsTrue, IsFalse};
 ghost use Rattle.lk_model.specs.Lists.{among};
 ghost use Rattle.lk_model.specs.Formulas.Literal.{is_clause};
@@ -14,12 +17,10 @@ ghost use Rattle.edit_text.specs.Edits.{has_room};
 ghost use Rattle.match_edits.specs.LiveKernel.{IsLiveKernel};
 
 use crate::laws::edit_laws;
-use crate::parts::{
-    go_unmatched, has_room, index_of, let_go, number_at_index, take_up, well_formed,
-};
+use crate::parts::{go_unmatched, has_room, index_of, let_go, take_up, variable_of, well_formed};
 use crate::stop::EditStop;
-use bipartite_match::{Matching, Steps, maximum, reach, reached_positions};
-use lk_model::{Formula, List, Lit, OutOfMemory};
+use bipartite_match::{Matching, Pairs, Steps, maximum};
+use lk_model::{Formula, List, Lit, OutOfMemory, VarSet};
 use matching_kernel::kernel_reached_law;
 use std::alloc::Global;
 use std::marker::Model;
@@ -31,20 +32,21 @@ use std::marker::Model;
 pub struct Live {
     // all clauses that were ever held, each at the position that is its number
     held: Formula,
-    // the numbers of the live ones, ascending
-    live: List<u32>,
-    m: Matching,
+    // a matching of the live ones, by their numbers
+    pairs: Pairs,
+    // marks on variables, of which none is set between two searches
+    marks: VarSet,
 }
 
 impl Model for Live {
     ghost use Rattle.edit_text.specs.LiveClauses.{LiveClauses};
-    ghost use Rattle.match_edits.specs.Followed.{IsLive};
+    ghost use Rattle.match_edits.specs.Held.{IsHeld, live_in};
 
     ghost Value = { LiveClauses };
 
-    ghost view = { λ s. record { held = s.held; live = s.live } };
+    ghost view = { λ s. record { held = s.held; live = live_in s.held s.pairs } };
 
-    ghost invariant = { λ s. IsLive s.held s.live s.m };
+    ghost invariant = { λ s. IsHeld s.held s.pairs s.marks };
 }
 
 impl Live {
@@ -53,9 +55,18 @@ impl Live {
         ensures { IfOk result (λ s. s ≡ live_of f.now) }
     {
         let live = f.positions(alloc)?;
-        let m = maximum(alloc, f, live.as_slice())?;
+        let Matching {
+            of_var,
+            unmatched,
+            seen,
+            ..
+        } = maximum(alloc, f, live.as_slice())?;
         let held = f.copy(alloc)?;
-        Ok(Live { held, live, m })
+        Ok(Live {
+            held,
+            pairs: Pairs { of_var, unmatched },
+            marks: seen,
+        })
     }
 
     /// Adds a clause over the variables in which no literal stands twice, and answers its number. The error is `Limit`,
@@ -84,8 +95,8 @@ impl Live {
         if let Err(e) = take_up(
             alloc,
             &self.held,
-            &mut self.live,
-            &mut self.m,
+            &mut self.pairs,
+            &mut self.marks,
             number,
             steps,
         ) {
@@ -109,16 +120,23 @@ impl Live {
         ensures limit { IsErrOf result EditStop.Limit → ⊥ }
         ensures steps { steps.new ≤ steps.old + 1 }
     {
-        let Some(index) = index_of(self.live.as_slice(), number) else {
-            return Err(EditStop::NoClause);
-        };
         well_formed(&self.held);
         edit_laws();
-        if number_at_index(self.m.of_clause.as_slice(), index) == 0 {
-            go_unmatched(&mut self.live, &mut self.m, index, number);
+        if let Some(v) = variable_of(&self.held, self.pairs.of_var.as_slice(), number) {
+            let_go(
+                alloc,
+                &self.held,
+                &mut self.pairs,
+                &mut self.marks,
+                v,
+                steps,
+            )?;
             return Ok(());
         }
-        let_go(alloc, &self.held, &mut self.live, &mut self.m, index, steps)?;
+        let Some(index) = index_of(self.pairs.unmatched.as_slice(), number) else {
+            return Err(EditStop::NoClause);
+        };
+        go_unmatched(&mut self.pairs, index);
         Ok(())
     }
 
@@ -129,11 +147,12 @@ impl Live {
     {
         well_formed(&self.held);
         kernel_reached_law();
-        let reached = reach(alloc, &self.held, self.live.as_slice(), &self.m)?;
-        Ok(reached.kept)
+        let mut marks = VarSet::new(alloc, self.held.vars())?;
+        self.pairs.reached_positions(alloc, &self.held, &mut marks)
     }
-    /// The same numbers, by a search that marks what it visits in the matching. So it costs the clauses of the kernel,
-    /// and not a table of all variables; what is live does not change.
+
+    /// The same numbers, by a search that marks what it visits in what is kept for this. So it costs the clauses of the
+    /// kernel, and not a table of all variables; what is live does not change.
     pub fn kernel_by_marks(&mut self, alloc: Global) -> Result<List<u32>, OutOfMemory>
         ensures kernel { IfOk result (λ numbers. IsLiveKernel self.old numbers) }
         ensures largest { IfOk result (λ numbers. KernelWithin TheMatching self.old.held self.old.live numbers) }
@@ -141,6 +160,7 @@ impl Live {
     {
         well_formed(&self.held);
         kernel_reached_law();
-        reached_positions(alloc, &self.held, self.live.as_slice(), &mut self.m)
+        self.pairs
+            .reached_positions(alloc, &self.held, &mut self.marks)
     }
 }

@@ -1,17 +1,36 @@
-use Rattle.std.proofs.Common.{◌∙◌, List, ℕ, sym, subst}
-use Rattle.std.specs.List.{remove, slice_index}
+use Rattle.std.proofs.Common.{◌-◌, List, ℕ, get_or, ap, sym, subst, ◌∙◌}
 use Rattle.bipartite_match.specs.declared.augmenting.Start.TheVariants.{Variable}
-use Rattle.bipartite_match.specs.declared.matching.Matching.{Matching}
-use Rattle.match_edits.specs.Followed.{IsLive, without_matched}
-use Rattle.match_edits.proofs.Covered.{bare_restored, own_within}
+use Rattle.bipartite_match.specs.declared.pairs.Pairs.{Pairs}
+use Rattle.bipartite_match.specs.Behind.{matching_of}
+use Rattle.match_edits.specs.EditLaws.{RestoredBy}
+use Rattle.match_edits.proofs.Covered.{bare_restored}
+use Rattle.match_edits.proofs.Holding.{pairs_back}
 use Rattle.match_edits.proofs.parts.let_go.Goals as goal
 
-pub go_matched-requires-clause-variable : goal.go_matched-requires-clause-variable
-go_matched-requires-clause-variable g c = own_within c.args.held.now c.args.live.now c.args.m.now c.args.index c.requires.live c.requires.inside c.requires.matched
+pub restore-requires : goal.restore-requires
+restore-requires g c =
+    let w = c.requires.restored in let p = c.args.pairs.now in
+    (w.0, w.1, subst (λ (vs : List ℕ). RestoredBy c.args.held.now w.0 (matching_of w.1 (record p { of_var = vs }) c.args.marks.now) (Variable c.args.v)) (sym c.set.ensures) w.2)
 
 pub returns-then-len-eq0-clause-live : goal.returns-then-len-eq0-clause-live
-returns-then-len-eq0-clause-live g c =
-    let F = c.args.held.now in let part = c.args.live.now in let m = c.args.m.now in let i = c.args.index in
-    subst (λ (ps : List ℕ). IsLive F ps c.go_matched.new.m) (sym c.go_matched.ensures.live)
-    (subst (λ (x : Matching). IsLive F (remove part i) x) (sym c.go_matched.ensures.matching)
-    (bare_restored F (remove part i) (without_matched m i) (Variable (slice_index m.of_clause i)) c.requires.restored (sym c.len.ensures ∙ c.if-len-eq0.true)))
+returns-then-len-eq0-clause-live g c = λ part own r.
+    let p = c.args.pairs.now in (
+      own,
+      bare_restored c.args.held.now part (matching_of own (record p { of_var = c.set.new.self }) c.args.marks.now) (Variable c.args.v)
+          (subst (λ (vs : List ℕ). RestoredBy c.args.held.now part (matching_of own (record p { of_var = vs }) c.args.marks.now) (Variable c.args.v)) (sym c.set.ensures) r)
+          (sym c.len.ensures ∙ c.if-len-eq0.true),
+    )
+
+pub returns-clause-live : goal.returns-clause-live
+returns-clause-live g c = λ part own r.
+    let p = c.args.pairs.now in
+    c.in_default.ensures.live part own
+    (subst (λ (vs : List ℕ). RestoredBy c.args.held.now part (matching_of own (record p { of_var = vs }) c.args.marks.now) (Variable c.args.v)) (sym c.set.ensures) r)
+
+pub returns-in-Err-clause-err : goal.returns-in-Err-clause-err
+returns-in-Err-clause-err g c =
+    let p = c.args.pairs.now in
+    pairs_back p c.restore.new.pairs c.args.v c.number_at_index-number.result c.set-in-Err.new.self c.requires.some c.requires.within
+    (c.number_at_index-number.ensures ∙ ap (λ (xs : List ℕ). get_or xs (c.args.v - 1) 0) c.as_slice.ensures)
+    (c.in-Err.ensures.err ∙ ap (λ (vs : List ℕ). let x : Pairs = record p { of_var = vs } in x) c.set.ensures)
+    c.set-in-Err.ensures

@@ -1,14 +1,39 @@
-use Rattle.std.proofs.Common.{List, ℕ, subst}
-use Rattle.bipartite_match.specs.Walks.{IsReached}
+use Rattle.std.proofs.Common.{List, ℕ, false, replicate, ap, subst, ◌∙◌}
+use Rattle.std.proofs.lemmas.Result.{IfOk-weaker}
+use Rattle.lk_model.specs.Formulas.Lean.{KernelWithin}
+use Rattle.lk_model.specs.declared.class.Class.TheVariants.{Matching as TheMatching}
+use Rattle.bipartite_match.specs.Behind.{matching_of}
+use Rattle.bipartite_match.specs.Walks.{AreReached}
 use Rattle.edit_text.specs.LiveClauses.{LiveClauses}
+use Rattle.match_edits.specs.Held.{live_in}
 use Rattle.match_edits.specs.LiveKernel.{IsLiveKernel}
+use Rattle.match_edits.proofs.Holding.{can_reach, bare_marks}
 use Rattle.match_edits.proofs.LiveKernels.{live_kernel}
 use Rattle.match_edits.proofs.live.Live.kernel.Goals as goal
 
+pub reached_positions-requires : goal.reached_positions-requires
+reached_positions-requires c =
+    let s = c.self.inside in let w = c.self.invariant in let live = live_in s.held s.pairs in
+    let h = bare_marks s.held live w.0 s.pairs s.marks c.in_ok-marks.marks (c.in_ok-marks.ensures ∙ ap (λ (n : ℕ). replicate n false) c.vars.ensures.value) w.1 in
+    record { can = (live, w.0, can_reach s.held live (matching_of w.0 s.pairs c.in_ok-marks.marks) h) }
+
 pub returns-clause-kernel : goal.returns-clause-kernel
 returns-clause-kernel c =
-    let s = c.self.inside in let r = c.in_ok-reached.reached in
-    let reached = subst (λ (ps : List ℕ). IsReached s.held ps s.m r) c.as_slice.ensures c.in_ok-reached.ensures in
-    subst (λ (x : LiveClauses). IsLiveKernel x r.kept) c.self.view_is
-    (live_kernel (record { held = s.held; live = s.live }) r.kept c.self.invariant.positions
-    (c.kernel_reached_law.ensures.kernel s.held s.live s.m r c.well_formed-2.ensures.formula c.well_formed-2.ensures.limits c.self.invariant.positions c.self.invariant.maximum reached))
+    let s = c.self.inside in let w = c.self.invariant in let live = live_in s.held s.pairs in let m = matching_of w.0 s.pairs c.in_ok-marks.marks in
+    let h = bare_marks s.held live w.0 s.pairs s.marks c.in_ok-marks.marks (c.in_ok-marks.ensures ∙ ap (λ (n : ℕ). replicate n false) c.vars.ensures.value) w.1 in
+    IfOk-weaker c.reached_positions.result (AreReached s.held live m) (λ numbers. IsLiveKernel c.args.self.now numbers)
+    (λ kept r. subst (λ (x : LiveClauses). IsLiveKernel x kept) c.self.view_is
+    (live_kernel (record { held = s.held; live = live }) kept h.positions
+    (subst (λ (ks : List ℕ). KernelWithin TheMatching s.held live ks) r.1
+    (c.kernel_reached_law.ensures.kernel s.held live m r.0 c.well_formed-2.ensures.formula c.well_formed-2.ensures.limits h.positions h.maximum r.2))))
+    (c.reached_positions.ensures.reached live w.0 (can_reach s.held live m h))
+
+pub returns-clause-largest : goal.returns-clause-largest
+returns-clause-largest c =
+    let s = c.self.inside in let w = c.self.invariant in let live = live_in s.held s.pairs in let m = matching_of w.0 s.pairs c.in_ok-marks.marks in
+    let h = bare_marks s.held live w.0 s.pairs s.marks c.in_ok-marks.marks (c.in_ok-marks.ensures ∙ ap (λ (n : ℕ). replicate n false) c.vars.ensures.value) w.1 in
+    IfOk-weaker c.reached_positions.result (AreReached s.held live m) (λ numbers. KernelWithin TheMatching c.args.self.now.held c.args.self.now.live numbers)
+    (λ kept r. subst (λ (x : LiveClauses). KernelWithin TheMatching x.held x.live kept) c.self.view_is
+    (subst (λ (ks : List ℕ). KernelWithin TheMatching s.held live ks) r.1
+    (c.kernel_reached_law.ensures.kernel s.held live m r.0 c.well_formed-2.ensures.formula c.well_formed-2.ensures.limits h.positions h.maximum r.2)))
+    (c.reached_positions.ensures.reached live w.0 (can_reach s.held live m h))

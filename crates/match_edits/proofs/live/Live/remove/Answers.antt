@@ -1,128 +1,69 @@
-use Rattle.std.proofs.Common.{arith}
-use Rattle.std.proofs.lemmas.Grind.{common_steps}
-use Rattle.std.proofs.Common.{◌≡◌, ◌≢◌, ◌<◌, ◌==◌, not, filter, List, ℕ, length, get_or, ap, sym, subst, ◌∙◌}
+use Rattle.std.proofs.Common.{◌≡◌, ◌<◌, ◌-◌, List, ℕ, length, get_or, ap, sym, subst, ◌∙◌, true, IsFalse}
 use Rattle.std.specs.List.{remove}
-use Rattle.bipartite_match.specs.declared.matching.Matching.{Matching}
+use Rattle.lk_model.specs.Lists.{among}
+use Rattle.bipartite_match.specs.declared.pairs.Pairs.{Pairs}
 use Rattle.edit_text.specs.LiveClauses.{LiveClauses, with_removed}
-use Rattle.match_edits.specs.Followed.{IsLive}
-use Rattle.match_edits.proofs.Rows.{filter_remove}
+use Rattle.match_edits.specs.Held.{IsLiveBy, live_in}
+use Rattle.match_edits.proofs.Holding.{leaves, drops, gone_as, now_held, is_live, not_live}
+use Rattle.match_edits.proofs.Rooms.{was_live, no_clause}
 use Rattle.match_edits.proofs.live.Live.remove.Goals as goal
 
-pub invariant_of-self : goal.invariant_of-self
-invariant_of-self g c =
-    let s = c.self.inside in let i = c.in-Some.index in
-    let inside : i < length s.live = subst (λ (ps : List ℕ). i < length ps) c.as_slice.ensures c.in-Some.ensures.there.0 in
-    let at : get_or s.live i 0 ≡ c.args.number = subst (λ (ps : List ℕ). get_or ps i 0 ≡ c.args.number) c.as_slice.ensures c.in-Some.ensures.there.1 in
-    let none : get_or s.m.of_clause i 0 ≡ 0 = sym (c.number_at_index.ensures ∙ ap (λ (xs : List ℕ). get_or xs i 0) c.as_slice-2.ensures) ∙ c.if-number_at_index-eq0.true in
-    let w = c.go_unmatched.ensures.matching in
-    subst (λ (ps : List ℕ). IsLive s.held ps c.go_unmatched.new.m) (sym c.go_unmatched.ensures.live)
-    (subst (λ (x : Matching). IsLive s.held (remove s.live i) x) (sym w.3)
-    (c.edit_laws.ensures.unmatched_removed s.held s.live s.m i w.0 c.well_formed-2.ensures.formula c.self.invariant inside none w.1 (w.2 ∙ sym at)))
-
-pub returns-then-number_at_index-eq0-clause-ok : goal.returns-then-number_at_index-eq0-clause-ok
-returns-then-number_at_index-eq0-clause-ok g c =
-    let s = c.self.inside in let i = c.in-Some.index in
-    let inside : i < length s.live = subst (λ (ps : List ℕ). i < length ps) c.as_slice.ensures c.in-Some.ensures.there.0 in
-    let at : get_or s.live i 0 ≡ c.args.number = subst (λ (ps : List ℕ). get_or ps i 0 ≡ c.args.number) c.as_slice.ensures c.in-Some.ensures.there.1 in
-    let live : c.go_unmatched.new.live ≡ filter (λ n. not (n == c.args.number)) s.live =
-    c.go_unmatched.ensures.live ∙ sym (filter_remove 0 (length s.held.clauses) c.args.number s.live i c.self.invariant.positions inside at) in
-    ap (λ (ps : List ℕ). let x : LiveClauses = record { held = s.held; live = ps } in x) live
-    ∙ ap (λ (x : LiveClauses). with_removed x c.args.number) c.self.view_is
+-- A CLAUSE WITH A VARIABLE
 
 pub let_go-requires-clause-restored : goal.let_go-requires-clause-restored
 let_go-requires-clause-restored g c =
-    let s = c.self.inside in let i = c.in-Some.index in
-    let inside : i < length s.live = subst (λ (ps : List ℕ). i < length ps) c.as_slice.ensures c.in-Some.ensures.there.0 in
-    let had : get_or s.m.of_clause i 0 ≢ 0 = λ z. c.if-number_at_index-eq0.false (c.number_at_index.ensures ∙ ap (λ (xs : List ℕ). get_or xs i 0) c.as_slice-2.ensures ∙ z) in
-    c.edit_laws.ensures.matched_removed s.held s.live s.m i c.well_formed-2.ensures.formula c.self.invariant inside had
+    let s = c.self.inside in let w = c.self.invariant in let live = live_in s.held s.pairs in let v = c.in-Some.v in let some = c.in-Some.ensures.some in
+    let l = leaves c.edit_laws.ensures s.held live w.0 s.pairs s.marks v c.args.number c.well_formed-2.ensures.formula w.1 some.0 some.2
+    (sym (ap (λ (xs : List ℕ). get_or xs (v - 1) 0) c.as_slice.ensures) ∙ some.3) in
+    (remove live l.index, remove w.0 l.index, l.restored)
+
+pub invariant_of-self-in-Some : goal.invariant_of-self-in-Some
+invariant_of-self-in-Some g c =
+    let s = c.self.inside in let w = c.self.invariant in let live = live_in s.held s.pairs in let v = c.in-Some.v in let some = c.in-Some.ensures.some in
+    let l = leaves c.edit_laws.ensures s.held live w.0 s.pairs s.marks v c.args.number c.well_formed-2.ensures.formula w.1 some.0 some.2
+    (sym (ap (λ (xs : List ℕ). get_or xs (v - 1) 0) c.as_slice.ensures) ∙ some.3) in
+    now_held s.held (remove live l.index) c.let_go.new.pairs c.let_go.new.marks (c.in_ok-let_go.ensures.live (remove live l.index) (remove w.0 l.index) l.restored)
+
+pub returns-in-Some-clause-ok : goal.returns-in-Some-clause-ok
+returns-in-Some-clause-ok g c =
+    let s = c.self.inside in let w = c.self.invariant in let live = live_in s.held s.pairs in let v = c.in-Some.v in let some = c.in-Some.ensures.some in
+    let l = leaves c.edit_laws.ensures s.held live w.0 s.pairs s.marks v c.args.number c.well_formed-2.ensures.formula w.1 some.0 some.2
+    (sym (ap (λ (xs : List ℕ). get_or xs (v - 1) 0) c.as_slice.ensures) ∙ some.3) in
+    gone_as s.held live c.let_go.new.pairs c.let_go.new.marks c.args.number l.index w.1.positions l.at (c.in_ok-let_go.ensures.live (remove live l.index) (remove w.0 l.index) l.restored)
+    ∙ ap (λ (x : LiveClauses). with_removed x c.args.number) c.self.view_is
+
+pub returns-in-Some-clause-none : goal.returns-in-Some-clause-none
+returns-in-Some-clause-none g c =
+    let s = c.self.inside in let w = c.self.invariant in let live = live_in s.held s.pairs in let v = c.in-Some.v in let some = c.in-Some.ensures.some in
+    let l = leaves c.edit_laws.ensures s.held live w.0 s.pairs s.marks v c.args.number c.well_formed-2.ensures.formula w.1 some.0 some.2
+    (sym (ap (λ (xs : List ℕ). get_or xs (v - 1) 0) c.as_slice.ensures) ∙ some.3) in
+    was_live (among c.args.self.now.live c.args.number) (subst (λ (x : LiveClauses). among x.live c.args.number ≡ true) c.self.view_is (is_live s.held live c.args.number l.index l.at))
+
+-- NO CLAUSE
+
+pub returns-in_default-index_of-clause-none : goal.returns-in_default-index_of-clause-none
+returns-in_default-index_of-clause-none g c =
+    let s = c.self.inside in let w = c.self.invariant in let live = live_in s.held s.pairs in
+    no_clause (among c.args.self.now.live c.args.number) (subst (λ (x : LiveClauses). IsFalse (among x.live c.args.number)) c.self.view_is
+    (not_live s.held live w.0 s.pairs s.marks c.args.number w.1
+    (λ v e is. c.in_default.ensures.none v e (ap (λ (xs : List ℕ). get_or xs (v - 1) 0) c.as_slice.ensures ∙ is))
+    (subst (λ (us : List ℕ). IsFalse (among us c.args.number)) c.as_slice-2.ensures c.in_default-index_of.ensures.none)))
+
+-- A CLAUSE WITHOUT A VARIABLE
+
+pub invariant_of-self-2 : goal.invariant_of-self-2
+invariant_of-self-2 g c =
+    let s = c.self.inside in let w = c.self.invariant in let live = live_in s.held s.pairs in let j = c.in-Some-index_of.index in let there = c.in-Some-index_of.ensures.there in
+    let d = drops c.edit_laws.ensures s.held live w.0 s.pairs s.marks j c.args.number c.well_formed-2.ensures.formula w.1
+    (subst (λ (us : List ℕ). j < length us) c.as_slice-2.ensures there.0) (subst (λ (us : List ℕ). get_or us j 0 ≡ c.args.number) c.as_slice-2.ensures there.1) in
+    now_held s.held (remove live d.index) c.go_unmatched.new.pairs s.marks
+    (subst (λ (x : Pairs). IsLiveBy s.held (remove live d.index) x s.marks) (sym c.go_unmatched.ensures) d.live)
 
 pub returns-clause-ok : goal.returns-clause-ok
 returns-clause-ok g c =
-    let s = c.self.inside in let i = c.in-Some.index in
-    let inside : i < length s.live = subst (λ (ps : List ℕ). i < length ps) c.as_slice.ensures c.in-Some.ensures.there.0 in
-    let at : get_or s.live i 0 ≡ c.args.number = subst (λ (ps : List ℕ). get_or ps i 0 ≡ c.args.number) c.as_slice.ensures c.in-Some.ensures.there.1 in
-    let live : c.let_go.new.live ≡ filter (λ n. not (n == c.args.number)) s.live =
-    c.in_ok-let_go.ensures.ok ∙ sym (filter_remove 0 (length s.held.clauses) c.args.number s.live i c.self.invariant.positions inside at) in
-    ap (λ (ps : List ℕ). let x : LiveClauses = record { held = s.held; live = ps } in x) live
+    let s = c.self.inside in let w = c.self.invariant in let live = live_in s.held s.pairs in let j = c.in-Some-index_of.index in let there = c.in-Some-index_of.ensures.there in
+    let d = drops c.edit_laws.ensures s.held live w.0 s.pairs s.marks j c.args.number c.well_formed-2.ensures.formula w.1
+    (subst (λ (us : List ℕ). j < length us) c.as_slice-2.ensures there.0) (subst (λ (us : List ℕ). get_or us j 0 ≡ c.args.number) c.as_slice-2.ensures there.1) in
+    gone_as s.held live c.go_unmatched.new.pairs s.marks c.args.number d.index w.1.positions d.at
+    (subst (λ (x : Pairs). IsLiveBy s.held (remove live d.index) x s.marks) (sym c.go_unmatched.ensures) d.live)
     ∙ ap (λ (x : LiveClauses). with_removed x c.args.number) c.self.view_is
-
-pub index_of-requires : goal.index_of-requires
-index_of-requires g c = grind (arith, common_steps)
-
-pub returns-in_default-clause-ok : goal.returns-in_default-clause-ok
-returns-in_default-clause-ok g c = grind (arith, common_steps)
-
-pub returns-in_default-clause-err : goal.returns-in_default-clause-err
-returns-in_default-clause-err g c = grind (arith, common_steps)
-
-pub returns-in_default-clause-none : goal.returns-in_default-clause-none
-returns-in_default-clause-none g c = grind (arith, common_steps)
-
-pub returns-in_default-clause-limit : goal.returns-in_default-clause-limit
-returns-in_default-clause-limit g c = grind (arith, common_steps)
-
-pub returns-in_default-clause-steps : goal.returns-in_default-clause-steps
-returns-in_default-clause-steps g c = grind (arith, common_steps)
-
-pub well_formed-requires : goal.well_formed-requires
-well_formed-requires g c = grind (arith, common_steps)
-
-pub edit_laws-requires : goal.edit_laws-requires
-edit_laws-requires g c = grind (arith, common_steps)
-
-pub number_at_index-requires : goal.number_at_index-requires
-number_at_index-requires g c = grind (arith, common_steps)
-
-pub go_unmatched-requires-clause-inside : goal.go_unmatched-requires-clause-inside
-go_unmatched-requires-clause-inside g c = grind (arith, common_steps)
-
-pub go_unmatched-requires-clause-clauses : goal.go_unmatched-requires-clause-clauses
-go_unmatched-requires-clause-clauses g c = grind (arith, common_steps)
-
-pub go_unmatched-requires-clause-unmatched : goal.go_unmatched-requires-clause-unmatched
-go_unmatched-requires-clause-unmatched g c = grind (arith, common_steps)
-
-pub go_unmatched-requires-clause-rises : goal.go_unmatched-requires-clause-rises
-go_unmatched-requires-clause-rises g c = grind (arith, common_steps)
-
-pub returns-then-number_at_index-eq0-clause-err : goal.returns-then-number_at_index-eq0-clause-err
-returns-then-number_at_index-eq0-clause-err g c = grind (arith, common_steps)
-
-pub let_go-requires-clause-inside : goal.let_go-requires-clause-inside
-let_go-requires-clause-inside g c = grind (arith, common_steps)
-
-pub let_go-requires-clause-live : goal.let_go-requires-clause-live
-let_go-requires-clause-live g c = grind (arith, common_steps)
-
-pub let_go-requires-clause-matched : goal.let_go-requires-clause-matched
-let_go-requires-clause-matched g c = grind (arith, common_steps)
-
-pub returns-in_err-let_go-clause-ok : goal.returns-in_err-let_go-clause-ok
-returns-in_err-let_go-clause-ok g c = grind (arith, common_steps)
-
-pub returns-in_err-let_go-clause-err : goal.returns-in_err-let_go-clause-err
-returns-in_err-let_go-clause-err g c = grind (arith, common_steps)
-
-pub returns-in_err-let_go-clause-none : goal.returns-in_err-let_go-clause-none
-returns-in_err-let_go-clause-none g c = grind (arith, common_steps)
-
-pub returns-in_err-let_go-clause-limit : goal.returns-in_err-let_go-clause-limit
-returns-in_err-let_go-clause-limit g c = grind (arith, common_steps)
-
-pub returns-in_err-let_go-clause-steps : goal.returns-in_err-let_go-clause-steps
-returns-in_err-let_go-clause-steps g c = grind (arith, common_steps)
-
-pub invariant_of-self-2 : goal.invariant_of-self-2
-invariant_of-self-2 g c = grind (arith, common_steps)
-
-pub returns-clause-err : goal.returns-clause-err
-returns-clause-err g c = grind (arith, common_steps)
-
-pub returns-clause-none : goal.returns-clause-none
-returns-clause-none g c = grind (arith, common_steps)
-
-pub returns-clause-limit : goal.returns-clause-limit
-returns-clause-limit g c = grind (arith, common_steps)
-
-pub returns-clause-steps : goal.returns-clause-steps
-returns-clause-steps g c = grind (arith, common_steps)
