@@ -4,6 +4,8 @@
 mod activity;
 mod analysis;
 mod decided;
+mod luby;
+mod minimizing;
 mod order;
 mod players;
 mod schedule;

@@ -1,11 +1,12 @@
 //! Searches that alternate.
-ghost use Rattle.std.specs.Prelude.{◌≡◌, ◌+◌, ◌-◌, ◌<◌, ◌≤◌, ◌^◌, ℕ, [], length, IfOk, OnOk};
+ghost use Rattle.std.specs.Prelude.{◌≡◌, ◌≢◌, ◌+◌, ◌-◌, ◌<◌, ◌≤◌, ◌^◌, ℕ, [], length, IfOk, OnOk};
 ghost use Rattle.lk_model.specs.Held.VariableSets.{IsCrossed};
-ghost use Rattle.cdcl_core.specs.Searching.{decided_by};
+ghost use Rattle.cdcl_core.specs.Searching.{IsSearch, decided_by};
 ghost use Rattle.cdcl_core.specs.Players.{AreWithin, IsWithin, IsWonBy, WentOn, WentOnEach};
 
 use crate::activity::Activity;
 use crate::decided::{End, Outcome, decided_by, run};
+use crate::luby::Luby;
 use crate::schedule::{By, Schedule};
 use crate::search::Search;
 use crate::signs::Signs;
@@ -14,6 +15,9 @@ use std::alloc::Global;
 
 /// Beside a search by activity the others learn one clause where it learns so many.
 const SHARE: u64 = 4;
+
+/// A run by activity learns so many clauses, or a multiple of them, if its slice does not end before.
+const SHORTEST_RUN: u64 = 50;
 
 /// Which steps a search may make.
 #[derive(Clone, Copy)]
@@ -158,6 +162,8 @@ pub(crate) struct Player {
     search: Search,
     signs: Signs,
     activity: Activity,
+    /// How long it goes on by activity before it begins anew.
+    luby: Luby,
     /// How many clauses it learns in its first slice.
     first: u64,
     /// Whether it learns less in a slice than one by activity does.
@@ -184,13 +190,14 @@ impl Player {
             search: Search::new(alloc, over, order, next)?,
             signs,
             activity,
+            luby: Luby::new(),
             first: schedule.first,
             is_slow: schedule.is_slow(by),
         })
     }
 
-    /// Searches on, by activity from level 0, until so many clauses are learned in all, or fewer if it is slow. Where a
-    /// further one would be learned, it pauses.
+    /// Searches on until so many clauses are learned in all, or fewer if it is slow. Where a further one would be
+    /// learned, it pauses.
     fn go_on(
         &mut self,
         alloc: Global,
@@ -204,23 +211,47 @@ impl Player {
         requires room { bounds.next + bounds.budget < 2 ^ 64 - 1 }
         ensures { IfOk result (WentOn over.now bounds.next pause bounds.budget self.new.search) }
     {
-        if !self.activity.is_empty() {
-            self.search
-                .begin_anew(over, &mut self.signs, &mut self.activity);
-        }
         let until = self.until(pause, bounds.budget);
-        match run(
-            &mut self.search,
-            alloc,
-            over,
-            &mut self.signs,
-            &mut self.activity,
-            until,
-        )? {
-            End::Model(values) => Ok(Some(End::Model(values))),
-            End::Empty => Ok(Some(End::Empty)),
-            End::Full => Ok(None),
+        'runs: loop {
+            let stop = self.begin_run(over, until);
+            match run(
+                &mut self.search,
+                alloc,
+                over,
+                &mut self.signs,
+                &mut self.activity,
+                stop,
+            )? {
+                End::Model(values) => return Ok(Some(End::Model(values))),
+                End::Empty => return Ok(Some(End::Empty)),
+                End::Full => {
+                    if stop == until {
+                        return Ok(None);
+                    }
+                }
+            }
         }
+    }
+
+    /// How many clauses are learned in all when its next run ends, by `until` at the latest. By activity each run
+    /// begins at level 0.
+    fn begin_run(&mut self, over: &Crossed, until: u64) -> u64
+        requires search { IsSearch over.now self.old.search }
+        requires few { length self.old.search.log.steps ≤ until }
+        ensures search { IsSearch over.now self.new.search }
+        ensures log { self.new.search.log ≡ self.old.search.log }
+        ensures few { length self.new.search.log.steps ≤ result }
+        ensures most { result ≤ until }
+        ensures more { result ≢ until → length self.new.search.log.steps < result }
+    {
+        if self.activity.is_empty() {
+            return until;
+        }
+        self.search
+            .begin_anew(over, &mut self.signs, &mut self.activity);
+        let length = self.luby.next().saturating_mul(SHORTEST_RUN).max(1);
+        let learned = self.search.log.len() as u64;
+        learned.saturating_add(length).min(until)
     }
 
     /// How many clauses are learned when it pauses.

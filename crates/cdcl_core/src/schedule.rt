@@ -33,7 +33,7 @@ pub enum By {
     Connection,
     /// That of how often they occur, with the values that they last had.
     Occurrences,
-    /// That of what they had to do with conflicts, with the values that they last had. Each slice begins at level 0, with
+    /// That of what they had to do with conflicts, with the values that they last had. Each run begins at level 0, with
     /// all that is learned.
     Activity,
 }
@@ -114,38 +114,39 @@ impl Schedule {
         }
     }
 
-    /// A schedule of all three orders: that of the occurrences begins. They have the usual lengths, and no values are kept.
-    pub fn of_all_orders() -> Schedule
+    /// The schedule for refutations that name few clauses: the occurrences, which begin, the connection and the activity.
+    /// They have the usual lengths, and no values are kept.
+    pub fn for_cores() -> Schedule
         ensures by { result.by ≡ By.Occurrences }
-        ensures second { result.second ≡ By.Number }
-        ensures third { result.third ≡ Some By.Connection }
+        ensures second { result.second ≡ By.Connection }
+        ensures third { result.third ≡ Some By.Activity }
         ensures first { result.first ≡ 512 }
         ensures further { result.further ≡ 512 }
     {
         Schedule {
             by: By::Occurrences,
-            second: By::Number,
-            third: Some(By::Connection),
+            second: By::Connection,
+            third: Some(By::Activity),
             first: FIRST_SLICE,
             further: FURTHER_SLICES,
             kept: None,
         }
     }
 
-    /// A schedule of all three orders, of these lengths, that keep values of variables up to n: that of the occurrences begins.
-    /// All orders decide with the last values, and each begins with those that are kept: true at first, and then those of
-    /// the search that answered the call before.
+    /// The orders of `for_cores`, of these lengths, that keep values of variables up to n. All orders decide with the last values,
+    /// and each begins with those that are kept: true at first, and then those of the search that answered the call
+    /// before.
     pub fn keeping(alloc: Global, n: u32, first: u64, further: u64) -> Result<Schedule, OutOfMemory>
         ensures by { IfOk result (λ schedule. schedule.by ≡ By.Occurrences) }
-        ensures second { IfOk result (λ schedule. schedule.second ≡ By.Number) }
-        ensures third { IfOk result (λ schedule. schedule.third ≡ Some By.Connection) }
+        ensures second { IfOk result (λ schedule. schedule.second ≡ By.Connection) }
+        ensures third { IfOk result (λ schedule. schedule.third ≡ Some By.Activity) }
         ensures first { IfOk result (λ schedule. schedule.first ≡ first) }
         ensures further { IfOk result (λ schedule. schedule.further ≡ further) }
     {
         Ok(Schedule {
             by: By::Occurrences,
-            second: By::Number,
-            third: Some(By::Connection),
+            second: By::Connection,
+            third: Some(By::Activity),
             first,
             further,
             kept: Some(vec![in alloc; true; n as usize + 1]?),

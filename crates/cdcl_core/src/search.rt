@@ -17,6 +17,7 @@ ghost use Rattle.cdcl_core.specs.Searching.{IsSearch};
 
 use crate::activity::Activity;
 use crate::analysis::{analyze, level_below};
+use crate::minimizing::turns_back;
 use crate::order::Order;
 use crate::signs::Signs;
 use lk_model::{Crossed, Lit, OutOfMemory, VarSet};
@@ -123,7 +124,8 @@ impl Search {
         ensures steps { OnOk result (length self.new.log.steps ≡ length self.old.log.steps + 1) }
         ensures vars { OnOk result (self.new.propagator.vars ≡ self.old.propagator.vars) }
     {
-        let turns = analyze(alloc, &self.propagator, conflict, &mut self.marks)?;
+        let shorter = !activity.is_empty();
+        let turns = turns_back(alloc, &self.propagator, conflict, shorter, &mut self.marks)?;
         let number = self.log.push_chain(over, conflict, &turns)?;
         let clause = self.log.last_clause();
         self.marks.remove_clause(clause);

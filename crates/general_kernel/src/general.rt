@@ -5,8 +5,8 @@
 //! 2000). So refutations one by one, each over the clauses without the variables of those before, end at the largest
 //! lean set.
 //!
-//! What unit propagation alone refutes comes first in each round, and then what short clauses refute. Only where
-//! neither does, all clauses of the part are searched, by orders of the variables that alternate; the one that
+//! What unit propagation alone refutes comes first in each round, and then what the clauses around one refute. Only
+//! where neither is found, all clauses of the part are searched, by orders of the variables that alternate; the one that
 //! answered begins in the next such search. A refutation is kept with what it uses of it, so that the kernel can be
 //! checked without a search.
 ghost use Rattle.std.specs.Prelude.{◌≡◌, ◌<◌, ◌^◌, length, IfOk, IsTrue};
@@ -19,15 +19,16 @@ ghost use Rattle.general_kernel.specs.SetLiterals.{literals_on};
 ghost use Rattle.unit_refutations.specs.Standing.{IsKept, IsWithin};
 
 use crate::blocking::{covered, is_covered};
+use crate::near::{Nearby, refute_near};
 use crate::rounds::Rounds;
 use crate::setting::literals_on;
-use crate::short::{ShortRefutation, refute_short};
 use cdcl_core::{Schedule, decide_by_schedule};
 use lk_model::{
     Budget, Crossed, Decided, Formula, General, GeneralResult, List, Lit, OutOfMemory, Round,
     VarSet,
 };
 use partial_assign::Partial;
+use round_replay::Replayed;
 use std::alloc::Global;
 use unit_refutations::{UnitRefutation, Units};
 
@@ -72,8 +73,17 @@ fn run(alloc: Global, f: &Formula, part: &[u32], rounds: &mut Rounds) -> Result<
     ensures { IfOk result (EndsRounds f.now part.now rounds.old.budget rounds.new) }
 {
     let mut units = Units::new(alloc, f, part)?;
+    let mut nearby = Nearby::new(alloc, f, part)?;
     let mut schedule = Schedule::new();
-    round_after_round(alloc, f, part, &mut units, &mut schedule, rounds)
+    round_after_round(
+        alloc,
+        f,
+        part,
+        &mut units,
+        &mut nearby,
+        &mut schedule,
+        rounds,
+    )
 }
 
 // Round after round. What unit propagation alone refutes comes first: it learns nothing, and costs what it uses.
@@ -82,6 +92,7 @@ fn round_after_round(
     f: &Formula,
     part: &[u32],
     units: &mut Units,
+    nearby: &mut Nearby,
     schedule: &mut Schedule,
     rounds: &mut Rounds,
 ) -> Result<End, OutOfMemory>
@@ -93,7 +104,7 @@ fn round_after_round(
     requires within { IsWithin part.now units.old }
     ensures { IfOk result (EndsRounds f.now part.now rounds.old.budget rounds.new) }
 {
-    let mut again = 0;
+    let mut open = 0;
     'rounds: loop {
         let over = Crossed {
             formula: f,
@@ -105,7 +116,7 @@ fn round_after_round(
             units.block(f, used.as_slice(), &mut rounds.blocked)?;
             continue 'rounds;
         }
-        if is_covered(f, part, &rounds.blocked) {
+        if is_covered(f, part, &rounds.blocked, &mut open) {
             let kept = covered(alloc, f, part, &rounds.blocked)?;
             let set = List::new(alloc);
             return Ok(End::Kernel { kept, set });
@@ -114,20 +125,19 @@ fn round_after_round(
             let steps = List::new(alloc);
             return Ok(End::Open(Round { steps }));
         }
-        let so_far = rounds.logs.len();
-        if let Some(ShortRefutation { round: short, used }) = refute_short(
+        if let Some(Replayed { round: near, used }) = refute_near(
             alloc,
             &over,
             units,
+            nearby,
             rounds.next,
             rounds.budget,
-            so_far,
-            &mut again,
         )? {
-            rounds.push_round(alloc, short)?;
+            rounds.push_round(alloc, near)?;
             units.block(f, used.as_slice(), &mut rounds.blocked)?;
             continue 'rounds;
         }
+        nearby.note_whole(part);
         match decide_by_schedule(alloc, &over, schedule, rounds.next, rounds.budget)? {
             Decided::Model(values) => {
                 let kept = covered(alloc, f, part, &rounds.blocked)?;

@@ -2,9 +2,10 @@
 #![tactic(auto)]
 
 mod blocking;
+mod copied;
 mod general;
+mod near;
 mod rounds;
 mod setting;
-mod short;
 
 pub use general::{general_kernel, set_of};

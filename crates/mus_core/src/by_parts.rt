@@ -104,7 +104,7 @@ fn tell_decided(
     requires { IsCopy of.now }
     ensures { IfOk result (IsDecidedFor of.now.formula.now conflicts of.now.part.now) }
 {
-    match decide_copy(alloc, of, &mut Schedule::of_all_orders(), conflicts)? {
+    match decide_copy(alloc, of, &mut Schedule::for_cores(), conflicts)? {
         Decided::Model(set) => {
             let renaming = Renaming {
                 positions: of.part.len() as u64,

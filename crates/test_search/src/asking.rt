@@ -25,9 +25,11 @@ pub(crate) enum Way {
     Activity { first: u64, further: u64 },
     /// By the usual three, which alternate.
     WithActivity { first: u64, further: u64 },
-    /// By all three, which alternate.
+    /// By the three for cores, which alternate.
+    Cores { first: u64, further: u64 },
+    /// By the occurrences, the numbers and the connection, which alternate.
     All { first: u64, further: u64 },
-    /// By all three, which keep values, and then again with these: the second answer.
+    /// By the schedule that keeps values, and then again with these: the second answer.
     Twice { first: u64, further: u64 },
 }
 
@@ -39,6 +41,7 @@ impl Way {
             Way::Schedule { first, further }
             | Way::Activity { first, further }
             | Way::WithActivity { first, further }
+            | Way::Cores { first, further }
             | Way::All { first, further }
             | Way::Twice { first, further } => (first, further),
         }
@@ -73,7 +76,7 @@ fn decide_by_one(
     decide_by(alloc, over, order, &mut signs, next, budget)
 }
 
-/// Decides by all orders, which keep values, and then again with these.
+/// Decides by orders that keep values, and then again with these.
 fn decide_twice(
     alloc: Global,
     over: &Crossed,
@@ -130,8 +133,16 @@ fn ask(
             schedule.further = further;
             decide_by_schedule(alloc, over, &mut schedule, next, budget)
         }
+        Way::Cores { first, further } => {
+            let mut schedule = Schedule::for_cores();
+            schedule.first = first;
+            schedule.further = further;
+            decide_by_schedule(alloc, over, &mut schedule, next, budget)
+        }
         Way::All { first, further } => {
-            let mut schedule = Schedule::of_all_orders();
+            let mut schedule = Schedule::for_cores();
+            schedule.second = By::Number;
+            schedule.third = Some(By::Connection);
             schedule.first = first;
             schedule.further = further;
             decide_by_schedule(alloc, over, &mut schedule, next, budget)

@@ -17,7 +17,7 @@ pub(crate) const USUAL: [Way; 2] = [
     },
 ];
 
-/// All orders by themselves, as they alternate.
+/// The orders without scores by themselves, as they alternate.
 pub(crate) const ALL: [Way; 3] = [
     Way::One {
         by: By::Occurrences,

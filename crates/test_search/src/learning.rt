@@ -4,9 +4,9 @@
 //!
 //! A line is one of
 //!
-//!     case | NAME | VARS | CLAUSES | PART | BLOCKED | NEXT | BUDGET
+//!     case | NAME | VARS | CLAUSES | PART | BLOCKED | NEXT | BUDGET | WAY
 //!     budgets | NAME | VARS | CLAUSES
-//!     pigeons | HOLES | BUDGET
+//!     pigeons | HOLES | BUDGET | WAY
 //!     chain | LENGTH
 //!     drawn | SEED | COUNT | WAY
 //!     orders | NAME | VARS | CLAUSES | PART | BLOCKED
@@ -35,16 +35,23 @@ use std::test::Fail;
 fn put_asked(
     alloc: Global,
     asked: &Asked,
+    way: Way,
     next: u64,
     budget: u32,
     out: &mut String,
 ) -> Result<(), Fail> {
-    let decided = answer(alloc, asked, Way::Usual, next, u64::from(budget))?;
+    let decided = answer(alloc, asked, way, next, u64::from(budget))?;
     put_decided(alloc, asked, next, decided, out)
 }
 
 /// Decides a whole formula with these budgets, with steps numbered from past its positions.
-fn put_whole(alloc: Global, f: &Formula, budgets: &[u32], out: &mut String) -> Result<(), Fail> {
+fn put_whole(
+    alloc: Global,
+    f: &Formula,
+    way: Way,
+    budgets: &[u32],
+    out: &mut String,
+) -> Result<(), Fail> {
     let part = part_of_text(alloc, f, "")?;
     let asked = Asked {
         formula: f,
@@ -52,7 +59,7 @@ fn put_whole(alloc: Global, f: &Formula, budgets: &[u32], out: &mut String) -> R
         blocked: &[],
     };
     for budget in budgets {
-        put_asked(alloc, &asked, u64::from(f.len()) + 1, *budget, out)?;
+        put_asked(alloc, &asked, way, u64::from(f.len()) + 1, *budget, out)?;
     }
     Ok(())
 }
@@ -67,7 +74,8 @@ fn put_part(
 ) -> Result<(), Fail> {
     let (part, text) = part_of(text);
     let (blocked, text) = part_of(text);
-    let (next, budget) = part_of(text);
+    let (next, text) = part_of(text);
+    let (budget, way) = part_of(text);
     let part = part_of_text(alloc, f, part)?;
     let blocked = numbers_of_text(alloc, blocked)?;
     let asked = Asked {
@@ -81,6 +89,7 @@ fn put_part(
     put_asked(
         alloc,
         &asked,
+        way_of(way.trim()),
         u64::from(number_of(next)),
         number_of(budget),
         out,
@@ -95,7 +104,7 @@ fn put_case(alloc: Global, kind: &str, text: &str, out: &mut String) -> Result<(
     writeln!(out, "== {}", name.trim())?;
     let f = formula_of_text(alloc, number_of(vars), clauses)?;
     if kind == "budgets" {
-        return put_whole(alloc, &f, &[1, 2, 3, 4, 5, 6, 7, 8, 9], out);
+        return put_whole(alloc, &f, Way::Usual, &[1, 2, 3, 4, 5, 6, 7, 8, 9], out);
     }
     put_part(alloc, kind, &f, text, out)
 }
@@ -107,12 +116,13 @@ fn pigeons_of(alloc: Global, holes: u32) -> Result<Formula, Fail> {
     formula_of_text(alloc, vars, clauses.as_str())
 }
 
-/// Decides a formula of pigeons: `HOLES | BUDGET`.
+/// Decides a formula of pigeons: `HOLES | BUDGET | WAY`.
 fn put_pigeons(alloc: Global, text: &str, out: &mut String) -> Result<(), Fail> {
-    let (holes, budget) = part_of(text);
+    let (holes, text) = part_of(text);
+    let (budget, way) = part_of(text);
     writeln!(out, "== one pigeon more than {} holes", holes.trim())?;
     let f = pigeons_of(alloc, number_of(holes))?;
-    put_whole(alloc, &f, &[number_of(budget)], out)
+    put_whole(alloc, &f, way_of(way.trim()), &[number_of(budget)], out)
 }
 
 /// Decides a chain of implications.
@@ -120,7 +130,7 @@ fn put_chain(alloc: Global, text: &str, out: &mut String) -> Result<(), Fail> {
     writeln!(out, "== a chain of {} implications", text.trim())?;
     let clauses = implications(alloc, number_of(text))?;
     let f = formula_of_text(alloc, number_of(text), clauses.as_str())?;
-    put_whole(alloc, &f, &[1], out)
+    put_whole(alloc, &f, Way::Usual, &[1], out)
 }
 
 /// The way that a text has.
@@ -144,6 +154,7 @@ pub(crate) fn way_of(text: &str) -> Way {
         },
         "both" => Way::Schedule { first, further },
         "activity" => Way::Activity { first, further },
+        "cores" => Way::Cores { first, further },
         "usual" => Way::WithActivity { first, further },
         "all" => Way::All { first, further },
         "twice" => Way::Twice { first, further },
@@ -234,7 +245,7 @@ fn put_formulas(
     Ok(())
 }
 
-/// Decides formulas by orders that keep values: `NAME | VARS | FIRST | FURTHER | BUDGET | CLAUSES | CLAUSES ..`.
+/// Decides formulas by the occurrences, the numbers and the connection, which keep values: `NAME | VARS | FIRST | FURTHER | BUDGET | CLAUSES | CLAUSES ..`.
 fn put_kept(alloc: Global, text: &str, out: &mut String) -> Result<(), Fail> {
     let (name, text) = part_of(text);
     let (vars, text) = part_of(text);
@@ -245,6 +256,8 @@ fn put_kept(alloc: Global, text: &str, out: &mut String) -> Result<(), Fail> {
     let n = number_of(vars);
     let (first, further) = (u64::from(number_of(first)), u64::from(number_of(further)));
     let mut schedule = Schedule::keeping(alloc, n, first, further)?;
+    schedule.second = By::Number;
+    schedule.third = Some(By::Connection);
     put_formulas(alloc, n, &mut schedule, number_of(budget), formulas, out)
 }
 

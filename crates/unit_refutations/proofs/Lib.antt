@@ -1,5 +1,4 @@
 mod Plans
-mod Some
 mod NoneContained
 mod Crossings
 mod Demands

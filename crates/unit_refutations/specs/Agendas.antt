@@ -1,7 +1,6 @@
 -- The clauses that wait to be looked at.
 use Rattle.std.specs.Prelude.{◌≡◌, ℕ, Bool, List, length, IsTrue}
 use Rattle.std.specs.List.{list_all}
-use Rattle.lk_model.specs.Lists.{among, rises_within}
 use Rattle.lk_model.specs.Held.VariableSets.{is_in}
 use Rattle.unit_refutations.specs.declared.agenda.Agenda.TheInside.{Inside}
 
@@ -13,8 +12,3 @@ pub record Planned : Type 0 where
 pub record IsPlan (a : Inside) : Type 0 where
   pub counts : length a.counts.items ≡ length a.inside.items
   pub waiting : IsTrue (list_all (is_in a.inside.items) a.waiting.items)
-
--- positions up to a bound, ascending, of some others
-pub record AreSomeOf (bound : ℕ) (part ps : List ℕ) : Type 0 where
-  pub rises : IsTrue (rises_within 0 bound ps)
-  pub within : (position : ℕ) → IsTrue (among ps position) → IsTrue (among part position)

@@ -9,9 +9,8 @@ ghost use Rattle.std.specs.Prelude.{IfOk, IfSome, OnOk, IsTrue};
 ghost use Rattle.lk_model.specs.Lists.{among, rises_within};
 ghost use Rattle.lk_model.specs.Formulas.Lean.{are_positions};
 ghost use Rattle.lk_model.specs.Held.VariableSets.{is_in, with_variable};
-ghost use Rattle.unit_refutations.specs.Agendas.{AreSomeOf};
 
-use lk_model::{Formula, List, OutOfMemory};
+use lk_model::{Formula, OutOfMemory};
 use std::alloc::Global;
 use std::collections::VecDeque;
 use std::marker::Model;
@@ -50,15 +49,6 @@ impl Count {
     // Whether the clause may ask for something.
     fn asks(&self) -> bool {
         self.holding == 0 && self.unset <= 1
-    }
-
-    // Whether the clause may ask for something once a variable is set, or may have forced its only true literal.
-    fn is_short(&self) -> bool {
-        match self.holding {
-            0 => self.unset == 2,
-            1 => self.unset == 0,
-            _ => false,
-        }
     }
 }
 
@@ -155,26 +145,25 @@ impl Agenda {
         Ok(())
     }
 
-    /// Those of some positions at whose clauses all literals but two are false, or all but a true one.
-    pub fn short(&self, alloc: Global, part: &[u32]) -> Result<List<u32>, OutOfMemory>
-        requires { IsTrue (rises_within 0 (length self.now.inside) part.now) }
-        ensures { IfOk result (AreSomeOf (length self.now.inside) part.now) }
-    {
-        let mut positions = List::new(alloc);
-        for position in part {
-            if self.is_short(*position) {
-                positions.push(*position)?;
-            }
-        }
-        Ok(positions)
-    }
-
-    // Whether the counts say so of the clause at a position.
-    fn is_short(&self, position: u32) -> bool
+    /// Whether the clause at a position is inside.
+    pub fn has(&self, position: u32) -> bool
         requires first { 0 < position }
         requires last { position ≤ length self.now.inside }
+        ensures { result ≡ is_in self.now.inside position }
     {
-        self.counts[position as usize - 1].is_short()
+        self.inside[position as usize - 1]
+    }
+
+    /// How many literals of the clause at a position are unset, where it is inside and none is true.
+    pub fn unset_at(&self, position: u32) -> Option<u32> {
+        let place = (position as usize).checked_sub(1)?;
+        let count = self.counts.get(place).copied()?;
+        let inside = self.inside.get(place).copied()?;
+        if inside && count.holding == 0 {
+            Some(count.unset)
+        } else {
+            None
+        }
     }
 
     /// The next clause that waits, which waits no more.

@@ -2,6 +2,7 @@
 #![tactic(auto)]
 
 mod agenda;
+mod around;
 mod chain;
 mod containing;
 mod looking;
@@ -9,4 +10,5 @@ mod pending;
 mod trail;
 mod units;
 
+pub use around::Around;
 pub use units::{UnitRefutation, Units};

@@ -77,6 +77,12 @@ impl Trail {
         self.reasons[place]
     }
 
+    /// The position of the clause that forced a literal, where it is true.
+    pub fn reason_of(&self, l: Lit) -> Option<u32> {
+        let place = self.places.as_slice().get(l.rank()).copied()??;
+        self.reasons.get(place).copied()
+    }
+
     /// Makes a literal true that the clause at a position forces.
     pub fn put(&mut self, l: Lit, position: u32) -> Result<(), OutOfMemory>
         requires { rank_of l < length self.old.places }

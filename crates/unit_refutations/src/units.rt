@@ -12,7 +12,6 @@ ghost use Rattle.lk_model.specs.Formulas.Literal.{complement, is_literal, mentio
 ghost use Rattle.lk_model.specs.Formulas.Formula.{clause_at, variable_occurs};
 ghost use Rattle.lk_model.specs.Formulas.Lean.{are_positions};
 ghost use Rattle.lk_model.specs.Held.VariableSets.{is_in, IsCrossed};
-ghost use Rattle.unit_refutations.specs.Agendas.{AreSomeOf};
 ghost use Rattle.unit_refutations.specs.Contained.{contains_none};
 ghost use Rattle.unit_refutations.specs.Standing.{AreRanges, IsKept, IsWithin, IsFalseAt, IsFoundAt, IsAnswer};
 ghost use Rattle.unit_refutations.specs.Standing.{are_between};
@@ -79,14 +78,19 @@ impl Units {
         }
     }
 
-    /// Positions of the part, ascending: those at whose clauses propagation leaves two literals unset and makes no
-    /// other one true, and those that force a literal. No clause says which they are.
-    pub fn short(&self, alloc: Global, over: &Crossed) -> Result<List<u32>, OutOfMemory>
-        requires crossed { IsCrossed over.now }
-        requires kept { IsKept over.now.formula.now over.now.blocked.now self.now }
-        ensures { IfOk result (AreSomeOf (length over.now.formula.now.clauses) over.now.part.now) }
+    /// Whether the clause at a position is inside.
+    pub fn has(&self, position: u32) -> bool
+        requires first { 0 < position }
+        requires last { position ≤ length self.now.agenda.inside }
+        ensures { result ≡ is_in self.now.agenda.inside position }
     {
-        self.agenda.short(alloc, over.part)
+        self.agenda.has(position)
+    }
+
+    /// How many literals of the clause at a position are unset, where it is inside and propagation makes none true. No
+    /// clause says so.
+    pub fn unset_at(&self, position: u32) -> Option<u32> {
+        self.agenda.unset_at(position)
     }
 
     /// Whether a clause contains no crossed clause of the part that is not empty. It is not said that it answers true

@@ -4,10 +4,10 @@ use Rattle.lk_model.specs.Held.VariableSets.{is_in}
 use Rattle.lk_model.specs.declared.document.Step.{Step}
 use Rattle.unit_refutations.specs.Standing.{are_between}
 use Rattle.unit_refutations.specs.declared.units.UnitRefutation.{UnitRefutation}
-use Rattle.general_kernel.specs.declared.short.ShortRefutation.{ShortRefutation}
+use Rattle.round_replay.specs.declared.replays.Replayed.{Replayed}
 use Rattle.general_kernel.specs.TrimmedRounds.{rounds_of}
 use Rattle.general_kernel.proofs.States.{begins}
-use Rattle.general_kernel.proofs.ShortRounds.{short_answered, short_log, short_round, covered_all, not_covered}
+use Rattle.general_kernel.proofs.NearRounds.{near_answered, near_log, near_between, near_round, covered_all, not_covered}
 use Rattle.general_kernel.proofs.NextRounds.{all_covered, model_ends, used_rise, next_round, none_left, stops}
 use Rattle.general_kernel.proofs.UnitRounds.{answered, unit_log, unit_between, rise_between, unit_round, within_same}
 use Rattle.general_kernel.proofs.general.round_after_round.Goals as goal
@@ -89,23 +89,22 @@ returns-then-rounds-eq0 c =
 
 pub push_round-requires-in-Some-2-clause-log : goal.push_round-requires-in-Some-2-clause-log
 push_round-requires-in-Some-2-clause-log c =
-    let r : ShortRefutation = c.in-Some-2.field-0 in
-    short_log _ c.args.rounds.now.budget c.rounds.rounds r c.requires.most (short_answered _ _ _ _ r c.in_ok-short.ensures c.in-Some-2.is) c.rounds.invariant.at
+    let r : Replayed = c.in-Some-2.field-0 in
+    near_log _ c.args.rounds.now.budget c.rounds.rounds r c.requires.most (near_answered _ _ _ _ r c.in_ok-near.ensures c.in-Some-2.is) c.rounds.invariant.at
 
 pub block-requires-in-Some-2-clause-positions : goal.block-requires-in-Some-2-clause-positions
 block-requires-in-Some-2-clause-positions c =
-    let r : ShortRefutation = c.in-Some-2.field-0 in
-    let short = short_answered _ _ _ _ r c.in_ok-short.ensures c.in-Some-2.is in
-    rise_between c.args.f.now c.as_slice-in-Some-2.result.now
-    (used_rise c.args.f.now (record { steps = r.round.steps }) c.as_slice-in-Some-2.result.now (c.as_slice-in-Some-2.ensures ∙ short.used))
+    let r : Replayed = c.in-Some-2.field-0 in
+    subst (λ (ps : List ℕ). are_between c.args.f.now ps ≡ true) (sym c.as_slice-in-Some-2.ensures)
+    (near_between _ _ _ r (near_answered _ _ _ _ r c.in_ok-near.ensures c.in-Some-2.is))
 
 pub rounds-smaller-in-Some-2 : goal.rounds-smaller-in-Some-2
 rounds-smaller-in-Some-2 c =
     let e = c.in_ok-push_round-2.ensures in
     let b = c.in_ok-block-2.ensures in
-    let r : ShortRefutation = c.in-Some-2.field-0 in
-    let after = short_round c.args.f.now c.args.part.now c.args.rounds.now.budget c.rounds.rounds (record c.push_round-in-Some-2.new.self { blocked = c.block-in-Some-2.new.blocked }) r
-    (record { over = _; refuted = short_answered _ _ _ _ r c.in_ok-short.ensures c.in-Some-2.is; formula = refl; positions = refl; blocked = refl }) c.requires.most c.requires.part c.rounds.invariant.at
+    let r : Replayed = c.in-Some-2.field-0 in
+    let after = near_round c.args.f.now c.args.part.now c.args.rounds.now.budget c.rounds.rounds (record c.push_round-in-Some-2.new.self { blocked = c.block-in-Some-2.new.blocked }) r
+    (record { over = _; refuted = near_answered _ _ _ _ r c.in_ok-near.ensures c.in-Some-2.is; formula = refl; positions = refl; blocked = refl }) c.requires.most c.requires.part c.rounds.invariant.at
     (record {
       first = e.first;
       logs = e.logs;
@@ -121,9 +120,9 @@ pub rounds-preserved-in-Some-2 : goal.rounds-preserved-in-Some-2
 rounds-preserved-in-Some-2 c =
     let e = c.in_ok-push_round-2.ensures in
     let b = c.in_ok-block-2.ensures in
-    let r : ShortRefutation = c.in-Some-2.field-0 in
-    let after = short_round c.args.f.now c.args.part.now c.args.rounds.now.budget c.rounds.rounds _ r
-    (record { over = _; refuted = short_answered _ _ _ _ r c.in_ok-short.ensures c.in-Some-2.is; formula = refl; positions = refl; blocked = refl }) c.requires.most c.requires.part c.rounds.invariant.at
+    let r : Replayed = c.in-Some-2.field-0 in
+    let after = near_round c.args.f.now c.args.part.now c.args.rounds.now.budget c.rounds.rounds _ r
+    (record { over = _; refuted = near_answered _ _ _ _ r c.in_ok-near.ensures c.in-Some-2.is; formula = refl; positions = refl; blocked = refl }) c.requires.most c.requires.part c.rounds.invariant.at
     (record {
       first = e.first;
       logs = e.logs;
