@@ -343,6 +343,17 @@ def removed_in_order(n):
     return cnf(n, [[i] for i in range(1, n + 1)]), "".join(f"d {i}\n" for i in range(1, n + 1))
 
 
+def removed_in_drawn_order(n):
+    """The same clauses, in an order that is drawn."""
+    return removed_in_order(n)[0], "".join(f"d {i}\n" for i in random.Random(1).sample(range(1, n + 1), n))
+
+
+def removed_beside_unmatched(n):
+    """One clause stands twice, so that each removal of another one, the last one first, takes a search."""
+    rows = [[i] for i in range(1, n + 1)] + [[1]]
+    return cnf(n, rows), "".join(f"d {i}\n" for i in range(n, 1, -1))
+
+
 EDITS = [(added_over_many_variables, 100000), (path_taken_anew, 8000), (drawn_edits, 40000), (removed_in_order, 100000)]
 
 
@@ -363,6 +374,21 @@ def joined_cubes(n):
     """n times eight clauses over three variables, each tied to the next."""
     rows = [clause for a in range(1, 3 * n, 3) for clause in signed((a, a + 1, a + 2))]
     return cnf(3 * n, rows + [[-a, a + 3] for a in range(1, 3 * n - 3, 3)])
+
+
+def search_beside_a_chain(n):
+    """Drawn clauses over 200 variables, tied to n variables that a unit forces one after another."""
+    _, rows = random_three(random.Random(1), 200)
+    chain = [[201]] + [[-v, v + 1] for v in range(201, 200 + n)] + [[-(200 + n), 1, 2, 3]]
+    return cnf(200 + n, rows + chain)
+
+
+def square_over_reasons(n):
+    """A square with n more literals in one clause, which n clauses of 100 literals make false."""
+    a, b = 101 * n + 1, 101 * n + 2
+    rows = [[a, b] + [-(100 * n + i) for i in range(1, n + 1)], [a, -b], [-a, b], [-a, -b]]
+    rows += [[100 * n + i] + [-v for v in range(100 * (i - 1) + 1, 100 * i + 1)] for i in range(1, n + 1)]
+    return cnf(b, rows + [[v] for v in range(1, 100 * n + 1)])
 
 
 def sign_patterns(n):
@@ -514,6 +540,92 @@ def model_with_repeats(n):
     return cnf(1, [[1]]), document, "v" + " 1" * n + " 0\n"
 
 
+def pigeons_many_ways(n):
+    """n parts, each of four pigeons in three holes."""
+    head, rows = pigeons(3).split("\n", 1)
+    variables, clauses = map(int, head.split()[2:])
+    clauses_of = [[int(w) for w in line.split()[:-1]] for line in rows.splitlines()]
+    moved = [[l + (k * variables if l > 0 else -k * variables) for l in c] for k in range(n) for c in clauses_of]
+    return variables * n, moved
+
+
+def parts_of_pigeons(n):
+    return cnf(*pigeons_many_ways(n))
+
+
+def joined_pigeons(n):
+    """The same, each tied to the next."""
+    variables, rows = pigeons_many_ways(n)
+    return cnf(variables, rows + [[-v, v + 12] for v in range(1, variables - 12, 12)])
+
+
+def pigeons_beside_pairs(n):
+    """Pigeons in five holes, and n squares of pairs of variables without a clause."""
+    head, rows = pigeons(5).split("\n", 1)
+    variables, clauses = map(int, head.split()[2:])
+    squares = many_parts(n).split("\n", 1)[1]
+    moved = "".join(" ".join(str(l + (variables if l > 0 else -variables if l else 0)) for l in map(int, line.split())) + "\n"
+                    for line in squares.splitlines())
+    return f"p cnf {variables + 2 * n} {clauses + 3 * n}\n" + rows + moved
+
+
+def long_clauses_one_by_one(n):
+    """Each clause forces its variable, once those before are true; the last one forbids all."""
+    return cnf(n, [[-v for v in range(1, i)] + [i] for i in range(1, n + 1)] + [[-v for v in range(1, n + 1)]])
+
+
+def no_text(_):
+    """Nothing is read."""
+    return ()
+
+
+def rows_with_one_escape(n):
+    """A unit of each of n variables, and a clause of all of them, the escape of each."""
+    rows = [[v] for v in range(1, n + 1)] + [list(range(1, n + 1))]
+    kept = " ".join(str(p) for p in range(1, n + 2))
+    head = f"c leank 1 matching\nc formula {n} {n + 1}\nc keep {kept} 0\nc set 0\n"
+    return cnf(n, rows), head + "".join(f"c row {v} {v} {n + 1} 1\n" for v in range(1, n + 1)) + cnf(n, rows)
+
+
+def stages_of_one_variable(n):
+    head = "c leank 1 linear\nc formula 1 1\nc keep 0\nc set 1 0\nc own 1 1\n"
+    return cnf(1, [[1]]), head.replace("c own 1 1\n", "") + "c stage 1 1 0\n" * n + "p cnf 1 0\n"
+
+
+def rounds_of_contradicted_units(n):
+    """A round for each of n variables that two units contradict, among 1,000,000 variables."""
+    rows = [[s * v] for v in range(1, n + 1) for s in (1, -1)]
+    m = 2 * n
+    rounds = "".join(f"c round\nc step {m + v} 0 {2 * v - 1} {v} {2 * v} 0\n" for v in range(1, n + 1))
+    return general_document(cnf(1000000, rows), rounds)
+
+
+def steps_with_long_chains(n):
+    """Implications from variable to variable, and steps whose chains go from the first one to each other one."""
+    rows = [[1]] + [[-i, i + 1] for i in range(1, n)] + [[-n]]
+    m, steps = len(rows), ""
+    for k in range(1, n - 1):
+        turns = " ".join(f"{i} {i + 1}" for i in range(2, k + 2))
+        steps += f"c step {m + k} -1 {k + 2} 0 2 {turns} 0\n"
+    last = m + n - 2
+    return general_document(cnf(n, rows), f"c round\n{steps}c step {last + 1} 0 {last} {n} {m} -1 1 0\n")
+
+
+def long_model(n):
+    """Units, and an answer that is their model."""
+    return cnf(n, [[v] for v in range(1, n + 1)]), "s SATISFIABLE\nv " + " ".join(map(str, range(1, n + 1))) + " 0\n"
+
+
+def core_of_implications(n):
+    """A core of n implications between a unit and another one, with a model for each clause that is left out."""
+    formula = implications_refuted(n)
+    m = n + 1
+    turns = " ".join(f"{i} {i + 1}" for i in range(1, n)) + f" {n} {m}"
+    without = "".join(f"c without {p} " + " ".join(str(v if v < p else -v) for v in range(1, n + 1)) + " 0\n" for p in range(1, m + 1))
+    core = " ".join(map(str, range(1, m + 1)))
+    return formula, f"c leank 1 mus\nc formula {n} {m}\nc core {core} 0\nc round\nc step {m + 1} 0 1 {turns} 0\n{without}{formula}"
+
+
 # As many numbers as one word of a command line may have.
 PROTECTED = ",".join(map(str, range(20000, 0, -1)))
 
@@ -530,6 +642,7 @@ BOUNDS = [
     Bound(refutation_joined_often, 30000, ("verify",), (), 1000),
     Bound(joined_cubes, 1500, ("solve",), (), 600),
     Bound(joined_cubes, 1500, ("mus",), (), 600),
+    Bound(joined_cubes, 11000, ("reduce", "general"), (), 1300),
     Bound(two_literals, 10000, ("solve",), (), 700),
     Bound(two_literals, 10000, ("mus",), (), 700),
     Bound(two_literals, 10000, ("reduce", "general"), (), 1000),
@@ -568,9 +681,39 @@ BOUNDS = [
     Bound(empty_clauses_come_and_go, 10000, ("edits",), (), 900),
     Bound(units_come_and_go, 20000, ("edits",), (), 350),
     Bound(few_edits_of_no_clause, 500, ("edits",), (), 8500),
+    Bound(removed_in_order, 200000, ("edits",), (), 220),
+    Bound(removed_in_drawn_order, 200000, ("edits",), (), 220),
+    Bound(removed_beside_unmatched, 150000, ("edits",), (), 500),
     Bound(unmatched_units, 3000, ("edits",), (), None, 1.5),
     Bound(last_of_one_line, 20000, ("edits",), (), 250),
     Bound(model_with_repeats, 500000, ("extend",), (), 170),
+    Bound(square_over_reasons, 600, ("reduce", "general"), (), 740),
+    Bound(search_beside_a_chain, 100000, ("solve",), ("--conflicts", "3000"), 2200),
+    Bound(parts_of_pigeons, 1200, ("reduce", "general"), (), 1300),
+    Bound(parts_of_pigeons, 1200, ("mus",), (), 220),
+    Bound(parts_of_pigeons, 1200, ("solve",), ("--workers", "1"), 1100),
+    Bound(joined_pigeons, 1200, ("reduce", "general"), ("--conflicts", "2000"), 790),
+    Bound(pigeons_beside_pairs, 20000, ("solve",), (), 1200),
+    Bound(long_clauses_one_by_one, 400, ("mus",), (), 4900),
+    Bound(implications_refuted, 80000, ("solve",), (), 690),
+    Bound(many_parts, 40000, ("solve",), (), 1100),
+    Bound(pigeons, 8, ("reduce", "linear"), (), 11000),
+    Bound(parity_chain, 150, ("reduce", "linear"), ("--pivots", "300"), 45000),
+    Bound(units_over_long_clauses, 1000, ("check",), (), 3500),
+    Bound(few_units_far_apart, 1000000, ("check",), ("--workers", "64"), None, 22000),
+    Bound(rounds_of_one_long_clause, 5000, ("check",), (), 2600),
+    Bound(rows_with_one_escape, 30000, ("check",), (), 130),
+    Bound(stages_of_one_variable, 100000, ("check",), (), 160),
+    Bound(rounds_of_contradicted_units, 20000, ("check",), (), 170),
+    Bound(steps_with_long_chains, 500, ("check",), (), 140),
+    Bound(core_of_sign_patterns, 4096, ("verify",), (), 2100),
+    Bound(core_of_implications, 500, ("verify",), (), 120),
+    Bound(long_model, 100000, ("verify",), (), 150),
+    Bound(path_taken_anew, 8000, ("edits",), (), 52000),
+    Bound(drawn_edits, 20000, ("edits",), (), 210),
+    Bound(added_over_many_variables, 50000, ("edits",), (), 350),
+    Bound(unmatched_units, 2000, ("edits",), (), 85000),
+    Bound(no_text, 0, ("demo",), ("20",), 200000000),
 ]
 
 
@@ -683,8 +826,8 @@ def bound_row(program, bound, folder):
     """Whether a run is past its bound."""
     names, read = put_texts(folder, bound.command, bound.make(bound.size))
     words = [program, *bound.command, *names, *bound.options]
-    if bound.instructions:
-        ratio, most = (instructions(words, folder) or float("inf")) / read, bound.instructions
+    if bound.memory is None:
+        ratio, most = (instructions(words, folder) or float("inf")) / max(read, 1), bound.instructions
     else:
         _, peak, _ = run(words, folder)
         ratio, most = peak * 2**20 / (read + os.path.getsize(os.path.join(folder, "out"))), bound.memory
