@@ -21,6 +21,11 @@ is_bad_owner φ kept owners first p clause = if slice_index owners (p - 1) == 0
     then not (is_flagged kept p)
     else is_flagged kept p || not (holds_true φ (slice_index owners (p - 1)) clause) || nat_lt (slice_index first (slice_index owners (p - 1) - 1)) p
 
+-- A row of this rank has this escape, which is the own position of a row whose rank is not lower: each position's bound is one
+-- more than the greatest rank of the rows with this own position.
+abbrev pub is_misranked : List ℕ → ℕ → ℕ → Bool
+is_misranked bounds rank escape = nat_lt rank (slice_index bounds (escape - 1))
+
 -- the position is kept and has no dual, or has one and is not kept, or one below 1
 abbrev pub is_bad_dual : List Bool → List (Option Bool) → ℕ → Bool
 is_bad_dual kept table p = line_fails (is_flagged kept p) (slice_index_or table (p - 1) None) not

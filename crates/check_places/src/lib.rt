@@ -13,6 +13,6 @@ pub use answers::first_answer;
 pub use common::{first_set, is_misplaced};
 pub use flags::has_any;
 pub use linear::{is_amiss, is_bad_dual, is_positive};
-pub use matching::{Owners, is_bad_owner};
+pub use matching::{Owners, is_bad_owner, is_misranked};
 pub use rounds::is_reached;
 pub use tables::number_at;

@@ -1,11 +1,11 @@
 //! What is asked of a place for a matching document.
-ghost use Rattle.std.specs.Prelude.{◌≡◌, ◌≤◌, ◌<◌, ◌&&◌, ◌==◌, length, IsTrue};
+ghost use Rattle.std.specs.Prelude.{◌≡◌, ◌≤◌, ◌<◌, ◌-◌, ◌&&◌, ◌==◌, length, slice_index, IsTrue};
 ghost use Rattle.std.specs.List.{list_all};
 ghost use Rattle.lk_model.specs.Formulas.Literal.{is_literal, variable};
 ghost use Rattle.lk_model.specs.Formulas.Formula.{clause_at};
 ghost use Rattle.lk_model.specs.Formulas.Assignment.{makes_true};
 ghost use Rattle.lk_model.specs.Held.PartialValues.{assignment_by};
-ghost use Rattle.check_places.specs.Places.{holds_true, is_bad_owner};
+ghost use Rattle.check_places.specs.Places.{holds_true, is_bad_owner, is_misranked};
 
 use crate::tables::number_at;
 use lk_model::{Formula, Lit};
@@ -60,4 +60,22 @@ fn makes_true(values: &Partial, l: Lit) -> bool
     ensures { result ≡ makes_true (assignment_by values.now) l }
 {
     values.value(l.var()) == Some(l.positive())
+}
+
+/// Whether the escape of a row of this rank is the own position of a row whose rank is not lower. The table has for each
+/// position one more than the greatest rank of the rows with this own position, and 0 where there is none.
+pub fn is_misranked(bounds: &[u64], rank: u32, escape: u32) -> bool
+    ensures { result ≡ is_misranked bounds.now rank escape }
+{
+    u64::from(rank) < bound_at(bounds, escape)
+}
+
+/// The bound on the ranks at a position, 0 outside of the table.
+fn bound_at(bounds: &[u64], p: u32) -> u64
+    ensures { result ≡ slice_index bounds.now (p - 1) }
+{
+    match bounds.get((p as usize).saturating_sub(1)) {
+        Some(bound) => *bound,
+        None => 0,
+    }
 }

@@ -3,13 +3,13 @@ use Rattle.std.specs.Prelude.{◌≡◌, ◌≤◌, ◌-◌, ◌+◌, ℕ, Bool,
 use Rattle.std.specs.List.{list_any}
 use Rattle.std.specs.Option.{option_map_or}
 use Rattle.lk_model.specs.Formulas.Literal.{mentions}
-use Rattle.lk_model.specs.Formulas.Literal.{variable}
 use Rattle.lk_model.specs.Formulas.Formula.{Cnf, clause_at}
 use Rattle.lk_model.specs.Held.VariableSets.{is_in}
 use Rattle.lk_model.specs.Checks.Check.{line_fails}
 use Rattle.lk_model.specs.declared.document.Own.{Own}
 use Rattle.lk_model.specs.declared.document.MatchRow.{MatchRow}
 use Rattle.kernel_laws.specs.FirstTables.{IsFirstTable}
+use Rattle.check_places.specs.Places.{is_misranked}
 
 -- OWN LINES, over m positions and n variables
 
@@ -65,4 +65,4 @@ pub record NotesNamed (n : ℕ) (clause : List ℤ) (position : ℕ) (table : Li
 -- with it, or an earlier row has the own position, or the escape is the own position of a row whose rank is not lower.
 abbrev pub is_bad_row : List (Option MatchRow) → List ℕ → List ℕ → List Bool → List Bool → List Bool → ℕ → Bool
 is_bad_row table first bounds occurring own escape v = line_fails (is_in occurring v) (row_in table v) (λ (r : MatchRow).
-    not (is_in own v) || not (is_in escape v) || nat_lt (slice_index first (r.own - 1)) v || nat_lt r.rank (slice_index bounds (r.escape - 1)))
+    not (is_in own v) || not (is_in escape v) || nat_lt (slice_index first (r.own - 1)) v || is_misranked bounds r.rank r.escape)

@@ -16,7 +16,7 @@ ghost use Rattle.check_pure_matching.specs.Matching.{AreOwners, AreFirstOwners, 
 ghost use Rattle.check_pure_matching.specs.Matching.{AreNamedThere, NotesNamed, has_own, has_escape, row_in};
 ghost use Rattle.check_pure_matching.specs.Matching.{is_bad_row};
 
-use check_places::{Owners, is_bad_owner, number_at};
+use check_places::{Owners, is_bad_owner, is_misranked, number_at};
 use check_tables::{Workers, kept_flags};
 use lk_model::{DoneDocument, Formula, Lit, MatchRow, OutOfMemory, Own, VarSet};
 use lk_outside::Gate;
@@ -224,18 +224,8 @@ fn is_bad_row(v: u32, rows: &Rows, seen: &Seen) -> bool
                 || !seen.own.has(v)
                 || !seen.escape.has(v)
                 || number_at(&rows.first, row.own) < v
-                || u64::from(row.rank) < bound_at(&rows.rank_bound, row.escape)
+                || is_misranked(&rows.rank_bound, row.rank, row.escape)
         }
         None => seen.occurring.has(v),
-    }
-}
-
-/// The bound on the ranks at a position, 0 outside of the table.
-fn bound_at(table: &[u64], p: u32) -> u64
-    ensures { result ≡ slice_index table.now (p - 1) }
-{
-    match table.get((p as usize).saturating_sub(1)) {
-        Some(bound) => *bound,
-        None => 0,
     }
 }

@@ -1,5 +1,5 @@
 -- Which positions are kept, by a flag for each.
-use Rattle.std.specs.Prelude.{◌≡◌, ℕ, ◌-◌, Bool, List, length, IsTrue}
+use Rattle.std.specs.Prelude.{◌≡◌, ℕ, Bool, List, length, IsTrue}
 use Rattle.lk_model.specs.Lists.{among, is_between}
 pub use Rattle.check_places.specs.Flags.{is_flagged}
 

@@ -1,5 +1,5 @@
 -- Places that are searched in ranges.
-use Rattle.std.specs.Prelude.{◌≡◌, ℕ, ◌+◌, ◌<◌, ◌≤◌, Bool, List, [], ◌∷◌, ◌++◌, find, option_map, Option, IfOk}
+use Rattle.std.specs.Prelude.{◌≡◌, ℕ, ◌+◌, ◌/◌, ◌<◌, ◌≤◌, max, min, Bool, List, [], ◌∷◌, ◌++◌, find, option_map, Option, IfOk}
 use Rattle.std.specs.List.{range_with_len}
 use Rattle.std.specs.declared.result.Result.{Result}
 use Rattle.std.specs.Fn.{FnReturns}
@@ -20,6 +20,13 @@ places_in span = range_with_len span.first span.count
 abbrev pub AreCut : ℕ → ℕ → List Span → Type 0
 AreCut first n [] = first ≡ n + 1
 AreCut first n (span ∷ spans) = (span.first ≡ first) × AreCut (first + span.count) n spans
+
+-- HOW MANY PIECES
+
+-- How many pieces a search is cut into at most, if each makes tables of so many bytes: two for two items or more; and
+-- one, with one more for each item for every 128 bytes of them.
+abbrev pub pieces_for : ℕ → ℕ → ℕ
+pieces_for items bytes = max (min 2 items) (items / (bytes / 128 + 1) + 1)
 
 -- A TEST OF PLACES
 

@@ -2,11 +2,11 @@
 //!
 //! The places from 1 on are cut into a range for each worker. Each range is searched from its front, and of what the
 //! ranges find the first counts, so the answer is the same for every number of workers.
-ghost use Rattle.std.specs.Prelude.{◌≡◌, ◌+◌, ◌^◌, ◌<◌, ◌≤◌, ℕ, Bool, find, option_map, IfOk};
+ghost use Rattle.std.specs.Prelude.{◌≡◌, ◌+◌, ◌^◌, ◌<◌, ◌≤◌, ℕ, Bool, find, min, option_map, IfOk};
 ghost use Rattle.std.specs.Fn.{FnReturns};
 ghost use Rattle.lk_model.specs.Lists.{up_to};
 ghost use Rattle.check_tables.specs.Places.{AcceptsParts, AcceptsPlaces, AcceptsSpans, AreCut, Decides, Finds};
-ghost use Rattle.check_tables.specs.Places.{FindsItems, places_in};
+ghost use Rattle.check_tables.specs.Places.{FindsItems, pieces_for, places_in};
 
 use check_places::first_answer;
 use lk_model::OutOfMemory;
@@ -62,17 +62,19 @@ impl<'a, R: Threads + Sync, G: Gate> Workers<'a, R, G> {
         }
     }
 
-    /// As many of them as have work enough where each makes tables of its own, of so many bytes: at least one. So all
-    /// these tables together take no more memory than those of one worker and some for each item of work.
+    /// As many of them as have work enough where each makes tables of its own, of so many bytes: at least two for two
+    /// items or more, and at least one. So all these tables together take no more memory than those of two workers and
+    /// some for each item of work.
     pub fn for_work(&self, items: usize, bytes: usize) -> Workers<'a, R, G>
-        ensures { result ≤ self.now }
+        ensures { result ≡ min self.now (pieces_for items bytes) }
     {
-        let more = (items / (bytes / BYTES_FOR_ITEM + 1)).min(self.count as usize - 1);
+        let worth = items / (bytes / BYTES_FOR_ITEM + 1);
+        let more = worth.max(items.min(2).saturating_sub(1));
         Workers {
             rt: self.rt,
             alloc: self.alloc,
             gate: self.gate,
-            count: more as u32 + 1,
+            count: more.min(self.count as usize - 1) as u32 + 1,
         }
     }
 }

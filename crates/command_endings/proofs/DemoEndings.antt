@@ -6,7 +6,7 @@ use Rattle.lk_model.specs.Formulas.Crossed.{no_variable}
 use Rattle.lk_model.specs.Formulas.Formula.{Cnf, is_formula, IsWithinLimits}
 use Rattle.lk_model.specs.Checks.Checks.{Accepts}
 use Rattle.lk_model.specs.Documents.Text.{text_of}
-use Rattle.lk_model.specs.Reduction.{Reduces, IsUnfinishedText}
+use Rattle.lk_model.specs.Reduction.{Reduces}
 use Rattle.lk_model.specs.Formulas.Protected.{ReducesBy}
 use Rattle.lk_model.specs.Texts.PlainText.{line}
 use Rattle.lk_model.specs.declared.class.Class.{Class}
@@ -21,15 +21,14 @@ use Rattle.lean_checker.specs.Verdicts.{verdict_by, verdict_of, verdict_words}
 use Rattle.lean_checker.specs.declared.verdict.Verdict.TheVariants.{Accepted}
 use Rattle.part_kernels.specs.ByParts.{IsFirstUnfinished}
 use Rattle.demo_formula.specs.Demo.{demo_formula}
-use Rattle.command_endings.specs.Commands.Demo.{conflicts, demo_rows, Answers, WritesDemo, IsCheckedSize}
+use Rattle.command_endings.specs.Commands.Demo.{conflicts, demo_rows, Answers, finished, stopped, WritesDemo, IsCheckedSize}
 use Rattle.status_lines.specs.RunLines.{conflicts_line}
+use Rattle.command_endings.specs.Commands.ReduceGeneral.{WritesUnfinishedKernel}
 use Rattle.command_endings.specs.Commands.Report.{IsKernelSize, row_line}
 use Rattle.reductions.specs.Founds.{document_of, open_document_of, IsFoundFor, IsKernelFound}
-use Rattle.command_words.specs.Settings.{Options, options_by}
 use Rattle.reductions.specs.declared.document.Found.{Found}
 use Rattle.status_lines.specs.declared.ending.Ending.{Ending}
-use Rattle.status_lines.specs.declared.status.Status.{Status}
-use Rattle.status_lines.specs.declared.status.Status.TheVariants.{Budget}
+use Rattle.status_lines.specs.declared.status.Status.TheVariants.{Done, Budget}
 use Rattle.command_endings.proofs.GeneralEndings.{writes_open}
 use Rattle.command_endings.proofs.KernelSizes.{size_kept}
 
@@ -66,26 +65,28 @@ writes_demo number matching F found text is form limits h size told =
       written_is = told;
     }
 
--- the options with the budget of the command
-abbrev budget_options : Options
-budget_options = record (options_by []) { conflicts = conflicts }
-
 -- the text of rounds over one part
 pub writes_rounds : (number : ℕ) (F : Cnf) (rounds : List Round) (d : OpenDocument) (written : List ℕ) → F ≡ demo_formula number → IsTrue (is_formula F) → IsWithinLimits F → IsFirstUnfinished F conflicts rounds
-    → d ≡ open_document_of F None conflicts rounds → written ≡ text_of (Unfinished d) → IsUnfinishedText (demo_formula number) None conflicts written
+    → d ≡ open_document_of F None conflicts rounds → written ≡ text_of (Unfinished d) → WritesUnfinishedKernel None conflicts (demo_formula number) written
 writes_rounds number F rounds d written is form limits h told text =
     let there = subst (λ (G : Cnf). IsFirstUnfinished G conflicts rounds) (sym (formula_same F)) h in
     let few : conflicts < 2 ^ 63 = omega arith in
-    subst (λ (G : Cnf). IsUnfinishedText G None conflicts written) is
-    (writes_open budget_options F None rounds d written form limits refl there few told text).unfinished
+    subst (λ (G : Cnf). WritesUnfinishedKernel None conflicts G written) is
+    (writes_open None conflicts F None rounds d written form limits refl there few told text)
 
 -- and so the ending that writes it is an answer
 pub rounds_answer : (number : ℕ) (F : Cnf) (rounds : List Round) (d : OpenDocument) (r : Result Ending OutOfMemory) → F ≡ demo_formula number → IsTrue (is_formula F) → IsWithinLimits F → IsFirstUnfinished F conflicts rounds
     → d ≡ open_document_of F None conflicts rounds → IfOk r (λ e. e.status ≡ Budget) → IfOk r (λ e. e.written.items ≡ text_of (Unfinished d)) → IfOk r (λ e. e.said.items ≡ conflicts_line d.learned)
-    → IfOk r (λ e. Answers number e.status e.written.items e.said.items)
+    → IfOk r (λ e. Answers number e.written.items e.said.items e.status)
 rounds_answer number F rounds d (Err e) is form limits h told status written said = tt
 rounds_answer number F rounds d (Ok e) is form limits h told status written said =
-    subst (λ (s : Status). Answers number s e.written.items e.said.items) (sym status) (
-      writes_rounds number F rounds d e.written.items is form limits h told written,
-      said ∙ ap (λ (o : OpenDocument). conflicts_line o.learned) told,
-    )
+    subst (Answers number e.written.items e.said.items) (sym status)
+    (stopped (writes_rounds number F rounds d e.written.items is form limits h told written) (said ∙ ap (λ (o : OpenDocument). conflicts_line o.learned) told))
+
+-- what a status tells
+module _ {number : ℕ} {written said : List ℕ} where
+  pub rows_of : Answers number written said Done → WritesDemo number written × (said ≡ [])
+  rows_of (finished w silent) = (w, silent)
+
+  pub stop_of : Answers number written said Budget → WritesUnfinishedKernel None conflicts (demo_formula number) written × (said ≡ conflicts_line conflicts)
+  stop_of (stopped w line) = (w, line)

@@ -29,7 +29,7 @@ use Rattle.round_laws.specs.Budgets.{CanBeFinished}
 use Rattle.lk_model.specs.Chains.Budgets.{AreWithinBudget}
 use Rattle.round_laws.proofs.RoundLaws.{round_law}
 use Rattle.part_kernels.specs.ByParts.{CanBeDone, IsFirstUnfinished}
-use Rattle.command_endings.specs.Commands.ReduceGeneral.{IsEnoughToReduce, WritesFinished, WritesUnfinishedKernel, Writes, Answers}
+use Rattle.command_endings.specs.Commands.ReduceGeneral.{WritesFinished, WritesUnfinishedKernel, Answers, finished, stopped, Decides, is_enough}
 use Rattle.status_lines.specs.RunLines.{conflicts_line}
 use Rattle.reductions.specs.Founds.{document_of, open_document_of, IsKernelFound}
 use Rattle.lk_model.specs.Documents.Documents.{rounds_in}
@@ -63,15 +63,12 @@ writes_kernel options F protect rest found d written form limits lists line is h
 
 pub done_answers : (options : Options) (F : Cnf) (p : Problem) (found : Found) (d : DoneDocument) (status : Status) (written said : List ℕ) → IsProblem F options.protect p → IsTrue (is_formula p.formula) → IsWithinLimits p.formula
     → IsKernelFound (left_of p) options.conflicts found → d ≡ document_of p.formula (line_of p) found
-    → status ≡ Done → written ≡ text_of (Finished d) → said ≡ [] → Answers options F status written said
+    → status ≡ Done → written ≡ text_of (Finished d) → said ≡ [] → Answers options F written said status
 done_answers options F p found d status written said is form limits h told ends text silent =
     let line = subst (λ (l : Option (List ℕ)). IsTrue (is_protect_line F.vars l)) (sym is.line) (line_form F options.protect) in
     let told_of : d ≡ document_of F (line_of p) found = told ∙ ap (λ (G : Cnf). document_of G (line_of p) found) is.formula in
     let writes = writes_kernel options F (line_of p) (left_of p) found d written (subst (λ (G : Cnf). IsTrue (is_formula G)) is.formula form) (subst (λ (G : Cnf). IsWithinLimits G) is.formula limits) is.line line (sym is.left) h told_of text in
-    record {
-      writes = subst (λ (s : Status). Writes options F s written said) (sym ends) (writes, silent);
-      enough = λ e. ends;
-    }
+    subst (Answers options F written said) (sym ends) (finished writes silent)
 
 -- WHERE THE BUDGET IS USED UP
 
@@ -82,16 +79,16 @@ each_finished P F conflicts (part ∷ parts) h =
     let d = h.0.1 in ((h.0.0, record { result = d.result; needed = d.needed; most = d.most }), each_finished P F conflicts parts h.1)
 
 -- the document of rounds over a part of what is left, written for the formula
-pub writes_open : (options : Options) (F : Cnf) (protect : Option (List ℕ)) (rounds : List Round) (d : OpenDocument) (written : List ℕ) → IsTrue (is_formula F) → IsWithinLimits F → protect ≡ protect_line_of F options.protect
-    → IsFirstUnfinished (rest_of F protect) options.conflicts rounds → options.conflicts < 2 ^ 63 → d ≡ open_document_of F protect options.conflicts rounds → written ≡ text_of (Unfinished d) → WritesUnfinishedKernel options F written
-writes_open options F protect rounds d written form limits lists h few told text =
+pub writes_open : (listed : Option (List ℕ)) (conflicts : ℕ) (F : Cnf) (protect : Option (List ℕ)) (rounds : List Round) (d : OpenDocument) (written : List ℕ) → IsTrue (is_formula F) → IsWithinLimits F → protect ≡ protect_line_of F listed
+    → IsFirstUnfinished (rest_of F protect) conflicts rounds → conflicts < 2 ^ 63 → d ≡ open_document_of F protect conflicts rounds → written ≡ text_of (Unfinished d) → WritesUnfinishedKernel listed conflicts F written
+writes_open listed conflicts F protect rounds d written form limits lists h few told text =
     let P = protected_by protect in
     let G = rest_of F protect in
     let o = open_document G rounds in
     let u = h.unfinished in
     let there = open_result_law.sound G h.part rounds (formula_form P F form) (limits_left P F limits) h.positions h.apart u.result (subst (λ (n : ℕ). n < 2 ^ 63) (sym u.all) few) in
-    let line = subst (λ (l : Option (List ℕ)). IsTrue (is_protect_line F.vars l)) (sym lists) (protected_check_law.listed F options.protect) in
-    let same : open_written_for F protect o ≡ open_document_of F protect options.conflicts rounds = λ i. record { vars = F.vars; clauses = same_count F P i; protect = protect; learned = u.all i; rounds = rounds; texts = F } in
+    let line = subst (λ (l : Option (List ℕ)). IsTrue (is_protect_line F.vars l)) (sym lists) (protected_check_law.listed F listed) in
+    let same : open_written_for F protect o ≡ open_document_of F protect conflicts rounds = λ i. record { vars = F.vars; clauses = same_count F P i; protect = protect; learned = u.all i; rounds = rounds; texts = F } in
     let is = same ∙ sym told in
     record {
       unfinished = record {
@@ -110,21 +107,30 @@ writes_open options F protect rounds d written form limits lists h few told text
       before = h.before;
       after = h.after;
       parts = subst (λ (e : OpenDocument). ArePartsUnder (protected_by e.protect) F (h.before ++ h.part ∷ h.after)) (sym told) ((run_law.parts P F (h.before ++ h.part ∷ h.after)).1 h.parts);
-      finished = subst (λ (e : OpenDocument). AllByRecursion (CanBeFinished (protected_by e.protect) F options.conflicts) h.before) (sym told) (each_finished P F options.conflicts h.before h.done);
+      finished = subst (λ (e : OpenDocument). AllByRecursion (CanBeFinished (protected_by e.protect) F conflicts) h.before) (sym told) (each_finished P F conflicts h.before h.done);
     }
-
--- the budget was not enough
-not_enough : (conflicts : ℕ) (F : Cnf) → conflicts < F.vars * 3 ^ F.vars → IsEnoughToReduce conflicts F → ⊥
-not_enough conflicts F few enough = omega (arith, few, enough)
 
 pub open_answers : (options : Options) (F : Cnf) (p : Problem) (rounds : List Round) (d : OpenDocument) (status : Status) (written said : List ℕ) → IsProblem F options.protect p → IsTrue (is_formula p.formula) → IsWithinLimits p.formula
     → IsFirstUnfinished (left_of p) options.conflicts rounds → options.conflicts < 2 ^ 63 → d ≡ open_document_of p.formula (line_of p) options.conflicts rounds
-    → status ≡ Budget → written ≡ text_of (Unfinished d) → said ≡ conflicts_line d.learned → Answers options F status written said
+    → status ≡ Budget → written ≡ text_of (Unfinished d) → said ≡ conflicts_line d.learned → Answers options F written said status
 open_answers options F p rounds d status written said is form limits h few told budget text line =
     let there : IsFirstUnfinished (rest_of F (line_of p)) options.conflicts rounds = subst (λ (G : Cnf). IsFirstUnfinished G options.conflicts rounds) is.left h in
     let told_of : d ≡ open_document_of F (line_of p) options.conflicts rounds = told ∙ ap (λ (G : Cnf). open_document_of G (line_of p) options.conflicts rounds) is.formula in
-    let writes = writes_open options F (line_of p) rounds d written (subst (λ (G : Cnf). IsTrue (is_formula G)) is.formula form) (subst (λ (G : Cnf). IsWithinLimits G) is.formula limits) is.line there few told_of text in
-    record {
-      writes = subst (λ (s : Status). Writes options F s written said) (sym budget) (writes, line ∙ ap (λ (e : OpenDocument). conflicts_line e.learned) told_of);
-      enough = λ enough. absurd (not_enough options.conflicts F there.unfinished.few enough);
-    }
+    let writes = writes_open options.protect options.conflicts F (line_of p) rounds d written (subst (λ (G : Cnf). IsTrue (is_formula G)) is.formula form) (subst (λ (G : Cnf). IsWithinLimits G) is.formula limits) is.line there few told_of text in
+    subst (Answers options F written said) (sym budget) (stopped writes there.unfinished.few (line ∙ ap (λ (e : OpenDocument). conflicts_line e.learned) told_of))
+
+-- WHAT IS DECIDED
+
+-- a status with which it may end is the decided one
+pub general_status : {options : Options} {F : Cnf} {written said : List ℕ} {decided status : Status} → Decides options F decided → Answers options F written said status → status ≡ decided
+general_status (is_enough enough) (finished w silent) = refl
+general_status (is_enough enough) (stopped w few line) = absurd (omega (arith, few, enough))
+
+-- WHAT A STATUS TELLS
+
+module _ {options : Options} {F : Cnf} {written said : List ℕ} where
+  pub kernel_of : Answers options F written said Done → WritesFinished options F written × (said ≡ [])
+  kernel_of (finished w silent) = (w, silent)
+
+  pub stop_of : Answers options F written said Budget → WritesUnfinishedKernel options.protect options.conflicts F written × (options.conflicts < F.vars * 3 ^ F.vars) × (said ≡ conflicts_line options.conflicts)
+  stop_of (stopped w few line) = (w, few, line)

@@ -9,6 +9,7 @@ pub mod Problems
 pub mod GeneralEndings
 pub mod DemoEndings
 pub mod Extensions
+pub mod EmptyKernels
 pub mod SolveEndings
 pub mod MusEndings
 pub mod VerifiedAnswers

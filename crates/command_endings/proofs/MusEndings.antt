@@ -14,8 +14,7 @@ use Rattle.general_laws.specs.Found.{IsUnfinished}
 use Rattle.general_laws.specs.OpenResults.{open_document}
 use Rattle.general_laws.proofs.OpenResults.{open_result_law}
 use Rattle.kernel_solve.proofs.OpenRounds.{open_sound}
-use Rattle.general_laws.specs.CoreLaw.{IsCore}
-use Rattle.mus_core.specs.Found.{IsWholeModel, IsStoppedAt, TakesEmpty}
+use Rattle.mus_core.specs.Found.{IsCoreWithin, IsWholeModel, IsUndecidedAt, TakesEmpty}
 use Rattle.mus_core.specs.declared.mus.Mus.TheVariants as found
 use Rattle.reductions.specs.Founds.{open_document_of}
 use Rattle.lk_model.specs.Documents.Answers.{answer_text}
@@ -24,24 +23,27 @@ use Rattle.lk_model.specs.declared.answer.Answer.TheVariants.{Model, Core}
 use Rattle.answer_check.proofs.AnswerLaws.{answer_law}
 use Rattle.command_words.specs.Settings.{Options}
 use Rattle.status_lines.specs.RunLines.{conflicts_line}
-use Rattle.command_endings.specs.Commands.Mus.{WritesCore, WritesUnfinishedCore, Answers, Decides}
+use Rattle.command_endings.specs.Commands.Solve.{WritesModel}
+use Rattle.command_endings.specs.Commands.Mus.{WritesCore, WritesUnfinishedCore, Answers, extracted, satisfied, stopped, Decides, has_none, has_model}
 use Rattle.status_lines.specs.declared.status.Status.{Status}
-use Rattle.status_lines.specs.declared.status.Status.TheVariants.{Done, Words, Input, ReadFault, WriteFault, Budget, TooWide, TooLarge, Refused, Memory, Satisfiable, Unsatisfiable}
+use Rattle.status_lines.specs.declared.status.Status.TheVariants.{Done, Budget, Satisfiable}
 use Rattle.command_endings.proofs.SolveEndings.{writes_model, not_enough}
 use Rattle.command_endings.proofs.VerifiedAnswers.{minimal_core}
 
 -- WHAT IS WRITTEN
 
 -- the text of a core
-writes_core : (F : Cnf) (r : MusResult) (core : MusAnswer) (written : List ℕ) → is_formula F ≡ true → IsWithinLimits F → IsCore F r.core r.round r.without → TakesEmpty F (found.Core r)
-    → core ≡ written_core F r.core r.round r.without → written ≡ answer_text (Core core) → WritesCore F written
-writes_core F r core written form limits h empty told text =
+writes_core : (options : Options) (F : Cnf) (r : MusResult) (core : MusAnswer) (written : List ℕ) → is_formula F ≡ true → IsWithinLimits F → IsCoreWithin F options.conflicts r → TakesEmpty F (found.Core r)
+    → core ≡ written_core F r.core r.round r.without → written ≡ answer_text (Core core) → WritesCore options F written
+writes_core options F r core written form limits h empty told text =
     let made = written_core F r.core r.round r.without in
-    let w = answer_law.written F r.core r.round r.without form limits h in
+    let w = answer_law.written F r.core r.round r.without form limits h.core in
     record {
       core = made;
       writes = record { form = w.0; checks = (answer_law.shows F (Core made) w.0).1 w.1; written_is = text ∙ ap (λ (a : MusAnswer). answer_text (Core a)) told };
       minimal = minimal_core F made form w.0 w.1;
+      needed = h.needed;
+      most = h.most;
       empty = empty;
     }
 
@@ -52,9 +54,10 @@ no_core (Some p) h = absurd h
 
 -- the text of an open round over some of the clauses
 writes_unfinished : (options : Options) (F : Cnf) (part : List ℕ) (texts : Cnf) (round : Round) (rounds : List Round) (d : OpenDocument) (written : List ℕ) → is_formula texts ≡ true → IsWithinLimits texts
-    → IsStoppedAt F options.conflicts part texts round → TakesEmpty F (found.Unfinished part texts round) → options.conflicts < 2 ^ 63 → rounds ≡ round ∷ []
+    → IsUndecidedAt F options.conflicts part texts round → TakesEmpty F (found.Unfinished part texts round) → options.conflicts < 2 ^ 63 → rounds ≡ round ∷ []
     → d ≡ open_document_of texts None options.conflicts rounds → written ≡ text_of (Unfinished d) → WritesUnfinishedCore options F written
-writes_unfinished options F part texts round rounds d written form limits h empty most one told text =
+writes_unfinished options F part texts round rounds d written form limits undecided empty most one told text =
+    let h = undecided.stopped in
     let G = clauses_at F part in
     let u : IsUnfinished G (positions_of G) options.conflicts (round ∷ []) = subst (λ (H : Cnf). IsUnfinished H (positions_of H) options.conflicts (round ∷ [])) h.texts_are h.unfinished in
     let form_there : is_formula G ≡ true = subst (λ (H : Cnf). is_formula H ≡ true) h.texts_are form in
@@ -82,63 +85,48 @@ writes_unfinished options F part texts round rounds d written form limits h empt
       learned = u.all;
       few = h.few;
       wants = u.wants;
+      why = undecided.why;
     }
 
 -- HOW IT ENDS
 
-pub core_answers : (options : Options) (F : Cnf) (r : MusResult) (core : MusAnswer) (status : Status) (written said : List ℕ) → is_formula F ≡ true → IsWithinLimits F → IsCore F r.core r.round r.without → TakesEmpty F (found.Core r)
-    → core ≡ written_core F r.core r.round r.without → status ≡ Done → written ≡ answer_text (Core core) → said ≡ [] → Answers options F status written said
+pub core_answers : (options : Options) (F : Cnf) (r : MusResult) (core : MusAnswer) (status : Status) (written said : List ℕ) → is_formula F ≡ true → IsWithinLimits F → IsCoreWithin F options.conflicts r → TakesEmpty F (found.Core r)
+    → core ≡ written_core F r.core r.round r.without → status ≡ Done → written ≡ answer_text (Core core) → said ≡ [] → Answers options F written said status
 core_answers options F r core status written said form limits h empty told is text silent =
-    subst (λ (s : Status). Answers options F s written said) (sym is) (writes_core F r core written form limits h empty told text, silent)
+    subst (Answers options F written said) (sym is) (extracted (writes_core options F r core written form limits h empty told text) silent)
 
 pub model_answers : (options : Options) (F : Cnf) (literals : List ℤ) (status : Status) (written said : List ℕ) → IsWholeModel F literals → status ≡ Satisfiable → written ≡ answer_text (Model literals) → said ≡ []
-    → Answers options F status written said
+    → Answers options F written said status
 model_answers options F literals status written said h is text silent =
-    subst (λ (s : Status). Answers options F s written said) (sym is) (writes_model F literals written (record { total = h.total; satisfies = h.satisfied }) text, silent)
+    subst (Answers options F written said) (sym is) (satisfied (writes_model F literals written (record { total = h.total; satisfies = h.satisfied }) text) silent)
 
 pub open_answers : (options : Options) (F : Cnf) (part : List ℕ) (texts : Cnf) (round : Round) (rounds : List Round) (d : OpenDocument) (status : Status) (written said : List ℕ) → is_formula texts ≡ true → IsWithinLimits texts
-    → IsStoppedAt F options.conflicts part texts round → TakesEmpty F (found.Unfinished part texts round) → options.conflicts < 2 ^ 63 → rounds ≡ round ∷ []
+    → IsUndecidedAt F options.conflicts part texts round → TakesEmpty F (found.Unfinished part texts round) → options.conflicts < 2 ^ 63 → rounds ≡ round ∷ []
     → d ≡ open_document_of texts None options.conflicts rounds → status ≡ Budget → written ≡ text_of (Unfinished d) → said ≡ conflicts_line d.learned
-    → Answers options F status written said
+    → Answers options F written said status
 open_answers options F part texts round rounds d status written said form limits h empty most one told is text line =
-    subst (λ (s : Status). Answers options F s written said) (sym is)
-    (writes_unfinished options F part texts round rounds d written form limits h empty most one told text, line ∙ ap (λ (e : OpenDocument). conflicts_line e.learned) told)
+    subst (Answers options F written said) (sym is)
+    (stopped (writes_unfinished options F part texts round rounds d written form limits h empty most one told text) (line ∙ ap (λ (e : OpenDocument). conflicts_line e.learned) told))
 
 -- WHAT IS DECIDED
 
 -- a status with which it may end is the decided one
-pub mus_status : (options : Options) (F : Cnf) (decided status : Status) (written said : List ℕ) → Decides options F decided → Answers options F status written said → status ≡ decided
-mus_status options F Done Done written said d a = refl
-mus_status options F Done Satisfiable written said d a = absurd (d.1 (assignment_of a.0.literals) a.0.model)
-mus_status options F Done Budget written said d a = absurd (not_enough options.conflicts F a.0.few a.0.filled d.0)
-mus_status options F Satisfiable Done written said d a = absurd (a.0.minimal.no_model d.1.0 d.1.1)
-mus_status options F Satisfiable Satisfiable written said d a = refl
-mus_status options F Satisfiable Budget written said d a = absurd (let few = a.0.few in let enough = d.0 in omega (arith, few, enough))
-mus_status options F Words status written said d a = absurd d
-mus_status options F Input status written said d a = absurd d
-mus_status options F ReadFault status written said d a = absurd d
-mus_status options F WriteFault status written said d a = absurd d
-mus_status options F Budget status written said d a = absurd d
-mus_status options F TooWide status written said d a = absurd d
-mus_status options F TooLarge status written said d a = absurd d
-mus_status options F Refused status written said d a = absurd d
-mus_status options F Memory status written said d a = absurd d
-mus_status options F Unsatisfiable status written said d a = absurd d
-mus_status options F Done Words written said d a = absurd a
-mus_status options F Done Input written said d a = absurd a
-mus_status options F Done ReadFault written said d a = absurd a
-mus_status options F Done WriteFault written said d a = absurd a
-mus_status options F Done TooWide written said d a = absurd a
-mus_status options F Done TooLarge written said d a = absurd a
-mus_status options F Done Refused written said d a = absurd a
-mus_status options F Done Memory written said d a = absurd a
-mus_status options F Done Unsatisfiable written said d a = absurd a
-mus_status options F Satisfiable Words written said d a = absurd a
-mus_status options F Satisfiable Input written said d a = absurd a
-mus_status options F Satisfiable ReadFault written said d a = absurd a
-mus_status options F Satisfiable WriteFault written said d a = absurd a
-mus_status options F Satisfiable TooWide written said d a = absurd a
-mus_status options F Satisfiable TooLarge written said d a = absurd a
-mus_status options F Satisfiable Refused written said d a = absurd a
-mus_status options F Satisfiable Memory written said d a = absurd a
-mus_status options F Satisfiable Unsatisfiable written said d a = absurd a
+pub mus_status : {options : Options} {F : Cnf} {written said : List ℕ} {decided status : Status} → Decides options F decided → Answers options F written said status → status ≡ decided
+mus_status (has_none enough none) (extracted w silent) = refl
+mus_status (has_none enough none) (satisfied w silent) = absurd (none (assignment_of w.literals) w.model)
+mus_status {options = options} {F = F} (has_none enough none) (stopped w line) = absurd (not_enough options.conflicts F w.few w.filled enough)
+mus_status (has_model enough m) (extracted w silent) = absurd (w.minimal.no_model m.0 m.1)
+mus_status (has_model enough m) (satisfied w silent) = refl
+mus_status (has_model enough m) (stopped w line) = absurd (let few = w.few in omega (arith, few, enough))
+
+-- WHAT A STATUS TELLS
+
+module _ {options : Options} {F : Cnf} {written said : List ℕ} where
+  pub core_of : Answers options F written said Done → WritesCore options F written × (said ≡ [])
+  core_of (extracted w silent) = (w, silent)
+
+  pub model_of : Answers options F written said Satisfiable → WritesModel F written × (said ≡ [])
+  model_of (satisfied w silent) = (w, silent)
+
+  pub stop_of : Answers options F written said Budget → WritesUnfinishedCore options F written × (said ≡ conflicts_line options.conflicts)
+  stop_of (stopped w line) = (w, line)

@@ -17,9 +17,10 @@ use Rattle.lk_model.specs.declared.answer.Answer.TheVariants.{Model, Refuted}
 use Rattle.answer_check.proofs.AnswerLaws.{answer_law}
 use Rattle.command_words.specs.Settings.{Options}
 use Rattle.status_lines.specs.RunLines.{conflicts_line}
-use Rattle.command_endings.specs.Commands.Solve.{IsEnoughToRefute, WritesModel, WritesRefutation, WritesUnfinishedSearch, Answers, Decides}
+use Rattle.command_endings.specs.Commands.Solve.{IsEnoughToRefute, WritesModel, WritesRefutation, WritesUnfinishedSearch, Answers, satisfied, refuted, stopped, Decides, has_model, no_kernel, has_none}
 use Rattle.status_lines.specs.declared.status.Status.{Status}
-use Rattle.status_lines.specs.declared.status.Status.TheVariants.{Done, Words, Input, ReadFault, WriteFault, Budget, TooWide, TooLarge, Refused, Memory, Satisfiable, Unsatisfiable}
+use Rattle.status_lines.specs.declared.status.Status.TheVariants.{Budget, Satisfiable, Unsatisfiable}
+use Rattle.command_endings.proofs.EmptyKernels.{no_empty, no_kernel_part}
 use Rattle.command_endings.proofs.VerifiedAnswers.{in_kernel}
 
 -- WHAT IS WRITTEN
@@ -76,20 +77,20 @@ writes_unfinished options F round rounds d written h one told text =
 
 -- HOW IT ENDS
 
-pub model_answers : (options : Options) (F : Cnf) (literals : List ℤ) (status : Status) (written said : List ℕ) → IsTotalModel F literals → status ≡ Satisfiable → written ≡ answer_text (Model literals) → said ≡ [] → Answers options F status written said
+pub model_answers : (options : Options) (F : Cnf) (literals : List ℤ) (status : Status) (written said : List ℕ) → IsTotalModel F literals → status ≡ Satisfiable → written ≡ answer_text (Model literals) → said ≡ [] → Answers options F written said status
 model_answers options F literals status written said h is text silent =
-    subst (λ (s : Status). Answers options F s written said) (sym is) (writes_model F literals written h text, silent)
+    subst (Answers options F written said) (sym is) (satisfied (writes_model F literals written h text) silent)
 
 pub refuted_answers : (options : Options) (F : Cnf) (round : Round) (status : Status) (written said : List ℕ) → is_formula F ≡ true → IsRefutedWithin F options.conflicts round → status ≡ Unsatisfiable → written ≡ answer_text (Refuted round) → said ≡ []
-    → Answers options F status written said
+    → Answers options F written said status
 refuted_answers options F round status written said formed h is text silent =
-    subst (λ (s : Status). Answers options F s written said) (sym is) (writes_refutation options F round written formed h text, silent)
+    subst (Answers options F written said) (sym is) (refuted (writes_refutation options F round written formed h text) silent)
 
 pub open_answers : (options : Options) (F : Cnf) (round : Round) (rounds : List Round) (d : OpenDocument) (status : Status) (written said : List ℕ) → IsUndecidedWithin F options.conflicts round → rounds ≡ round ∷ []
-    → d ≡ open_document_of F None options.conflicts rounds → status ≡ Budget → written ≡ text_of (Unfinished d) → said ≡ conflicts_line d.learned → Answers options F status written said
+    → d ≡ open_document_of F None options.conflicts rounds → status ≡ Budget → written ≡ text_of (Unfinished d) → said ≡ conflicts_line d.learned → Answers options F written said status
 open_answers options F round rounds d status written said h one told is text line =
-    subst (λ (s : Status). Answers options F s written said) (sym is)
-    (writes_unfinished options F round rounds d written h one told text, line ∙ ap (λ (e : OpenDocument). conflicts_line e.learned) told)
+    subst (Answers options F written said) (sym is)
+    (stopped (writes_unfinished options F round rounds d written h one told text) (line ∙ ap (λ (e : OpenDocument). conflicts_line e.learned) told))
 
 -- WHAT IS DECIDED
 
@@ -99,38 +100,25 @@ not_enough conflicts F few filled (inl enough) = omega (arith, few, enough)
 not_enough conflicts F few filled (inr some) = (let found : false ≡ true = subst (λ (o : Option ℕ). is_some o ≡ true) filled some in cc)
 
 -- a status with which it may end is the decided one
-pub solve_status : (options : Options) (F : Cnf) (decided status : Status) (written said : List ℕ) → Decides options F decided → Answers options F status written said → status ≡ decided
-solve_status options F Satisfiable Satisfiable written said d a = refl
-solve_status options F Satisfiable Unsatisfiable written said d a = absurd (a.0.no_model d.1.0 d.1.1)
-solve_status options F Satisfiable Budget written said d a = absurd (let few = a.0.few in let enough = d.0 in omega (arith, few, enough))
-solve_status options F Unsatisfiable Satisfiable written said d a = absurd (d.1 (assignment_of a.0.literals) a.0.model)
-solve_status options F Unsatisfiable Unsatisfiable written said d a = refl
-solve_status options F Unsatisfiable Budget written said d a = absurd (not_enough options.conflicts F a.0.few a.0.filled d.0)
-solve_status options F Done status written said d a = absurd d
-solve_status options F Words status written said d a = absurd d
-solve_status options F Input status written said d a = absurd d
-solve_status options F ReadFault status written said d a = absurd d
-solve_status options F WriteFault status written said d a = absurd d
-solve_status options F Budget status written said d a = absurd d
-solve_status options F TooWide status written said d a = absurd d
-solve_status options F TooLarge status written said d a = absurd d
-solve_status options F Refused status written said d a = absurd d
-solve_status options F Memory status written said d a = absurd d
-solve_status options F Satisfiable Done written said d a = absurd a
-solve_status options F Satisfiable Words written said d a = absurd a
-solve_status options F Satisfiable Input written said d a = absurd a
-solve_status options F Satisfiable ReadFault written said d a = absurd a
-solve_status options F Satisfiable WriteFault written said d a = absurd a
-solve_status options F Satisfiable TooWide written said d a = absurd a
-solve_status options F Satisfiable TooLarge written said d a = absurd a
-solve_status options F Satisfiable Refused written said d a = absurd a
-solve_status options F Satisfiable Memory written said d a = absurd a
-solve_status options F Unsatisfiable Done written said d a = absurd a
-solve_status options F Unsatisfiable Words written said d a = absurd a
-solve_status options F Unsatisfiable Input written said d a = absurd a
-solve_status options F Unsatisfiable ReadFault written said d a = absurd a
-solve_status options F Unsatisfiable WriteFault written said d a = absurd a
-solve_status options F Unsatisfiable TooWide written said d a = absurd a
-solve_status options F Unsatisfiable TooLarge written said d a = absurd a
-solve_status options F Unsatisfiable Refused written said d a = absurd a
-solve_status options F Unsatisfiable Memory written said d a = absurd a
+pub solve_status : {options : Options} {F : Cnf} {written said : List ℕ} {decided status : Status} → Decides options F decided → Answers options F written said status → status ≡ decided
+solve_status (has_model enough m) (satisfied w silent) = refl
+solve_status (has_model enough m) (refuted w silent) = absurd (w.no_model m.0 m.1)
+solve_status (has_model enough m) (stopped w line) = absurd (let few = w.few in omega (arith, few, enough))
+solve_status (no_kernel k) (satisfied w silent) = refl
+solve_status {F = F} (no_kernel k) (refuted w silent) = absurd (let r = (w.first (no_empty F k (first_empty F) refl)).1 in no_kernel_part F r.before r.behind _ k r.parts)
+solve_status {F = F} (no_kernel k) (stopped w line) = absurd (no_kernel_part F w.stops.before w.stops.behind w.part k w.stops.parts)
+solve_status (has_none enough none) (satisfied w silent) = absurd (none (assignment_of w.literals) w.model)
+solve_status (has_none enough none) (refuted w silent) = refl
+solve_status {options = options} {F = F} (has_none enough none) (stopped w line) = absurd (not_enough options.conflicts F w.few w.filled enough)
+
+-- WHAT A STATUS TELLS
+
+module _ {options : Options} {F : Cnf} {written said : List ℕ} where
+  pub model_of : Answers options F written said Satisfiable → WritesModel F written × (said ≡ [])
+  model_of (satisfied w silent) = (w, silent)
+
+  pub refutation_of : Answers options F written said Unsatisfiable → WritesRefutation options F written × (said ≡ [])
+  refutation_of (refuted w silent) = (w, silent)
+
+  pub stop_of : Answers options F written said Budget → WritesUnfinishedSearch options F written × (said ≡ conflicts_line options.conflicts)
+  stop_of (stopped w line) = (w, line)

@@ -28,14 +28,15 @@ use std::thread::Threads;
 const CONFLICTS: u64 = 100_000;
 
 /// Writes the sizes of the kernels of the formula of a number, and what the checks say of the document of the
-/// general one; or, if that is not finished when the budget is used up, an unfinished document.
+/// general one; or, if that is not finished when the budget is used up, the unfinished document of one part, where the
+/// parts before it can be finished.
 pub fn answer<R: Threads + Sync, G: Gate>(
     rt: &R,
     alloc: Global,
     gate: &G,
     number: u64,
 ) -> Result<Ending, OutOfMemory>
-    ensures answers { IfOk result (λ e. Answers number e.status e.written.items e.said.items) }
+    ensures answers { IfOk result (λ e. Answers number e.written.items e.said.items e.status) }
     ensures result { IfOk result (λ e. IsTrue (is_result e.status)) }
 {
     let formula = demo_formula(alloc, number)?;

@@ -14,8 +14,9 @@ use mus_core::{Mus, minimal};
 use status_lines::{Ending, Status};
 use std::alloc::Global;
 
-/// A minimally unsatisfiable core of a formula, or a model, or the unfinished document of a search that used up its
-/// budget.
+/// A minimally unsatisfiable core of a formula, whose refutation is within the budget, or a model; or the unfinished
+/// document of a search that used up its budget, where no part of the formula is refuted or a core was being made
+/// smaller.
 pub fn answer(alloc: Global, formula: Formula, options: &Options<'_>) -> Result<Ending, OutOfMemory>
     ensures { IfOk result (IsAnswer Command.Mus (values_of options.now) (formula, tt)) }
 {

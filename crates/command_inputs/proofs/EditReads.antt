@@ -40,14 +40,8 @@ edits_at_end F before now fed edits p e h = at_end (IsEdits F edits) before now 
 
 -- what stops the bytes of a text stops edits
 pub stops_reading : (F : Cnf) (told : Option (List ℕ)) (ailing : Bool) (s : Stop) → StopsText ailing s → StopsReading EditsText F told ailing s
-stops_reading F told ailing (Words i) h = h
-stops_reading F told ailing (Formula r) h = h
-stops_reading F told ailing (Document line) h = h
-stops_reading F told ailing (Model line) h = h
-stops_reading F told ailing (Answer line) h = h
 stops_reading F told ailing (Edits line fault) h = absurd h
-stops_reading F told ailing Read h = h
-stops_reading F told ailing Memory h = h
+stops_reading F told ailing s h = h
 
 -- the stop of a text's refusal
 stop_by : (F : Cnf) (told : Option (List ℕ)) (ailing : Bool) (r : EditsRefused) → IfSome told (λ b. IsRefusalOf F b r) → StopsReading EditsText F told ailing (edits_stop_of r)

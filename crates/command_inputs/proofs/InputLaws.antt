@@ -64,45 +64,11 @@ never_refused never Formula known bytes v (stop.Formula r) t h =
     let none : refusal_of bytes ≡ None = ap (option_map refusal_by) (faultless bytes v t) in
     let f : ⊥ = cc (none, h) in
     f
-never_refused never Formula known bytes v (stop.Words i) t h = h
-never_refused never Formula known bytes v (stop.Document line) t h = h
-never_refused never Formula known bytes v (stop.Model line) t h = h
-never_refused never Formula known bytes v (stop.Answer line) t h = h
-never_refused never Formula known bytes v (stop.Edits line fault) t h = h
-never_refused never Formula known bytes v stop.Read t h = h
-never_refused never Formula known bytes v stop.Memory t h = h
 never_refused never Document known bytes v (stop.Document line) t h = never bytes v line t h
-never_refused never Document known bytes v (stop.Words i) t h = h
-never_refused never Document known bytes v (stop.Formula r) t h = h
-never_refused never Document known bytes v (stop.Model line) t h = h
-never_refused never Document known bytes v (stop.Answer line) t h = h
-never_refused never Document known bytes v (stop.Edits line fault) t h = h
-never_refused never Document known bytes v stop.Read t h = h
-never_refused never Document known bytes v stop.Memory t h = h
 never_refused never Model known bytes v (stop.Model line) t h = let f : ⊥ = cc (t, h) in f
-never_refused never Model known bytes v (stop.Words i) t h = h
-never_refused never Model known bytes v (stop.Formula r) t h = h
-never_refused never Model known bytes v (stop.Document line) t h = h
-never_refused never Model known bytes v (stop.Answer line) t h = h
-never_refused never Model known bytes v (stop.Edits line fault) t h = h
-never_refused never Model known bytes v stop.Read t h = h
-never_refused never Model known bytes v stop.Memory t h = h
 never_refused never Answer known bytes v (stop.Answer line) t h = answer_text_law.never known.vars (length known.clauses) bytes v line t h
-never_refused never Answer known bytes v (stop.Words i) t h = h
-never_refused never Answer known bytes v (stop.Formula r) t h = h
-never_refused never Answer known bytes v (stop.Document line) t h = h
-never_refused never Answer known bytes v (stop.Model line) t h = h
-never_refused never Answer known bytes v (stop.Edits line fault) t h = h
-never_refused never Answer known bytes v stop.Read t h = h
-never_refused never Answer known bytes v stop.Memory t h = h
 never_refused never Edits known bytes v (stop.Edits line fault) t h = let f : ⊥ = cc (t, h) in f
-never_refused never Edits known bytes v (stop.Words i) t h = h
-never_refused never Edits known bytes v (stop.Formula r) t h = h
-never_refused never Edits known bytes v (stop.Document line) t h = h
-never_refused never Edits known bytes v (stop.Model line) t h = h
-never_refused never Edits known bytes v (stop.Answer line) t h = h
-never_refused never Edits known bytes v stop.Read t h = h
-never_refused never Edits known bytes v stop.Memory t h = h
+never_refused never grammar known bytes v s t h = h
 
 told_refused : StopsNowhere → (grammar : Grammar) (known : Known) (told : Option (List ℕ)) (v : ValueOf grammar) (s : Stop) → IsSome told → IfSome told (IsTextOf grammar known v) → IsRefusal grammar known told s → ⊥
 told_refused never grammar known None v s some t h = let f : ⊥ = cc some in f

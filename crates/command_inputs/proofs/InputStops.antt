@@ -14,40 +14,18 @@ use Rattle.command_inputs.proofs.Streams.{at_end, in_midst}
 
 -- what stops the bytes of a text stops a formula
 pub stops_reading : (told : Option (List ℕ)) (ailing : Bool) (s : Stop) → StopsText ailing s → StopsReading FormulaText nothing_known told ailing s
-stops_reading told ailing (Words i) h = h
 stops_reading told ailing (Formula r) h = absurd h
-stops_reading told ailing (Document line) h = h
-stops_reading told ailing (Model line) h = h
-stops_reading told ailing (Answer line) h = h
-stops_reading told ailing (Edits line fault) h = h
-stops_reading told ailing Read h = h
-stops_reading told ailing Memory h = h
+stops_reading told ailing s h = h
 
 -- the stop of a text's refusal
 stop_by : (bytes : List ℕ) (ailing : Bool) (r : Refused) → IsRefusalOf bytes r → StopsReading FormulaText nothing_known (Some bytes) ailing (stop_of r)
 stop_by bytes ailing refused.OutOfMemory h = tt
-stop_by bytes ailing (refused.NoHeader line) h = h
-stop_by bytes ailing (refused.BadHeader line) h = h
-stop_by bytes ailing (refused.SecondHeader line) h = h
-stop_by bytes ailing (refused.BadToken line) h = h
-stop_by bytes ailing (refused.BeyondStated line) h = h
-stop_by bytes ailing (refused.TooManyClauses line) h = h
-stop_by bytes ailing (refused.TooFewClauses line) h = h
-stop_by bytes ailing (refused.Limit line) h = h
-stop_by bytes ailing (refused.TooLong line) h = h
+stop_by bytes ailing r h = h
 
 -- where nothing is told
 stop_untold : (ailing : Bool) (r : Refused) → StopsReading FormulaText nothing_known None ailing (stop_of r)
 stop_untold ailing refused.OutOfMemory = tt
-stop_untold ailing (refused.NoHeader line) = tt
-stop_untold ailing (refused.BadHeader line) = tt
-stop_untold ailing (refused.SecondHeader line) = tt
-stop_untold ailing (refused.BadToken line) = tt
-stop_untold ailing (refused.BeyondStated line) = tt
-stop_untold ailing (refused.TooManyClauses line) = tt
-stop_untold ailing (refused.TooFewClauses line) = tt
-stop_untold ailing (refused.Limit line) = tt
-stop_untold ailing (refused.TooLong line) = tt
+stop_untold ailing r = tt
 
 stop_told : (told : Option (List ℕ)) (ailing : Bool) (r : Refused) → IfSome told (λ b. IsRefusalOf b r) → StopsReading FormulaText nothing_known told ailing (stop_of r)
 stop_told None ailing r h = stop_untold ailing r

@@ -38,14 +38,8 @@ document_stops Completes told ailing read.OutOfMemory reads h = tt
 
 -- what stops the bytes of a text
 pub document_text : (told : Option (List ℕ)) (ailing : Bool) (s : Stop) → StopsText ailing s → StopsReading Document nothing_known told ailing s
-document_text told ailing (stop.Words i) h = h
-document_text told ailing (stop.Formula r) h = h
 document_text told ailing (stop.Document line) h = absurd h
-document_text told ailing (stop.Model line) h = h
-document_text told ailing (stop.Answer line) h = h
-document_text told ailing (stop.Edits line fault) h = h
-document_text told ailing stop.Read h = h
-document_text told ailing stop.Memory h = h
+document_text told ailing s h = h
 
 -- ANSWERS
 
@@ -67,11 +61,5 @@ answer_stops F Completes (Some bytes) ailing (read.Line line) reads h = reads.st
 answer_stops F Completes told ailing read.OutOfMemory reads h = tt
 
 pub answer_text : (F : Cnf) (told : Option (List ℕ)) (ailing : Bool) (s : Stop) → StopsText ailing s → StopsReading Answer F told ailing s
-answer_text F told ailing (stop.Words i) h = h
-answer_text F told ailing (stop.Formula r) h = h
-answer_text F told ailing (stop.Document line) h = h
-answer_text F told ailing (stop.Model line) h = h
 answer_text F told ailing (stop.Answer line) h = absurd h
-answer_text F told ailing (stop.Edits line fault) h = h
-answer_text F told ailing stop.Read h = h
-answer_text F told ailing stop.Memory h = h
+answer_text F told ailing s h = h

@@ -61,14 +61,8 @@ stops_in_midst known before now fed ailing s p h = stop_by known before ailing s
 
 -- what stops the bytes of a text stops a model
 pub stops_reading : (known : Known) (told : Option (List ℕ)) (ailing : Bool) (s : Stop) → StopsText ailing s → StopsReading Model known told ailing s
-stops_reading known told ailing (stop.Words i) h = h
-stops_reading known told ailing (stop.Formula r) h = h
-stops_reading known told ailing (stop.Document line) h = h
 stops_reading known told ailing (stop.Model line) h = absurd h
-stops_reading known told ailing (stop.Answer line) h = h
-stops_reading known told ailing (stop.Edits line fault) h = h
-stops_reading known told ailing stop.Read h = h
-stops_reading known told ailing stop.Memory h = h
+stops_reading known told ailing s h = h
 
 -- BEHIND OTHER INPUTS
 
@@ -91,12 +85,7 @@ pub stops_before : (told : Told) (known : Known) (grammars others : List Grammar
     → StopsOn told known (grammars ++ others) (names ++ more) ailing current s
 stops_before told known grammars others names more ailing current stop.Read h = ailing_before told known grammars others names more ailing current h
 stops_before told known grammars others names more ailing current stop.Memory h = tt
-stops_before told known grammars others names more ailing current (stop.Words i) h = bad_before told known grammars others names more (stop.Words i) h
-stops_before told known grammars others names more ailing current (stop.Formula r) h = bad_before told known grammars others names more (stop.Formula r) h
-stops_before told known grammars others names more ailing current (stop.Document line) h = bad_before told known grammars others names more (stop.Document line) h
-stops_before told known grammars others names more ailing current (stop.Model line) h = bad_before told known grammars others names more (stop.Model line) h
-stops_before told known grammars others names more ailing current (stop.Answer line) h = bad_before told known grammars others names more (stop.Answer line) h
-stops_before told known grammars others names more ailing current (stop.Edits line fault) h = bad_before told known grammars others names more (stop.Edits line fault) h
+stops_before told known grammars others names more ailing current s h = bad_before told known grammars others names more s h
 
 -- the bytes that are told later were told before
 told_before : (told now : Told) (name : Word) (P : List ℕ → Type 0) → TellsTheSame told now → IfSome (now name) P → IfSome (told name) P
@@ -112,10 +101,6 @@ pub stops_behind : (told now : Told) (a b c : Word) (F : Cnf) (d : AnyDocument) 
     → StopsOn told nothing_known (Formula ∷ Document ∷ Model ∷ []) (a ∷ b ∷ c ∷ []) ailing current s
 stops_behind told now a b c F d ailing current stop.Read same r h at = inr (F, r.0, inr (d, r.1.0, inl (h, at refl)))
 stops_behind told now a b c F d ailing current stop.Memory same r h at = tt
-stops_behind told now a b c F d ailing current (stop.Words i) same r h at = absurd h
-stops_behind told now a b c F d ailing current (stop.Formula x) same r h at = absurd h
-stops_behind told now a b c F d ailing current (stop.Document line) same r h at = absurd h
-stops_behind told now a b c F d ailing current (stop.Answer line) same r h at = absurd h
-stops_behind told now a b c F d ailing current (stop.Edits line fault) same r h at = absurd h
 stops_behind told now a b c F d ailing current (stop.Model line) same r h at =
     inr (F, r.0, inr (d, r.1.0, inl (told_before told now c (λ b. model_of b F.vars ≡ Err line) same h)))
+stops_behind told now a b c F d ailing current s same r h at = absurd h

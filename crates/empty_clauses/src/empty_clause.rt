@@ -2,6 +2,7 @@
 ghost use Rattle.std.specs.Prelude.{◌≡◌, ◌∷◌, [], find, IfOk, IsTrue};
 ghost use Rattle.lk_model.specs.Lists.{is_empty};
 ghost use Rattle.lk_model.specs.Formulas.Formula.{clause_at, is_formula, positions_of};
+ghost use Rattle.lk_model.specs.Chains.Rounds.{empty_round};
 ghost use Rattle.general_laws.specs.CoreLaw.{IsCore};
 ghost use Rattle.empty_clauses.specs.EmptyAt.{IsEmptyAt};
 
@@ -21,6 +22,7 @@ pub fn empty_core(alloc: Global, f: &Formula, p: u32) -> Result<MusResult, OutOf
     requires { IsEmptyAt f.now p }
     ensures core { IfOk result (λ r. IsCore f.now r.core r.round r.without) }
     ensures only { IfOk result (λ r. r.core ≡ p ∷ []) }
+    ensures round { IfOk result (λ r. r.round ≡ empty_round f.now p) }
 {
     let mut core = List::new(alloc);
     core.push(p)?;

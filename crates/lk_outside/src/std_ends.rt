@@ -142,9 +142,10 @@ pub struct StdSink<W> {
 }
 
 impl<W: Write> StdSink<W> {
-    /// A sink into that stream.
+    /// A sink into that stream, into which nothing is written yet.
     pub fn new(stream: W) -> Self
-        ensures { ⟦<StdSink<W> as Sink>⟧.faults result ≡ 0 }
+        ensures stream { result.stream ≡ stream }
+        ensures faults { ⟦<StdSink<W> as Sink>⟧.faults result ≡ 0 }
     {
         StdSink {
             stream,

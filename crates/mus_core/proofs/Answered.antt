@@ -1,5 +1,5 @@
 -- Where no clause is empty, and the whole model of literals.
-use Rattle.std.proofs.Common.{◌≡◌, Result, Ok, Err, IfOk, ℕ, ◌≤◌, Bool, true, nat_le, List, [], ◌∷◌, refl, sym, ◌∙◌, ap, subst, ℤ, Option, Some, None, map, length, find, arith}
+use Rattle.std.proofs.Common.{◌≡◌, Result, Ok, Err, IfOk, ℕ, ◌+◌, ◌≤◌, Bool, true, nat_le, List, [], ◌∷◌, refl, sym, ◌∙◌, ap, subst, ℤ, Option, Some, None, map, length, find, arith}
 use Rattle.std.proofs.lemmas.Bool.{le-leb, leb-true, and_from, cond-true}
 use Rattle.lk_model.specs.Lists.{is_between, is_empty}
 use Rattle.lk_model.specs.Formulas.Literal.{variable, literal_of}
@@ -15,8 +15,14 @@ use Rattle.lk_model.proofs.Ranks.{literal_bounds}
 use Rattle.kernel_laws.proofs.Assignments.{satisfying, satisfied_at}
 use Rattle.general_laws.proofs.Flips.{by_value, true_set, value_true, still_true}
 use Rattle.part_formula.specs.Decisions.{are_filled, IsPartModel}
+use Rattle.lk_model.specs.Chains.Rounds.{empty_round, is_trimmed, reached}
+use Rattle.lk_model.specs.Checks.RoundChecks.{learned_steps}
+use Rattle.lk_model.specs.declared.document.Round.{Round}
+use Rattle.lk_model.specs.declared.result.MusResult.{MusResult}
+use Rattle.lk_model.proofs.Lists.{among_here}
+use Rattle.general_laws.specs.CoreLaw.{IsCore}
 use Rattle.empty_clauses.specs.EmptyAt.{IsEmptyAt}
-use Rattle.mus_core.specs.Found.{IsWholeModel}
+use Rattle.mus_core.specs.Found.{IsCoreWithin, IsWholeModel}
 use Rattle.mus_core.proofs.ShrunkCores.{none_all, found_at}
 
 -- WHERE NO CLAUSE IS EMPTY
@@ -30,6 +36,15 @@ empty_at F p e =
     let b = up_to_bounds (length F.clauses) p w.0 in
     let low = b.0 in
     record { first = omega (arith, low); last = b.1; empty = is_nothing (clause_at F p) w.1 }
+
+-- the core of an empty clause needs no learned clause
+pub empty_within : (F : Cnf) (p conflicts : ℕ) (r : MusResult) → IsCore F r.core r.round r.without → r.round ≡ empty_round F p → IsCoreWithin F conflicts r
+unfolding reached
+empty_within F p conflicts r core is = record {
+  core = core;
+  needed = subst (λ (q : Round). is_trimmed q ≡ true) (sym is) (and_from _ true (among_here (length F.clauses + 1) (p ∷ [])) refl);
+  most = subst (λ (q : Round). length (learned_steps (q ∷ [])) ≤ conflicts) (sym is) (omega arith);
+}
 
 -- A WHOLE MODEL
 

@@ -18,9 +18,14 @@ use Rattle.lk_model.proofs.ListTests.{all_weaker}
 use Rattle.lk_model.proofs.Lists.{in_mapped}
 use Rattle.lk_model.specs.Checks.RoundChecks.{IsRefutation}
 use Rattle.general_laws.proofs.JoinLaws.{join_law}
+use Rattle.part_formula.specs.Decisions.{IsPartRefuted}
 use Rattle.renaming_laws.specs.Renaming.{nth, named, number_in_whole, turn_under, step_under, renamed_round}
 use Rattle.renaming_laws.proofs.Mapped.{all_mapped}
 use Rattle.mus_core.specs.Named.{is_one, names_only}
+
+-- a needed refutation that refutes other positions too
+pub elsewhere : {F : Cnf} {part other : List ℕ} {conflicts : ℕ} {r : Round} → IsPartRefuted F part conflicts r → IsRefutation F other r → IsPartRefuted F other conflicts r
+elsewhere h there = record { refutation = there; needed = h.needed; most = h.most }
 
 -- NAMES ABOVE 0
 

@@ -1,42 +1,52 @@
 -- What is decided of parts, told of the formula.
-use Rattle.std.proofs.Common.{◌≡◌, ℕ, zero, suc, ◌+◌, ◌<◌, ◌≤◌, List, [], ◌∷◌, ◌++◌, take, length, map, get_or, refl, sym, ◌∙◌, ap, subst, arith, Option, Some, None, Contains}
+use Rattle.std.proofs.Common.{◌≡◌, ℕ, zero, suc, ◌+◌, ◌<◌, ◌≤◌, List, [], ◌∷◌, ◌++◌, take, length, map, get_or, refl, sym, ◌∙◌, ap, subst, arith, ℤ, Option, Some, None, Contains, inl, inr}
 use Rattle.std.specs.Prelude.{IfSome, unwrap_or}
-use Rattle.std.proofs.lemmas.List.{append-nil}
+use Rattle.std.specs.List.{AllByRecursion}
+use Rattle.std.proofs.lemmas.List.{append-nil, append_assoc}
+use Rattle.lk_model.specs.Lists.{among}
+use Rattle.lk_model.specs.Formulas.Assignment.{assignment_of}
 use Rattle.lk_model.specs.Formulas.Formula.{Cnf, positions_of}
+use Rattle.lk_model.specs.Formulas.Minimal.{IsSatisfiable}
 use Rattle.lk_model.specs.Formulas.Parts.{AreParts}
-use Rattle.lk_model.specs.Checks.RoundChecks.{IsRefutation}
 use Rattle.lk_model.specs.declared.document.Round.{Round}
 use Rattle.lk_model.specs.declared.result.GeneralResult.{GeneralResult}
 use Rattle.lk_model.proofs.Counting.{among-range}
 use Rattle.lk_model.proofs.Rising.{bounded}
+use Rattle.general_laws.specs.Found.{IsUnfinished}
 use Rattle.general_laws.specs.GeneralResults.{IsGeneralResult, AreGeneralResults}
 use Rattle.general_laws.proofs.UsedLaws.{used_law}
 use Rattle.autarky_compose.specs.JoinedGeneral.{AreJoinable, AreJoined, all_kept, rounds_behind}
 use Rattle.autarky_compose.proofs.GeneralLaws.{joined_general_law}
-use Rattle.part_formula.specs.Decisions.{IsPartModel, sets_only}
+use Rattle.part_formula.specs.Decisions.{IsPartModel, IsPartRefuted, sets_only}
 use Rattle.renaming_laws.specs.Renaming.{nth}
 use Rattle.renaming_laws.proofs.Copies.{part_length}
 use Rattle.mus_core.specs.declared.deciding.Copied.{Copied}
 use Rattle.mus_core.specs.declared.deciding.Refutation.{Refutation}
-use Rattle.mus_core.specs.declared.mus.Mus.{Mus}
+use Rattle.mus_core.specs.declared.by_parts.Stop.{Stop}
+use Rattle.mus_core.specs.declared.mus.Mus.TheVariants.{Unfinished}
 use Rattle.mus_core.specs.Copies.{IsCopy, IsRefutedWithin}
-use Rattle.mus_core.specs.Found.{IsMus}
-use Rattle.mus_core.specs.ByParts.{AreModels}
+use Rattle.mus_core.specs.Found.{IsMus, IsNotRefuted}
+use Rattle.mus_core.specs.ByParts.{AreModels, IsFirstStop, IsStop}
 use Rattle.mus_core.proofs.Copying.{rising_told}
+use Rattle.mus_core.proofs.Narrowing.{elsewhere}
 
 -- REFUTATIONS
 
 -- what refutes clauses of the formula refutes it
-pub refuted_whole : (c : Copied) (r : Refutation) → IsCopy c → IsRefutedWithin c r → IsRefutation c.formula.now (positions_of c.formula.now) r.round
-refuted_whole c r copy h =
+pub refuted_whole : (c : Copied) (conflicts : ℕ) (r : Refutation) → IsCopy c → IsRefutedWithin c conflicts r → IsPartRefuted c.formula.now (positions_of c.formula.now) conflicts r.round
+refuted_whole c conflicts r copy h =
     let F = c.formula.now in
     let G = c.clauses.now in
     let told = map (nth c.part.now) r.places in
     let rise = rising_told c.part.now (length F.clauses) (length G.clauses) r.places copy.part (part_length F G c.part.now c.names.now copy.dense) h.places in
-    used_law.wider F told (positions_of F) r.round (λ p m.
+    elsewhere h.refuted (used_law.wider F told (positions_of F) r.round (λ p m.
     let b = bounded 0 (length F.clauses) told p rise m in
     let most = b.1 in
-    among-range 1 (length F.clauses) p b.0 (omega (arith, most))) h.refuted
+    among-range 1 (length F.clauses) p b.0 (omega (arith, most))) h.refuted.refutation)
+
+-- a greater budget allows it too
+pub more_allowed : {F : Cnf} {part : List ℕ} {less conflicts : ℕ} {r : Round} → less ≤ conflicts → IsPartRefuted F part less r → IsPartRefuted F part conflicts r
+more_allowed fewer h = record { refutation = h.refutation; needed = h.needed; most = let most = h.most in omega (arith, fewer, most) }
 
 -- MODELS
 
@@ -109,9 +119,60 @@ whole_model F parts found t are all j =
     let only : t ≡ sets_only t.set = λ i. record { kept = kept i; set = t.set; rounds = rounds i } in
     subst (λ (s : GeneralResult). IsGeneralResult F (positions_of F) s) only (joined_general_law.whole F parts found t are (results F parts found all) j)
 
--- THE FIRST THAT STOPPED
+-- THE FIRST SEARCH THAT STOPPED
 
-pub first_stop : (F : Cnf) (conflicts : ℕ) (first : Option Mus) (second : Mus) → IfSome first (IsMus F conflicts) → IsMus F conflicts second
-    → IsMus F conflicts (unwrap_or first second)
-first_stop F conflicts None second before here = here
-first_stop F conflicts (Some m) second before here = before
+-- so each of these parts has a model
+each_satisfied : (F : Cnf) (parts : List (List ℕ)) (found : List GeneralResult) → AreModels F parts found → AllByRecursion (λ p. IsSatisfiable F (among p)) parts
+each_satisfied F [] [] all = tt
+each_satisfied F [] (r ∷ found) all = absurd all
+each_satisfied F (part ∷ parts) [] all = absurd all
+each_satisfied F (part ∷ parts) (r ∷ found) all = ((assignment_of r.set, λ p m. all.0.satisfied p m refl), each_satisfied F parts found all.2)
+
+each_more : {X : Type 0} (P : X → Type 0) (xs : List X) (x : X) → AllByRecursion P xs → P x → AllByRecursion P (xs ++ x ∷ [])
+each_more P [] x all here = (here, tt)
+each_more P (y ∷ xs) x all here = (all.0, each_more P xs x all.1 here)
+
+-- one part more that is not refuted
+behind_more : (F : Cnf) (conflicts : ℕ) (parts : List (List ℕ)) (part : List ℕ) (s : Stop) → IsNotRefuted F conflicts part → IsFirstStop F conflicts parts s
+    → IsFirstStop F conflicts (parts ++ part ∷ []) s
+behind_more F conflicts parts part s here h = record {
+  stop = h.stop;
+  before = h.before;
+  behind = h.behind ++ part ∷ [];
+  are = ap (λ (ps : List (List ℕ)). ps ++ part ∷ []) h.are ∙ append_assoc h.before (s.part ∷ h.behind) (part ∷ []);
+  models = h.models;
+  others = each_more (IsNotRefuted F conflicts) h.behind part h.others here;
+}
+
+pub behind_model : (F : Cnf) (conflicts : ℕ) (parts : List (List ℕ)) (part : List ℕ) (lits : List ℤ) (o : Option Stop) → IsPartModel F part lits
+    → IfSome o (IsFirstStop F conflicts parts) → IfSome o (IsFirstStop F conflicts (parts ++ part ∷ []))
+behind_model F conflicts parts part lits None model h = tt
+behind_model F conflicts parts part lits (Some s) model h = behind_more F conflicts parts part s (inl (assignment_of lits, λ p m. model.satisfied p m refl)) h
+
+pub first_stop : (F : Cnf) (conflicts : ℕ) (parts : List (List ℕ)) (found : List GeneralResult) (o : Option Stop) (second : Stop) → IsStop F conflicts second
+    → (o ≡ None → AreModels F parts found) → IfSome o (IsFirstStop F conflicts parts) → IsFirstStop F conflicts (parts ++ second.part ∷ []) (unwrap_or o second)
+first_stop F conflicts parts found None second stop models h = record {
+  stop = stop;
+  before = parts;
+  behind = [];
+  are = refl;
+  models = each_satisfied F parts found (models refl);
+  others = tt;
+}
+first_stop F conflicts parts found (Some s) second stop models h =
+    behind_more F conflicts parts second.part s
+    (inr (second.open.round, subst (λ (G : Cnf). IsUnfinished G (positions_of G) conflicts (second.open.round ∷ [])) stop.texts_are stop.unfinished)) h
+
+-- of all parts
+pub stop_answer : (F : Cnf) (conflicts : ℕ) (parts : List (List ℕ)) (s : Stop) → AreParts F parts → IsFirstStop F conflicts parts s
+    → IsMus F conflicts (Unfinished s.part s.open.texts s.open.round)
+stop_answer F conflicts parts s are h = record {
+  stopped = h.stop;
+  why = inr (record {
+    before = h.before;
+    behind = h.behind;
+    parts = subst (AreParts F) h.are are;
+    models = h.models;
+    others = h.others;
+  });
+}

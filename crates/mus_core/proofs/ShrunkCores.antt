@@ -1,8 +1,8 @@
 -- A refuted set with witnesses for some of its places, and what each decision makes of it.
-use Rattle.std.proofs.Common.{◌≡◌, ℕ, zero, suc, ◌-◌, ◌<◌, Bool, true, false, if◌then◌else◌, not, ◌&&◌, ◌==◌, List, [], ◌∷◌, refl, sym, ◌∙◌, ap, subst, ℤ, Option, Some, None, IfSome, is_some, map, filter, find, length, replicate, get_or, arith}
+use Rattle.std.proofs.Common.{◌≡◌, ℕ, zero, suc, ◌-◌, ◌<◌, ◌≤◌, Bool, true, false, if◌then◌else◌, not, ◌&&◌, ◌==◌, List, [], ◌∷◌, refl, sym, ◌∙◌, ap, subst, ℤ, Option, Some, None, IfSome, is_some, map, filter, find, length, replicate, get_or, arith, inl, inr}
 use Rattle.std.specs.Prelude.{slice_index_or}
 use Rattle.std.specs.List.{list_all}
-use Rattle.std.proofs.lemmas.Bool.{both_ways, eq-eqb, false_from_ne_true, not_from_false, not-true, and_from}
+use Rattle.std.proofs.lemmas.Bool.{both_ways, cases_Bool, eq-eqb, false_from_ne_true, not_from_false, not-true, and_from}
 use Rattle.std.proofs.lemmas.List.{length-map, get_or-map}
 use Rattle.lk_model.specs.Lists.{among, rises_within}
 use Rattle.lk_model.specs.Formulas.Formula.{Cnf, clause_at, clauses_at, positions_of}
@@ -11,15 +11,18 @@ use Rattle.lk_model.specs.Formulas.Lean.{are_positions}
 use Rattle.lk_model.specs.Held.PartialValues.{assignment_by}
 use Rattle.lk_model.proofs.Booleans.{and_true}
 use Rattle.lk_model.proofs.Counting.{Differ, Differ-filter, Differ-range, fewer, in_filter, from_filter, among-range}
-use Rattle.lk_model.proofs.Lists.{among_here, among_later, place_of}
+use Rattle.lk_model.proofs.Lists.{among_here, among_later, in_mapped, place_of}
 use Rattle.lk_model.proofs.Rising.{bounded, filter_rises}
-use Rattle.lk_model.specs.Checks.RoundChecks.{IsRefutation}
 use Rattle.general_laws.proofs.WitnessLaws.{witness_law}
-use Rattle.part_formula.specs.Decisions.{IsPartModel}
+use Rattle.part_formula.specs.Decisions.{IsPartModel, IsPartRefuted}
 use Rattle.renaming_laws.specs.Renaming.{nth}
+use Rattle.renaming_laws.proofs.Copies.{part_length}
+use Rattle.renaming_laws.proofs.Mapped.{rising_same}
+use Rattle.renaming_laws.proofs.Told.{told, told_rise, nth_told}
 use Rattle.mus_core.specs.declared.deciding.Copied.{Copied}
 use Rattle.mus_core.specs.declared.deciding.Refutation.{Refutation}
-use Rattle.mus_core.specs.Copies.{IsRefutedWithin}
+use Rattle.mus_core.specs.Copies.{IsCopy, IsRefutedWithin}
+use Rattle.mus_core.specs.Found.{LeavesOneOut}
 use Rattle.lk_model.specs.Formulas.Minimal.{all_but}
 use Rattle.mus_core.specs.WitnessValues.{witness_at, is_open, IsRotated}
 use Rattle.mus_core.specs.Shrinking.{IsShrunk, left_open, IsNext}
@@ -61,9 +64,9 @@ none_at zero k = refl
 none_at (suc m) zero = refl
 none_at (suc m) (suc k) = none_at m k
 
-pub begins : (c : Copied) (r : Refutation) (ws : List (Option (List (Option Bool)))) → IsRefutedWithin c r → ws ≡ replicate (length c.clauses.now.clauses) None
-    → length ws ≡ length c.clauses.now.clauses → IsShrunk c r ws
-begins c r ws refuted is size = record {
+pub begins : (c : Copied) (conflicts : ℕ) (r : Refutation) (ws : List (Option (List (Option Bool)))) → IsRefutedWithin c conflicts r → ws ≡ replicate (length c.clauses.now.clauses) None
+    → length ws ≡ length c.clauses.now.clauses → IsShrunk c conflicts r ws
+begins c conflicts r ws refuted is size = record {
   refuted = refuted;
   held = record {
     size = size;
@@ -75,18 +78,18 @@ begins c r ws refuted is size = record {
     none : (p : ℕ) → witness_at ws p ≡ None
     none p = ap (λ (us : List (Option (List (Option Bool)))). witness_at us p) is ∙ none_at (length c.clauses.now.clauses) (p - 1)
 
-pub next : (c : Copied) (r : Refutation) (ws : List (Option (List (Option Bool)))) (p : ℕ) → IsShrunk c r ws
+pub next : (c : Copied) (conflicts : ℕ) (r : Refutation) (ws : List (Option (List (Option Bool)))) (p : ℕ) → IsShrunk c conflicts r ws
     → find (λ p. not (is_some (witness_at ws p))) r.places ≡ Some p → IsNext c r ws p
-next c r ws p h e =
+next c conflicts r ws p h e =
     let w = found_at (λ p. not (is_some (witness_at ws p))) r.places p e in
     let b = bounded 0 (length c.clauses.now.clauses) r.places p h.refuted.places w.0 in
     record { there = w.0; none = not-true (is_some (witness_at ws p)) w.1; first = b.0; last = b.1 }
 
 -- THE OTHER PLACES
 
-pub others_rise : (c : Copied) (r : Refutation) (others : List ℕ) (p : ℕ) → IsRefutedWithin c r → others ≡ filter (λ q. not (q == p)) r.places
+pub others_rise : (c : Copied) (conflicts : ℕ) (r : Refutation) (others : List ℕ) (p : ℕ) → IsRefutedWithin c conflicts r → others ≡ filter (λ q. not (q == p)) r.places
     → are_positions c.clauses.now others ≡ true
-others_rise c r others p h is = subst (λ (ps : List ℕ). are_positions c.clauses.now ps ≡ true) (sym is)
+others_rise c conflicts r others p h is = subst (λ (ps : List ℕ). are_positions c.clauses.now ps ≡ true) (sym is)
     (filter_rises 0 (length c.clauses.now.clauses) (λ q. not (q == p)) r.places h.places)
 
 -- A WITNESS MORE
@@ -132,16 +135,16 @@ fewer_open c r ws us p n rotated given =
 
 -- A SMALLER SET
 
-pub smaller : (c s : Copied) (r q : Refutation) (ws : List (Option (List (Option Bool)))) (others places : List ℕ) (p : ℕ) → IsShrunk c r ws → IsNext c r ws p
+pub smaller : (c s : Copied) (conflicts : ℕ) (r q : Refutation) (ws : List (Option (List (Option Bool)))) (others places : List ℕ) (p : ℕ) → IsShrunk c conflicts r ws → IsNext c r ws p
     → others ≡ filter (λ q. not (q == p)) r.places → s.formula.now ≡ c.formula.now → s.part.now ≡ map (nth c.part.now) others
-    → s.clauses.now ≡ clauses_at c.clauses.now others → IsRefutedWithin s q → places ≡ map (nth others) q.places
-    → IsShrunk c (record { places = places; round = q.round }) ws × (left_open c.clauses.now places ws < left_open c.clauses.now r.places ws)
-smaller c s r q ws others places p h n rest formula part clauses refuted is = (
+    → s.clauses.now ≡ clauses_at c.clauses.now others → IsRefutedWithin s conflicts q → places ≡ map (nth others) q.places
+    → IsShrunk c conflicts (record { places = places; round = q.round }) ws × (left_open c.clauses.now places ws < left_open c.clauses.now r.places ws)
+smaller c s conflicts r q ws others places p h n rest formula part clauses refuted is = (
   record {
     refuted = record {
       places = subst (λ (ps : List ℕ). are_positions G ps ≡ true) (sym is) (rising_told others m (length others) q.places rise refl more);
-      refuted = subst (λ (ps : List ℕ). IsRefutation c.formula.now ps q.round) (sym told)
-          (subst (λ (F : Cnf). IsRefutation F (map (nth s.part.now) q.places) q.round) formula refuted.refuted);
+      refuted = subst (λ (ps : List ℕ). IsPartRefuted c.formula.now ps conflicts q.round) (sym told)
+          (subst (λ (F : Cnf). IsPartRefuted F (map (nth s.part.now) q.places) conflicts q.round) formula refuted.refuted);
     };
     held = record {
       size = h.held.size;
@@ -164,7 +167,7 @@ smaller c s r q ws others places p h n rest formula part clauses refuted is = (
     m = length c.clauses.now.clauses
 
     rise : are_positions c.clauses.now others ≡ true
-    rise = others_rise c r others p h.refuted rest
+    rise = others_rise c conflicts r others p h.refuted rest
 
     more : rises_within 0 (length others) q.places ≡ true
     more = subst (λ (k : ℕ). rises_within 0 k q.places ≡ true) (ap (λ (H : Cnf). length H.clauses) clauses ∙ length-map others (clause_at c.clauses.now)) refuted.places
@@ -181,3 +184,44 @@ smaller c s r q ws others places p h n rest formula part clauses refuted is = (
 
     gone : among places p ≡ false
     gone = false_from_ne_true (among places p) (λ there. both_ways (p == p) (not-true (p == p) (kept p there).0) (eq-eqb p p refl))
+
+-- ONE LEFT OUT
+
+-- what stands at a place, by the places alone
+same_place : (part : List ℕ) (m p q : ℕ) → rises_within 0 m part ≡ true → 1 ≤ p → p ≤ length part → 1 ≤ q → q ≤ length part
+    → (nth part q == nth part p) ≡ (q == p)
+same_place part m p q rise p_low p_high q_low q_high =
+    rw (nth_told part m p p_low p_high, nth_told part m q q_low q_high) (rising_same (told part m) (told_rise part m rise) q p)
+
+-- all places but one, told
+others_told : (f : ℕ → ℕ) (p : ℕ) (ps : List ℕ) → ((q : ℕ) → among ps q ≡ true → (f q == f p) ≡ (q == p))
+    → map f (filter (λ q. not (q == p)) ps) ≡ filter (λ q. not (q == f p)) (map f ps)
+others_told f p [] same = refl
+others_told f p (q ∷ ps) same =
+    let here = same q (among_here q ps) in
+    let more = others_told f p ps (λ k there. same k (among_later q k ps there)) in
+    elim (cases_Bool (q == p)) [
+      | inl own ↦ rw (own, here ∙ own) more
+      | inr other ↦ rw (other, here ∙ other) (λ i. f q ∷ more i)
+    ]
+
+-- a search without the clause at the place of a refuted set
+pub one_left_out : (c : Copied) (conflicts : ℕ) (r : Refutation) (ws : List (Option (List (Option Bool)))) (others part : List ℕ) (p : ℕ) → IsCopy c → IsShrunk c conflicts r ws → IsNext c r ws p
+    → others ≡ filter (λ q. not (q == p)) r.places → part ≡ map (nth c.part.now) others → LeavesOneOut c.formula.now conflicts part
+one_left_out c conflicts r ws others part p copy h n rest is =
+    let F = c.formula.now in
+    let G = c.clauses.now in
+    let whole = map (nth c.part.now) r.places in
+    let len = part_length F G c.part.now c.names.now copy.dense in
+    record {
+      whole = whole;
+      positions = rising_told c.part.now (length F.clauses) (length G.clauses) r.places copy.part len h.refuted.places;
+      round = r.round;
+      refuted = h.refuted.refuted;
+      left_out = nth c.part.now p;
+      there = in_mapped (nth c.part.now) r.places p n.there;
+      others = is ∙ ap (map (nth c.part.now)) rest ∙ others_told (nth c.part.now) p r.places (λ q there.
+          let b = bounded 0 (length G.clauses) r.places q h.refuted.places there in
+          let low = b.0 in let high = b.1 in let first = n.first in let last = n.last in
+          same_place c.part.now (length F.clauses) p q copy.part (omega (arith, first)) (omega (arith, last, len)) (omega (arith, low)) (omega (arith, high, len)));
+    }

@@ -12,9 +12,10 @@ use Rattle.lk_model.specs.declared.document.Round.{Round}
 use Rattle.lk_model.proofs.Booleans.{and_true}
 use Rattle.lk_model.proofs.Rising.{all_rise}
 use Rattle.general_laws.specs.Found.{IsUnfinished}
-use Rattle.lk_model.specs.Checks.RoundChecks.{IsRefutation}
 use Rattle.general_laws.proofs.JoinLaws.{misstated_none, unlearned_none}
 use Rattle.general_laws.proofs.Learning.{round_learns}
+use Rattle.part_formula.specs.Decisions.{IsPartRefuted}
+use Rattle.part_formula.proofs.ToldDecisions.{refuted_told}
 use Rattle.renaming_laws.specs.Renaming.{IsDense, nth, renamed_round}
 use Rattle.renaming_laws.proofs.RenamingLaws.{renaming_law}
 use Rattle.renaming_laws.proofs.Copies.{part_length}
@@ -23,27 +24,27 @@ use Rattle.mus_core.specs.Copies.{IsCopy, IsRefutedWithin}
 use Rattle.mus_core.specs.Found.{IsStoppedAt}
 use Rattle.mus_core.specs.Named.{names_only}
 use Rattle.mus_core.proofs.Copying.{all_clauses, whole_formula}
-use Rattle.mus_core.proofs.Narrowing.{narrowed_told}
+use Rattle.mus_core.proofs.Narrowing.{elsewhere, narrowed_told}
 
 -- REFUTATIONS
 
-pub refutation_told : (c : Copied) (r q : Round) (m : ℕ) (places : List ℕ) → IsCopy c → IsRefutation c.clauses.now (positions_of c.clauses.now) r
+pub refutation_told : (c : Copied) (r q : Round) (m conflicts : ℕ) (places : List ℕ) → IsCopy c → IsPartRefuted c.clauses.now (positions_of c.clauses.now) conflicts r
     → rises_within 0 (length c.clauses.now.clauses) places ≡ true → names_only (length c.clauses.now.clauses) places r ≡ true
     → m ≡ length c.formula.now.clauses → m + length r.steps < 2 ^ 64 → q ≡ renamed_round m c.part.now c.names.now r
-    → IsRefutedWithin c (record { places = places; round = q })
-refutation_told c r q m places copy h rise only clauses few is =
+    → IsRefutedWithin c conflicts (record { places = places; round = q })
+refutation_told c r q m conflicts places copy h rise only clauses few is =
     let F = c.formula.now in
     let G = c.clauses.now in
     let len = part_length F G c.part.now c.names.now copy.dense in
-    let told : IsRefutation F c.part.now (renamed_round (length F.clauses) c.part.now c.names.now r) =
-    renaming_law.refuted F G c.part.now c.names.now r copy.part copy.dense (subst (λ (k : ℕ). k + length r.steps < 2 ^ 64) clauses few) h in
+    let told : IsPartRefuted F c.part.now conflicts (renamed_round (length F.clauses) c.part.now c.names.now r) =
+    refuted_told F c.part.now c.names.now G conflicts r copy.part copy.dense (subst (λ (k : ℕ). k + length r.steps < 2 ^ 64) clauses few) h in
     let form : list_all (is_step G.vars) r.steps ≡ true =
-    (and_true (counts_from (length G.clauses + 1) (map (λ (s : Step). s.number) r.steps)) (list_all (is_step G.vars) r.steps) h.steps).1 in
+    (and_true (counts_from (length G.clauses + 1) (map (λ (s : Step). s.number) r.steps)) (list_all (is_step G.vars) r.steps) h.refutation.steps).1 in
     let same : q ≡ renamed_round (length F.clauses) c.part.now c.names.now r = is ∙ ap (λ (k : ℕ). renamed_round k c.part.now c.names.now r) clauses in
     record {
       places = rise;
-      refuted = subst (λ (p : Round). IsRefutation F (map (nth c.part.now) places) p) (sym same)
-          (narrowed_told F G.vars c.part.now c.names.now places r form (subst (λ (k : ℕ). names_only k places r ≡ true) (sym len) only) told);
+      refuted = subst (λ (p : Round). IsPartRefuted F (map (nth c.part.now) places) conflicts p) (sym same)
+          (elsewhere told (narrowed_told F G.vars c.part.now c.names.now places r form (subst (λ (k : ℕ). names_only k places r ≡ true) (sym len) only) told.refutation));
     }
 
 -- OPEN ROUNDS

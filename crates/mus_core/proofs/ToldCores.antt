@@ -11,8 +11,9 @@ use Rattle.lk_model.specs.Formulas.Lean.{are_positions}
 use Rattle.lk_model.specs.Documents.CoreText.{are_for, is_without}
 use Rattle.lk_model.specs.Checks.CoreChecks.{satisfies_others}
 use Rattle.lk_model.specs.Held.PartialValues.{assignment_by}
+use Rattle.lk_model.specs.Chains.Rounds.{is_trimmed}
 use Rattle.lk_model.specs.declared.document.Without.{Without}
-use Rattle.lk_model.proofs.Booleans.{or_left, or_right}
+use Rattle.lk_model.proofs.Booleans.{and_true, or_left, or_right}
 use Rattle.lk_model.proofs.Clauses.{literals_of as formula_literals}
 use Rattle.lk_model.proofs.Founds.{all_pass}
 use Rattle.lk_model.proofs.Rising.{bounded}
@@ -22,6 +23,7 @@ use Rattle.kernel_laws.proofs.Clauses.{mentions_of}
 use Rattle.kernel_laws.proofs.Assignments.{satisfying, satisfied_at}
 use Rattle.general_kernel.proofs.SetLines.{set_rises, set_true}
 use Rattle.general_laws.specs.CoreLaw.{IsCore}
+use Rattle.mus_core.specs.Found.{IsCoreWithin}
 use Rattle.renaming_laws.specs.Renaming.{named, nth}
 use Rattle.renaming_laws.specs.Renaming.{IsDense}
 use Rattle.renaming_laws.proofs.Mapped.{rises_by, map_twice, rising_same}
@@ -114,10 +116,10 @@ not_not true e = refl
 not_not false e = absurd (let f : ⊥ = cc in f)
 
 -- each clause but that of the place
-others_true : (c : Copied) (r : Refutation) (ws : List (Option (List (Option Bool)))) (p : ℕ) → IsCopy c → IsShrunk c r ws → is_some (witness_at ws p) ≡ true
+others_true : (c : Copied) (conflicts : ℕ) (r : Refutation) (ws : List (Option (List (Option Bool)))) (p : ℕ) → IsCopy c → IsShrunk c conflicts r ws → is_some (witness_at ws p) ≡ true
     → among r.places p ≡ true → (q : ℕ) → among r.places q ≡ true
     → (nth c.part.now q == nth c.part.now p || satisfies (assignment_of (map (named c.names.now) (literals_at c.clauses.now r.places ws p))) (clause_at c.formula.now (nth c.part.now q))) ≡ true
-others_true c r ws p copy h given there q inside = elim (cases_Bool (q == p)) [
+others_true c conflicts r ws p copy h given there q inside = elim (cases_Bool (q == p)) [
   | inl own ↦ or_left (nth c.part.now q == nth c.part.now p) _ (eq-eqb (nth c.part.now q) (nth c.part.now p) (ap (nth c.part.now) (eqb-true q p own)))
   | inr other ↦ or_right (nth c.part.now q == nth c.part.now p) _ (holds other)
 ]
@@ -135,19 +137,19 @@ others_true c r ws p copy h given there q inside = elim (cases_Bool (q == p)) [
         told_true c.formula.now G c.part.now c.names.now (literals_at G r.places ws p) q copy.part dense rise (omega (arith, low)) b.1
         (subst (λ (ls : List ℤ). satisfies (assignment_of ls) (clause_at G q) ≡ true) (sym are) (kept_true G r.places v.values q dense.formula inside model))
 
-pub ends : (c : Copied) (r : Refutation) (ws : List (Option (List (Option Bool)))) (core : List ℕ) (without : List Without) → IsCopy c → IsShrunk c r ws
+shown : (c : Copied) (conflicts : ℕ) (r : Refutation) (ws : List (Option (List (Option Bool)))) (core : List ℕ) (without : List Without) → IsCopy c → IsShrunk c conflicts r ws
     → find (λ p. not (is_some (witness_at ws p))) r.places ≡ None → core ≡ map (nth c.part.now) r.places → without ≡ map (line_at c r.places ws) r.places
     → IsCore c.formula.now core r.round without
-ends c r ws core without copy h none core_is without_is =
+shown c conflicts r ws core without copy h none core_is without_is =
     subst (λ (ps : List ℕ). IsCore F ps r.round without) (sym core_is) (subst (λ (us : List Without). IsCore F told r.round us) (sym without_is) (record {
       positions = rising_told part (length F.clauses) (length G.clauses) r.places copy.part (part_length F G part c.names.now copy.dense) h.refuted.places;
-      refuted = h.refuted.refuted;
+      refuted = h.refuted.refuted.refutation;
       lines = same_positions c r.places ws r.places;
       literals = all_pass (is_without F.vars) (line_at c r.places ws) r.places (λ p m. told_ascend c.names.now F.vars (literals_at G r.places ws p) copy.dense.ascend
           (subst (λ (n : ℕ). rises_within 0 n (map variable (literals_at G r.places ws p)) ≡ true) copy.dense.vars (literals_rise G r.places ws p)));
       satisfied = all_pass (satisfies_others F told) (line_at c r.places ws) r.places (λ p m.
           all_pass (λ q. q == nth part p || satisfies (assignment_of (map (named c.names.now) (literals_at G r.places ws p))) (clause_at F q)) (nth part) r.places
-          (others_true c r ws p copy h (given p m) m));
+          (others_true c conflicts r ws p copy h (given p m) m));
     }))
   where
     F : Cnf
@@ -164,3 +166,12 @@ ends c r ws core without copy h none core_is without_is =
 
     given : (p : ℕ) → among r.places p ≡ true → is_some (witness_at ws p) ≡ true
     given p m = not_not (is_some (witness_at ws p)) (one_number (λ p. not (not (is_some (witness_at ws p)))) r.places p (none_all (λ p. not (is_some (witness_at ws p))) r.places none) m)
+
+pub ends : (c : Copied) (conflicts : ℕ) (r : Refutation) (ws : List (Option (List (Option Bool)))) (core : List ℕ) (without : List Without) → IsCopy c → IsShrunk c conflicts r ws
+    → find (λ p. not (is_some (witness_at ws p))) r.places ≡ None → core ≡ map (nth c.part.now) r.places → without ≡ map (line_at c r.places ws) r.places
+    → IsCoreWithin c.formula.now conflicts (record { core = core; round = r.round; without = without })
+ends c conflicts r ws core without copy h none core_is without_is = record {
+  core = shown c conflicts r ws core without copy h none core_is without_is;
+  needed = (and_true (is_trimmed r.round) true h.refuted.refuted.needed.trimmed).0;
+  most = h.refuted.refuted.most;
+}

@@ -1,20 +1,42 @@
 -- What is decided of a formula by its parts.
-use Rattle.std.specs.Prelude.{◌≡◌, ℕ, List, [], ◌∷◌, ⊤, ℤ}
+use Rattle.std.specs.Prelude.{◌≡◌, ℕ, List, [], ◌∷◌, ◌++◌, ⊤, ℤ}
+use Rattle.std.specs.List.{AllByRecursion}
+use Rattle.lk_model.specs.Lists.{among}
 use Rattle.lk_model.specs.Formulas.Formula.{Cnf, positions_of}
-use Rattle.lk_model.specs.Checks.RoundChecks.{IsRefutation}
+use Rattle.lk_model.specs.Formulas.Minimal.{IsSatisfiable}
 use Rattle.lk_model.specs.declared.document.Round.{Round}
 use Rattle.lk_model.specs.declared.result.GeneralResult.{GeneralResult}
 use Rattle.lk_model.specs.declared.decided.Decided.{Decided}
 use Rattle.lk_model.specs.declared.decided.Decided.TheVariants.{Model, Refuted, Stopped}
-use Rattle.part_formula.specs.Decisions.{IsPartModel, sets_only}
-use Rattle.mus_core.specs.Found.{IsMus}
+use Rattle.part_formula.specs.Decisions.{IsPartModel, IsPartRefuted, sets_only}
+use Rattle.mus_core.specs.Found.{IsMus, IsNotRefuted, IsStoppedAt}
+use Rattle.mus_core.specs.declared.by_parts.Stop.{Stop}
 use Rattle.mus_core.specs.declared.mus.Mus.{Mus}
 
--- a model of the part's clauses, a refutation of the formula, or an answer of the search for a core
-abbrev pub IsDecidedFor : Cnf → ℕ → List ℕ → Decided (List ℤ) Round Mus → Type 0
-IsDecidedFor F conflicts part (Model lits) = IsPartModel F part lits
-IsDecidedFor F conflicts part (Refuted r) = IsRefutation F (positions_of F) r
-IsDecidedFor F conflicts part (Stopped m) = IsMus F conflicts m
+-- as many learned clauses as were allowed did not decide the clauses at its positions
+abbrev pub IsStop : Cnf → ℕ → Stop → Type 0
+IsStop F conflicts s = IsStoppedAt F conflicts s.part s.open.texts s.open.round
+
+-- a model of the part's clauses, a refutation of the formula, or a search over the part that stopped
+abbrev pub IsPartDecided : Cnf → ℕ → List ℕ → Decided (List ℤ) Round Stop → Type 0
+IsPartDecided F conflicts part (Model lits) = IsPartModel F part lits
+IsPartDecided F conflicts part (Refuted r) = IsPartRefuted F (positions_of F) conflicts r
+IsPartDecided F conflicts part (Stopped s) = IsStop F conflicts s × (s.part ≡ part)
+
+-- Of these parts it is the first whose search stopped, and none of them is refuted.
+pub record IsFirstStop (F : Cnf) (conflicts : ℕ) (parts : List (List ℕ)) (s : Stop) : Type 0 where
+  pub stop : IsStop F conflicts s
+  pub before : List (List ℕ)
+  pub behind : List (List ℕ)
+  pub are : parts ≡ before ++ s.part ∷ behind
+  pub models : AllByRecursion (λ p. IsSatisfiable F (among p)) before
+  pub others : AllByRecursion (IsNotRefuted F conflicts) behind
+
+-- a model of the formula, a refutation of it, or the answer that the search stopped
+abbrev pub IsDecidedByParts : Cnf → ℕ → Decided (List ℤ) Round Mus → Type 0
+IsDecidedByParts F conflicts (Model lits) = IsPartModel F (positions_of F) lits
+IsDecidedByParts F conflicts (Refuted r) = IsPartRefuted F (positions_of F) conflicts r
+IsDecidedByParts F conflicts (Stopped m) = IsMus F conflicts m
 
 -- one model for each of these parts, as a result that keeps nothing
 abbrev pub AreModels : Cnf → List (List ℕ) → List GeneralResult → Type 0

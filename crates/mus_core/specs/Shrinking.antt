@@ -11,8 +11,8 @@ use Rattle.mus_core.specs.Found.{IsMus}
 use Rattle.mus_core.specs.WitnessValues.{witness_at, AreHeld, is_open}
 
 -- the set has a refutation, and its witnesses are right
-pub record IsShrunk (c : Copied) (r : Refutation) (ws : List (Option (List (Option Bool)))) : Type 0 where
-  pub refuted : IsRefutedWithin c r
+pub record IsShrunk (c : Copied) (conflicts : ℕ) (r : Refutation) (ws : List (Option (List (Option Bool)))) : Type 0 where
+  pub refuted : IsRefutedWithin c conflicts r
   pub held : AreHeld c.clauses.now (among r.places) ws
 
 -- how many places have no witness
@@ -28,6 +28,6 @@ pub record IsNext (c : Copied) (r : Refutation) (ws : List (Option (List (Option
 
 -- The search goes on with fewer places that have no witness, or it ends.
 abbrev pub IsLeftOut : Copied → ℕ → Refutation → List (Option (List (Option Bool))) → List (Option (List (Option Bool))) → LeftOut → Type 0
-IsLeftOut c conflicts r ws us Kept = IsShrunk c r us × (left_open c.clauses.now r.places us < left_open c.clauses.now r.places ws)
-IsLeftOut c conflicts r ws us (On s) = IsShrunk c s us × (left_open c.clauses.now s.places us < left_open c.clauses.now r.places ws)
+IsLeftOut c conflicts r ws us Kept = IsShrunk c conflicts r us × (left_open c.clauses.now r.places us < left_open c.clauses.now r.places ws)
+IsLeftOut c conflicts r ws us (On s) = IsShrunk c conflicts s us × (left_open c.clauses.now s.places us < left_open c.clauses.now r.places ws)
 IsLeftOut c conflicts r ws us (Ended m) = IsMus c.formula.now conflicts m

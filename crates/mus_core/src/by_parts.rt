@@ -8,9 +8,9 @@ ghost use Rattle.lk_model.specs.Formulas.Lean.{are_positions};
 ghost use Rattle.lk_model.specs.Formulas.Parts.{AreParts};
 ghost use Rattle.part_formula.specs.Decisions.{are_filled, sets_only};
 ghost use Rattle.mus_core.specs.Copies.{IsCopy};
-ghost use Rattle.mus_core.specs.ByParts.{IsDecidedFor};
+ghost use Rattle.mus_core.specs.ByParts.{IsDecidedByParts, IsPartDecided};
 
-use crate::deciding::{Copied, decide_copy};
+use crate::deciding::{Copied, Open, decide_copy};
 use crate::mus::Mus;
 use autarky_compose::join_general;
 use cdcl_core::Schedule;
@@ -30,7 +30,7 @@ pub(crate) fn decide_by_parts(
     conflicts: Budget,
 ) -> Result<Decided<List<Lit>, Round, Mus>, OutOfMemory>
     requires { IsTrue (are_filled f.now (positions_of f.now)) }
-    ensures { IfOk result (IsDecidedFor f.now conflicts (positions_of f.now)) }
+    ensures { IfOk result (IsDecidedByParts f.now conflicts) }
 {
     let list = parts(alloc, f)?;
     if list.len() > 1 && conflicts.get() > FIRST_BUDGET {
@@ -54,21 +54,32 @@ fn decide_each(
 ) -> Result<Decided<List<Lit>, Round, Mus>, OutOfMemory>
     requires parts { AreParts f.now list.now }
     requires filled { IsTrue (are_filled f.now (positions_of f.now)) }
-    ensures { IfOk result (IsDecidedFor f.now conflicts (positions_of f.now)) }
+    ensures { IfOk result (IsDecidedByParts f.now conflicts) }
 {
     let mut models = List::new(alloc);
     let mut stopped = None;
     for part in list {
         match decide_part(alloc, f, part.as_slice(), conflicts)? {
             Decided::Model(set) => models.push(only_set(alloc, set))?,
-            Decided::Refuted(round) => return Ok(Decided::Refuted(round)),
-            Decided::Stopped(mus) => stopped = Some(first_of(stopped, mus)),
+            Decided::Refuted(refutation) => return Ok(Decided::Refuted(refutation)),
+            Decided::Stopped(stop) => stopped = Some(first_of(stopped, stop)),
         }
     }
     match stopped {
-        Some(mus) => Ok(Decided::Stopped(mus)),
+        Some(stop) => Ok(Decided::Stopped(Mus::Unfinished {
+            part: stop.part,
+            texts: stop.open.texts,
+            round: stop.open.round,
+        })),
         None => Ok(Decided::Model(join_general(alloc, f.len(), models)?.set)),
     }
+}
+
+/// A search over a part that stopped.
+#[derive(Drop)]
+pub(crate) struct Stop {
+    pub part: List<u32>,
+    pub open: Open,
 }
 
 // What is decided of a part, in a copy of its own, by all orders of variables, which alternate.
@@ -77,10 +88,10 @@ fn decide_part(
     f: &Formula,
     part: &[u32],
     conflicts: Budget,
-) -> Result<Decided<List<Lit>, Round, Mus>, OutOfMemory>
+) -> Result<Decided<List<Lit>, Round, Stop>, OutOfMemory>
     requires part { IsTrue (are_positions f.now part.now) }
     requires filled { IsTrue (are_filled f.now (positions_of f.now)) }
-    ensures { IfOk result (IsDecidedFor f.now conflicts part.now) }
+    ensures { IfOk result (IsPartDecided f.now conflicts part.now) }
 {
     // (by it contracts see that the formula is one)
     let _vars = f.vars();
@@ -100,9 +111,9 @@ fn tell_decided(
     alloc: Global,
     of: &Copied,
     conflicts: Budget,
-) -> Result<Decided<List<Lit>, Round, Mus>, OutOfMemory>
+) -> Result<Decided<List<Lit>, Round, Stop>, OutOfMemory>
     requires { IsCopy of.now }
-    ensures { IfOk result (IsDecidedFor of.now.formula.now conflicts of.now.part.now) }
+    ensures { IfOk result (IsPartDecided of.now.formula.now conflicts of.now.part.now) }
 {
     match decide_copy(alloc, of, &mut Schedule::for_cores(), conflicts)? {
         Decided::Model(set) => {
@@ -115,10 +126,9 @@ fn tell_decided(
             Ok(Decided::Model(renaming.literals(set)))
         }
         Decided::Refuted(refutation) => Ok(Decided::Refuted(refutation.round)),
-        Decided::Stopped(open) => Ok(Decided::Stopped(Mus::Unfinished {
+        Decided::Stopped(open) => Ok(Decided::Stopped(Stop {
             part: List::from_vec(Vec::from_slice(alloc, of.part)?),
-            texts: open.texts,
-            round: open.round,
+            open,
         })),
     }
 }
@@ -135,11 +145,11 @@ fn only_set(alloc: Global, set: List<Lit>) -> GeneralResult
 }
 
 // The first of two, where there is one before the second.
-fn first_of(first: Option<Mus>, second: Mus) -> Mus
+fn first_of(first: Option<Stop>, second: Stop) -> Stop
     ensures { result ≡ unwrap_or first second }
 {
     match first {
-        Some(mus) => mus,
+        Some(stop) => stop,
         None => second,
     }
 }

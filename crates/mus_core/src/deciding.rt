@@ -6,6 +6,7 @@ ghost use Rattle.lk_model.specs.Formulas.Formula.{positions_of};
 ghost use Rattle.lk_model.specs.Documents.Form.{are_steps};
 ghost use Rattle.general_laws.specs.Found.{IsUnfinished};
 ghost use Rattle.lk_model.specs.Checks.RoundChecks.{IsRefutation};
+ghost use Rattle.part_formula.specs.Decisions.{IsPartRefuted};
 ghost use Rattle.mus_core.specs.Found.{IsStoppedAt};
 ghost use Rattle.mus_core.specs.Copies.{IsCopy, IsDecided, IsRefutedWithin};
 
@@ -60,7 +61,8 @@ pub(crate) fn decide_copy(
 fn tell_refutation(alloc: Global, of: &Copied, round: Round) -> Result<Refutation, OutOfMemory>
     requires copy { IsCopy of.now }
     requires refuted { IsRefutation of.now.clauses.now (positions_of of.now.clauses.now) round }
-    ensures { IfOk result (IsRefutedWithin of.now) }
+    ensures { (conflicts : ℕ) → IsPartRefuted of.now.clauses.now (positions_of of.now.clauses.now) conflicts round
+        → IfOk result (IsRefutedWithin of.now conflicts) }
 {
     let places = named_positions(alloc, of.clauses.len(), &round)?;
     let renaming = Renaming {

@@ -2,8 +2,7 @@
 ghost use Rattle.std.specs.Prelude.{◌≡◌, length, IfOk, IsTrue};
 ghost use Rattle.lk_model.specs.Lists.{rises_within};
 ghost use Rattle.lk_model.specs.Formulas.Formula.{positions_of};
-ghost use Rattle.lk_model.specs.Checks.RoundChecks.{IsRefutation};
-ghost use Rattle.part_formula.specs.Decisions.{are_filled, IsPartModel};
+ghost use Rattle.part_formula.specs.Decisions.{are_filled, IsPartModel, IsPartRefuted};
 ghost use Rattle.renaming_laws.specs.Renaming.{IsDense};
 ghost use Rattle.mus_core.specs.Named.{names_only};
 ghost use Rattle.mus_core.specs.Found.{IsMus, IsWholeModel, TakesEmpty};
@@ -20,9 +19,10 @@ use partial_assign::{Partial, assignment_of, extend_total};
 use std::alloc::Global;
 
 /// A minimally unsatisfiable core of a formula, or a model of it, where each single decision may learn so many clauses.
-/// It is unfinished only where these are fewer than 3^n, for the n variables of the formula. Where a clause is empty,
-/// the first such clause is the core. The error is that there is no memory; more steps than have numbers of 64 bits
-/// count as that.
+/// So many has the refutation of the core at most, and none of its steps is needless. The search is unfinished only
+/// where these are fewer than 3^n, for the n variables of the formula, and no part of the formula is refuted, or a core
+/// was being made smaller. Where a clause is empty, the first such clause is the core. The error is that there is no
+/// memory; more steps than have numbers of 64 bits count as that.
 pub fn minimal(alloc: Global, f: &Formula, conflicts: Budget) -> Result<Mus, OutOfMemory>
     ensures found { IfOk result (IsMus f.now conflicts) }
     ensures empty { IfOk result (TakesEmpty f.now) }
@@ -63,7 +63,7 @@ fn minimal_of_refuted(
     conflicts: Budget,
 ) -> Result<Mus, OutOfMemory>
     requires filled { IsTrue (are_filled f.now (positions_of f.now)) }
-    requires refuted { IsRefutation f.now (positions_of f.now) round }
+    requires refuted { IsPartRefuted f.now (positions_of f.now) conflicts round }
     ensures { IfOk result (IsMus f.now conflicts) }
 {
     let first = FirstCore::of(alloc, f, &round)?;

@@ -38,7 +38,7 @@ pub(crate) fn shrink(
     conflicts: Budget,
 ) -> Result<Mus, OutOfMemory>
     requires copy { IsCopy core.now }
-    requires refuted { IsRefutedWithin core.now refutation }
+    requires refuted { IsRefutedWithin core.now conflicts refutation }
     ensures { IfOk result (IsMus core.now.formula.now conflicts) }
 {
     let mut tables = Tables::new(alloc, core.clauses)?;
@@ -90,7 +90,7 @@ fn shrink_by(
 ) -> Result<Mus, OutOfMemory>
     requires copy { IsCopy core.now }
     requires lists { AreOccurrences core.now.clauses.now lists.now }
-    requires shrunk { IsShrunk core.now refutation witnesses.old }
+    requires shrunk { IsShrunk core.now conflicts refutation witnesses.old }
     ensures { IfOk result (IsMus core.now.formula.now conflicts) }
 {
     let mut refutation = refutation;
@@ -144,7 +144,7 @@ fn leave_out(
 ) -> Result<LeftOut, OutOfMemory>
     requires copy { IsCopy core.now }
     requires lists { AreOccurrences core.now.clauses.now lists.now }
-    requires shrunk { IsShrunk core.now refutation.now witnesses.old }
+    requires shrunk { IsShrunk core.now conflicts refutation.now witnesses.old }
     requires next { IsNext core.now refutation.now witnesses.old p }
     ensures { IfOk result (IsLeftOut core.now conflicts refutation.now witnesses.old witnesses.new) }
 {

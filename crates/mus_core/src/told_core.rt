@@ -1,8 +1,8 @@
 //! A core, translated to the numbers of the formula.
 ghost use Rattle.std.specs.Prelude.{◌≡◌, ℕ, None, find, not, is_some, map, length, IfOk, IfSome, IsTrue};
 ghost use Rattle.lk_model.specs.Formulas.Lean.{are_positions};
-ghost use Rattle.general_laws.specs.CoreLaw.{IsCore};
 ghost use Rattle.mus_core.specs.Copies.{IsCopy};
+ghost use Rattle.mus_core.specs.Found.{IsCoreWithin};
 ghost use Rattle.mus_core.specs.Shrinking.{IsShrunk};
 ghost use Rattle.mus_core.specs.WitnessValues.{witness_at, line_at};
 
@@ -20,9 +20,12 @@ pub(crate) fn told_core(
     witnesses: &Witnesses,
 ) -> Result<MusResult, OutOfMemory>
     requires copy { IsCopy core.now }
-    requires shrunk { IsShrunk core.now refutation witnesses.now }
+    requires places { IsTrue (are_positions core.now.clauses.now refutation.places) }
+    requires vars { (q : ℕ) →
+        IfSome (witness_at witnesses.now q) (λ values. length values ≡ core.now.clauses.now.vars) }
     requires each { find (λ p. not (is_some (witness_at witnesses.now p))) refutation.places ≡ None }
-    ensures { IfOk result (λ r. IsCore core.now.formula.now r.core r.round r.without) }
+    ensures { (conflicts : ℕ) → IsShrunk core.now conflicts refutation witnesses.now
+        → IfOk result (IsCoreWithin core.now.formula.now conflicts) }
 {
     let without = lines(alloc, core, refutation.places.as_slice(), witnesses)?;
     let renaming = Renaming {

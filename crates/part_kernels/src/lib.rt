@@ -4,7 +4,6 @@
 mod copied;
 mod general;
 mod laws;
-mod look;
 mod matching;
 mod renaming;
 

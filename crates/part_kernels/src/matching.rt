@@ -2,7 +2,7 @@
 //!
 //! Parts share no variable, so each has its kernel by itself. They are handed over in groups, at most one for
 //! each worker, and each group has tables of its own size, so that many workers need little more memory than
-//! one. A large formula is looked at first: the search for parts may cost more than a second worker saves.
+//! one.
 ghost use Rattle.std.specs.Prelude.{◌≡◌, ◌≤◌, List, ℕ, map, Ok, IfOk, IsTrue};
 ghost use Rattle.std.specs.List.{AllByRecursion};
 ghost use Rattle.lk_model.specs.Formulas.Formula.{positions_of};
@@ -11,7 +11,6 @@ ghost use Rattle.matching_laws.specs.MatchingResults.{IsMatchingResult};
 ghost use Rattle.autarky_compose.specs.JoinedMatching.{AreMatchingResults};
 
 use crate::copied::matching_of_part;
-use crate::look::seems_divided;
 use autarky_compose::join_matching;
 use lk_model::{Formula, List, MatchingResult, OutOfMemory};
 use matching_kernel::matching_kernel;
@@ -22,8 +21,7 @@ use std::thread::Threads;
 
 /// The matching kernel of a formula, a variable for each removed position, and a row for each variable of
 /// the kernel, by at most so many threads. With two workers or more and two parts or more a left half of the
-/// parts enters the gate as 0 and a right half as 1, each before it is worked on; else none enters. A formula
-/// of 4,096 clauses or more is not halved unless several large parts seem to share it.
+/// parts enters the gate as 0 and a right half as 1, each before it is worked on; else none enters.
 pub fn matching_by_parts<R: Threads + Sync, G: Gate>(
     rt: &R,
     alloc: Global,
@@ -34,7 +32,7 @@ pub fn matching_by_parts<R: Threads + Sync, G: Gate>(
     requires { 1 ≤ workers }
     ensures { IfOk result (λ r. IsMatchingResult f.now (positions_of f.now) r) }
 {
-    if workers < 2 || !seems_divided(alloc, f)? {
+    if workers < 2 {
         return matching_at_once(alloc, f);
     }
     let groups = part_groups(alloc, f, workers)?;

@@ -5,7 +5,8 @@
 //! document with `\n` for the end of each line; semicolons stand between the three.
 //!
 //! Where `meet` stands before it, two workers check with a gate that holds a half each time until the other one has
-//! entered as often, and a second line tells how often each entered, and whether it met the other one each time.
+//! entered as often, and a second line tells how often each entered, and whether it met the other one each time. Two
+//! more lines tell it of eight workers.
 use crate::documents::tell_text;
 use lk_samples::{formula_of_text, number_of};
 use std::alloc::Global;

@@ -1,5 +1,5 @@
 //! What the checker says of texts, by several numbers of workers.
-ghost use Rattle.std.specs.Prelude.{IfOk, IsTrue};
+ghost use Rattle.std.specs.Prelude.{◌≤◌, IfOk, IsTrue};
 ghost use Rattle.lk_model.specs.Documents.Form.{is_in_form};
 
 use cert_text::read;
@@ -48,19 +48,21 @@ fn tell_verdict<R: Threads + Sync>(
     Ok(put_line(&verdict, out)?)
 }
 
-/// Tells the verdict of two workers, and how often each half entered a gate that holds it each time until the other one
-/// has entered as often, and whether it met the other one each time.
+/// Tells the verdict of so many workers, and how often each half entered a gate that holds it each time until the other
+/// one has entered as often, and whether it met the other one each time.
 fn tell_meeting<R: Threads + Sync>(
     rt: &R,
     alloc: Global,
     f: &Formula,
     d: &Document,
+    workers: u32,
     out: &mut String,
 ) -> Result<(), Fail>
-    requires { IsTrue (is_in_form d.now) }
+    requires form { IsTrue (is_in_form d.now) }
+    requires workers { 1 ≤ workers }
 {
     let gate = Meeting::new();
-    let verdict = check(rt, alloc, &gate, f, d, 2)?;
+    let verdict = check(rt, alloc, &gate, f, d, workers)?;
     put_line(&verdict, out)?;
     let (times, met) = (gate.times(), gate.met());
     writeln!(out, "= entered {times:?}; met {met:?}")?;
@@ -77,7 +79,10 @@ pub(crate) fn tell_text<R: Threads + Sync>(
     out: &mut String,
 ) -> Result<(), Fail> {
     match document_of(alloc, text.as_bytes()) {
-        Ok(d) if meets => tell_meeting(rt, alloc, f, &d, out)?,
+        Ok(d) if meets => {
+            tell_meeting(rt, alloc, f, &d, 2, out)?;
+            tell_meeting(rt, alloc, f, &d, 8, out)?;
+        }
         Ok(d) => tell_verdict(rt, alloc, f, &d, out)?,
         Err(ReadStop::Line(line)) => writeln!(out, "= line {line}")?,
         Err(ReadStop::OutOfMemory) => out.push_str("= out of memory\n")?,

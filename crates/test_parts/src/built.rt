@@ -8,7 +8,15 @@ use std::test::Fail;
 pub(crate) fn is_shape(word: &str) -> bool {
     matches!(
         word,
-        "units" | "chain" | "fours" | "squares" | "two" | "beside" | "matching-end"
+        "units"
+            | "chain"
+            | "one"
+            | "fours"
+            | "pairs"
+            | "squares"
+            | "two"
+            | "beside"
+            | "matching-end"
     )
 }
 
@@ -22,12 +30,22 @@ fn signed(v: i32, positive: bool) -> i32 {
     if positive { v } else { v.wrapping_neg() }
 }
 
+/// Of an odd variable, the number of whose pair is given, one unit clause, and of the next one others in turn.
+fn unit_of(pair: i32, turn: i32) -> (i32, i32) {
+    let odd = pair.wrapping_mul(2).wrapping_add(1);
+    match turn {
+        0 => (odd, 0),
+        _ => (signed(odd.wrapping_add(1), turn % 2 == 1), 0),
+    }
+}
+
 /// How many clauses there are over n variables.
 fn count(shape: &str, n: i32) -> i32 {
     match shape {
         "units" => n,
-        "chain" => n.wrapping_sub(1).wrapping_mul(4),
+        "chain" | "one" => n.wrapping_sub(1).wrapping_mul(4),
         "fours" => (n / 2).wrapping_mul(5).wrapping_add(n % 2),
+        "pairs" => (n / 2).wrapping_mul(3).wrapping_add(n % 2),
         "squares" => (n / 2).wrapping_mul(4),
         "two" => n.wrapping_sub(2).wrapping_mul(4),
         "beside" => (n / 2).wrapping_mul(5).wrapping_sub(4),
@@ -44,25 +62,20 @@ fn linked(n: i32, i: i32, step: i32) -> (i32, i32) {
 /// The literals of a clause, which are numbered from 0 on. The second one is 0 in a unit clause.
 ///
 /// - `units`: each variable;
-/// - `chain`: each two neighbouring variables, four times;
-/// - `fours`: of an odd variable one unit clause, of an even one four, in turn positive and negative;
+/// - `chain` and `one`: each two neighbouring variables, four times;
+/// - `fours` and `pairs`: of an odd variable one unit clause, of an even one four or two, in turn positive and negative;
 /// - `squares`: for each two numbers the four clauses over their scattered variables, those of all numbers in turn;
 /// - `two`: each variable and the next but one, four times;
 /// - `beside`: each variable of the second half, and then each two neighbouring ones of the first half, four times;
 /// - else each variable, and the four clauses over the last two.
 fn clause_of(shape: &str, n: i32, i: i32) -> (i32, i32) {
     match shape {
-        "chain" => linked(n, i, 1),
+        "chain" | "one" => linked(n, i, 1),
         "two" => linked(n, i, 2),
         "beside" if i >= n / 2 => linked(n / 2, i.wrapping_sub(n / 2), 1),
         "beside" => ((n / 2).wrapping_add(i).wrapping_add(1), 0),
-        "fours" => {
-            let odd = (i / 5).wrapping_mul(2).wrapping_add(1);
-            match i % 5 {
-                0 => (odd, 0),
-                turn => (signed(odd.wrapping_add(1), turn % 2 == 1), 0),
-            }
-        }
+        "fours" => unit_of(i / 5, i % 5),
+        "pairs" => unit_of(i / 3, i % 3),
         "squares" => {
             let half = (n / 2).max(1);
             let (signs, k) = (i / half, (i % half).wrapping_mul(2));

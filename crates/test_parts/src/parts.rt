@@ -31,9 +31,10 @@
 //!   and compares one part of each 20 as `alone` does.
 //! - `fours N` counts the kept clauses of parts of one variable each: four unit clauses, which are kept, or
 //!   one, which is not, in turn; tells whether 2, 3, 8 and 64 workers keep the same; and as `workers` does
-//!   how often each half entered the gate.
-//! - `two N` tells it of two chains, each over every second variable, and `beside N` of a chain over the first
-//!   half of the variables beside a unit clause for each other one.
+//!   how often each half of 1, 2 and 64 workers entered the gate. `pairs N` tells it of two unit clauses in place of
+//!   four.
+//! - `one N` tells it of a chain over all variables, `two N` of two chains, each over every second variable, and
+//!   `beside N` of a chain over the first half of the variables beside a unit clause for each other one.
 //! - `groups N; CLAUSES` tells the parts of a formula over 40 variables in at most so many groups.
 use crate::alone::{tell_alone, tell_drawn};
 use crate::command::Command;
@@ -61,7 +62,7 @@ pub(crate) fn tell<R: Threads + Sync>(
         "alone-drawn" | "matching-drawn" => tell_drawn(alloc, c, out),
         "decide" => tell_decision(alloc, c, out),
         "squares" => tell_squares(rt, alloc, c, out),
-        "fours" | "two" | "beside" => tell_built(rt, alloc, c, out),
+        "fours" | "pairs" | "one" | "two" | "beside" => tell_built(rt, alloc, c, out),
         _ => Ok(()),
     }
 }

@@ -16,7 +16,7 @@ use std::thread::Threads;
 /// What a command looks for in its formula.
 fn search_of<'a>(c: &Command<'_>, formula: &'a Formula) -> Search<'a> {
     let way = match c.word {
-        "kernel" | "workers" | "fours" | "two" | "beside" => "matching",
+        "kernel" | "workers" | "fours" | "pairs" | "one" | "two" | "beside" => "matching",
         "general" | "general-workers" | "squares" => "general",
         "told" => "solution",
         _ => "judged",
@@ -92,7 +92,7 @@ fn put_same<R: Threads + Sync>(
 }
 
 /// Tells how many clauses of a built formula are kept, whether any number of workers keeps the same, and whether the
-/// halves of two meet at a gate.
+/// halves of one, two and 64 meet at a gate.
 pub(crate) fn tell_built<R: Threads + Sync>(
     rt: &R,
     alloc: Global,
@@ -101,7 +101,9 @@ pub(crate) fn tell_built<R: Threads + Sync>(
 ) -> Result<(), Fail> {
     let f = formula(alloc, c)?;
     put_kept(rt, alloc, &search_of(c, &f), out)?;
-    put_entered(rt, alloc, &f, out)
+    put_entered(rt, alloc, &f, 1, out)?;
+    put_entered(rt, alloc, &f, 2, out)?;
+    put_entered(rt, alloc, &f, 64, out)
 }
 
 fn put_kept<R: Threads + Sync>(
@@ -112,19 +114,23 @@ fn put_kept<R: Threads + Sync>(
 ) -> Result<(), Fail> {
     let kept = kept_count(rt, alloc, s.formula)?;
     let same = first_of(rt, alloc, s, &[2, 3, 8, 64])?.1;
-    write!(out, "= {kept} of {}; the same {same}", s.formula.len())?;
+    writeln!(out, "= {kept} of {}; the same {same}", s.formula.len())?;
     Ok(())
 }
 
-/// Writes whether the halves of two workers meet at a gate.
+/// Writes whether the halves of so many workers meet at a gate.
 fn put_entered<R: Threads + Sync>(
     rt: &R,
     alloc: Global,
     f: &Formula,
+    workers: u32,
     out: &mut String,
-) -> Result<(), Fail> {
+) -> Result<(), Fail>
+    requires { 1 ≤ workers }
+{
     let gate = Meeting::new();
-    matching_by_parts(rt, alloc, &gate, f, 2)?;
+    matching_by_parts(rt, alloc, &gate, f, workers)?;
+    write!(out, "= workers {workers}")?;
     Ok(put_gate(&gate, false, out)?)
 }
 

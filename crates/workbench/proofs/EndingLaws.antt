@@ -1,6 +1,6 @@
 -- Which endings are allowed, and which is decided.
 use Rattle.std.proofs.Common.{◌≡◌, ◌≢◌, ◌∙◌, ℕ, List, [], Bool, Option, Some, None, Result, Ok, Err, IfOk, refl, ap, sym, subst, ◌⊎◌, inl, inr}
-use Rattle.std.specs.Prelude.{IsTrue}
+use Rattle.std.specs.Prelude.{IsTrue, ⊤}
 use Rattle.std.proofs.lemmas.Bool.{cases_eq}
 use Rattle.lk_model.specs.Texts.Lines.{Word}
 use Rattle.lk_model.specs.declared.list.OutOfMemory.{OutOfMemory}
@@ -8,7 +8,7 @@ use Rattle.lk_outside.specs.Causes.{Rose}
 use Rattle.cert_text.specs.ReadTexts.{IsOfOneDocument, StopsNowhere}
 use Rattle.command_words.specs.Shapes.{inputs_of}
 use Rattle.command_endings.specs.Commands.{Answers}
-use Rattle.workbench.specs.Endings.{Shelved, Sunk, Takes, TakesBoth, IsCutIn, Ends, IsCutOff, EndsQuietly, IsResult, DeservesStop, HasReadFault, Allows, HasValues, IsDecidedFor, IsDecided, IsUnlessFailed, StopsAsRead, StopsAt, ReadsNothing, IsWell}
+use Rattle.workbench.specs.Endings.{Shelved, Sunk, Takes, TakesBoth, IsCut, IsCutIn, Ends, IsCutOff, EndsQuietly, IsResult, DeservesStop, HasReadFault, Allows, HasValues, IsDecidedFor, IsDecided, IsUnlessFailed, StopsAsRead, StopsAt, ReadsNothing, IsWell}
 use Rattle.workbench.specs.Headline.{IsRun}
 use Rattle.command_inputs.specs.Inputs.{nothing_known, Told, Values, IsFirstBad, IsFailure}
 use Rattle.command_words.specs.Lawful.{Request, request_of}
@@ -33,70 +33,38 @@ pub result_allowed : (words : List Word) (shelf : Shelved) (s : Status) (written
 result_allowed words shelf s written said h = by s h (result_is (request_of words) shelf.told s written said h)
   where
     by : (s : Status) → IsResult (request_of words) shelf.told s written said → IsTrue (is_result s) → Allows words shelf s written said
-    by status.Done h is = h
-    by status.Budget h is = h
-    by status.TooWide h is = h
-    by status.TooLarge h is = h
-    by status.Refused h is = h
-    by status.Satisfiable h is = h
-    by status.Unsatisfiable h is = h
     by status.Words h is = absurd (let f : ⊥ = cc is in f)
     by status.Input h is = absurd (let f : ⊥ = cc is in f)
     by status.ReadFault h is = absurd (let f : ⊥ = cc is in f)
     by status.WriteFault h is = absurd (let f : ⊥ = cc is in f)
     by status.Memory h is = absurd (let f : ⊥ = cc is in f)
+    by s h is = h
 
 read_fault : (o : Option Request) (shelf : Shelved) → Rose shelf.before shelf.after → StopsAsRead o shelf.told shelf.ailing shelf.current stop.Read → HasReadFault o shelf
 read_fault None shelf rose h = h
 read_fault (Some request) shelf rose h = (rose, h)
 
+-- so is one that an input deserves
+deserved : (o : Option Request) (shelf : Shelved) (s : Stop) → status_of s ≡ status.Input → StopsAsRead o shelf.told shelf.ailing shelf.current s → DeservesStop o shelf.told s
+deserved None shelf s is h = h
+deserved (Some request) shelf (stop.Words i) is h = absurd (let f : ⊥ = cc is in f)
+deserved (Some request) shelf stop.Read is h = absurd (let f : ⊥ = cc is in f)
+deserved (Some request) shelf stop.Memory is h = absurd (let f : ⊥ = cc is in f)
+deserved (Some request) shelf s is h = h
+
 -- what a stop tells is allowed
 pub stop_allowed : (words : List Word) (shelf : Shelved) (s : Stop) (written said : List ℕ) → StopsAt words shelf.told shelf.ailing shelf.current s → (s ≡ stop.Read → Rose shelf.before shelf.after) → Tells s written said → Allows words shelf (status_of s) written said
 stop_allowed words shelf (stop.Words i) written said h rose tells = (i, h, tells)
-stop_allowed words shelf (stop.Formula r) written said h rose tells = (stop.Formula r, by (request_of words) h, tells)
-  where
-    by : (o : Option Request) → StopsAsRead o shelf.told shelf.ailing shelf.current (stop.Formula r) → DeservesStop o shelf.told (stop.Formula r)
-    by None h = h
-    by (Some request) h = h
-stop_allowed words shelf (stop.Document line) written said h rose tells = (stop.Document line, by (request_of words) h, tells)
-  where
-    by : (o : Option Request) → StopsAsRead o shelf.told shelf.ailing shelf.current (stop.Document line) → DeservesStop o shelf.told (stop.Document line)
-    by None h = h
-    by (Some request) h = h
-stop_allowed words shelf (stop.Model line) written said h rose tells = (stop.Model line, by (request_of words) h, tells)
-  where
-    by : (o : Option Request) → StopsAsRead o shelf.told shelf.ailing shelf.current (stop.Model line) → DeservesStop o shelf.told (stop.Model line)
-    by None h = h
-    by (Some request) h = h
-stop_allowed words shelf (stop.Answer line) written said h rose tells = (stop.Answer line, by (request_of words) h, tells)
-  where
-    by : (o : Option Request) → StopsAsRead o shelf.told shelf.ailing shelf.current (stop.Answer line) → DeservesStop o shelf.told (stop.Answer line)
-    by None h = h
-    by (Some request) h = h
-stop_allowed words shelf (stop.Edits line fault) written said h rose tells = (stop.Edits line fault, by (request_of words) h, tells)
-  where
-    by : (o : Option Request) → StopsAsRead o shelf.told shelf.ailing shelf.current (stop.Edits line fault) → DeservesStop o shelf.told (stop.Edits line fault)
-    by None h = h
-    by (Some request) h = h
 stop_allowed words shelf stop.Read written said h rose tells = (read_fault (request_of words) shelf (rose refl) h, tells)
 stop_allowed words shelf stop.Memory written said h rose tells = tells
+stop_allowed words shelf s written said h rose tells = (s, deserved (request_of words) shelf s refl h, tells)
 
 -- WHAT IS DECIDED
 
 -- it is status 2, or the inputs are read
 decided_by : (request : Request) (told : Told) (decided : Status) → IsDecidedFor request told decided → (decided ≡ status.Input) ⊎ HasValues request told decided
 decided_by request told status.Input h = inl refl
-decided_by request told status.Done h = inr h
-decided_by request told status.Words h = inr h
-decided_by request told status.ReadFault h = inr h
-decided_by request told status.WriteFault h = inr h
-decided_by request told status.Budget h = inr h
-decided_by request told status.TooWide h = inr h
-decided_by request told status.TooLarge h = inr h
-decided_by request told status.Refused h = inr h
-decided_by request told status.Memory h = inr h
-decided_by request told status.Satisfiable h = inr h
-decided_by request told status.Unsatisfiable h = inr h
+decided_by request told decided h = inr h
 
 -- a result has the decided status
 pub result_decided : {ShelfFailed SinkFailed : Type 0} → IsOfOneDocument → (o : Option Request) (told : Told) (s decided : Status) (written said : List ℕ) → IsResult o told s written said → IsDecided o told decided → IsUnlessFailed (code s) decided ShelfFailed SinkFailed
@@ -117,38 +85,22 @@ bad_decided once never request told s decided h d = by (decided_by request told 
     by (inl e) = e
     by (inr v) = absurd (none_stops once never told nothing_known (inputs_of request.command) request.names v.values s nothing_small v.told_all v.read h)
 
+refusal_decided : IsOfOneDocument → StopsNowhere → (o : Option Request) (told : Told) (ailing : Bool) (current : Option (List ℕ)) (s : Stop) (decided : Status) → status_of s ≡ status.Input → StopsAsRead o told ailing current s → IsDecided o told decided
+    → decided ≡ status.Input
+refusal_decided once never None told ailing current s decided is h d = absurd h
+refusal_decided once never (Some request) told ailing current (stop.Words i) decided is h d = absurd (let f : ⊥ = cc is in f)
+refusal_decided once never (Some request) told ailing current stop.Read decided is h d = absurd (let f : ⊥ = cc is in f)
+refusal_decided once never (Some request) told ailing current stop.Memory decided is h d = absurd (let f : ⊥ = cc is in f)
+refusal_decided once never (Some request) told ailing current s decided is h d = bad_decided once never request told s decided h d
+
 -- so is that of a stop, unless a call or memory failed
 pub stop_decided : {ShelfFailed SinkFailed : Type 0} → IsOfOneDocument → StopsNowhere → (words : List Word) (told : Told) (ailing : Bool) (current : Option (List ℕ)) (s : Stop) (decided : Status) → StopsAt words told ailing current s → (s ≡ stop.Read → ShelfFailed) → IsDecided (request_of words) told decided → IsUnlessFailed (code (status_of s)) decided ShelfFailed SinkFailed
 stop_decided once never words told ailing current (stop.Words i) decided h rose d =
     let is : decided ≡ status.Words = subst (λ (o : Option Request). IsDecided o told decided) h.unlawful d in
     inl (ap code (sym is))
-stop_decided once never words told ailing current (stop.Formula r) decided h rose d = inl (ap code (sym (by (request_of words) h d)))
-  where
-    by : (o : Option Request) → StopsAsRead o told ailing current (stop.Formula r) → IsDecided o told decided → decided ≡ status.Input
-    by None h d = absurd h
-    by (Some request) h d = bad_decided once never request told (stop.Formula r) decided h d
-stop_decided once never words told ailing current (stop.Document line) decided h rose d = inl (ap code (sym (by (request_of words) h d)))
-  where
-    by : (o : Option Request) → StopsAsRead o told ailing current (stop.Document line) → IsDecided o told decided → decided ≡ status.Input
-    by None h d = absurd h
-    by (Some request) h d = bad_decided once never request told (stop.Document line) decided h d
-stop_decided once never words told ailing current (stop.Model line) decided h rose d = inl (ap code (sym (by (request_of words) h d)))
-  where
-    by : (o : Option Request) → StopsAsRead o told ailing current (stop.Model line) → IsDecided o told decided → decided ≡ status.Input
-    by None h d = absurd h
-    by (Some request) h d = bad_decided once never request told (stop.Model line) decided h d
-stop_decided once never words told ailing current (stop.Answer line) decided h rose d = inl (ap code (sym (by (request_of words) h d)))
-  where
-    by : (o : Option Request) → StopsAsRead o told ailing current (stop.Answer line) → IsDecided o told decided → decided ≡ status.Input
-    by None h d = absurd h
-    by (Some request) h d = bad_decided once never request told (stop.Answer line) decided h d
-stop_decided once never words told ailing current (stop.Edits line fault) decided h rose d = inl (ap code (sym (by (request_of words) h d)))
-  where
-    by : (o : Option Request) → StopsAsRead o told ailing current (stop.Edits line fault) → IsDecided o told decided → decided ≡ status.Input
-    by None h d = absurd h
-    by (Some request) h d = bad_decided once never request told (stop.Edits line fault) decided h d
 stop_decided once never words told ailing current stop.Read decided h rose d = inr (inl (refl, rose refl))
 stop_decided once never words told ailing current stop.Memory decided h rose d = inr (inr (inr refl))
+stop_decided once never words told ailing current s decided h rose d = inl (ap code (sym (refusal_decided once never (request_of words) told ailing current s decided refl h d)))
 
 -- THE ENDING OF A STOP
 
@@ -165,18 +117,9 @@ told_decided SinkFailed once never words told ailing current s (Err e) is h rose
 -- WHERE THE SHELF IS AILING
 
 well_by : (s : Status) (o : Option Request) (ailing : Bool) → (IsTrue ailing → ReadsNothing o) → IsWell s o ailing
-well_by status.Done o ailing h = h
-well_by status.Words o ailing h = h
-well_by status.Input o ailing h = h
 well_by status.ReadFault o ailing h = tt
-well_by status.WriteFault o ailing h = h
-well_by status.Budget o ailing h = h
-well_by status.TooWide o ailing h = h
-well_by status.TooLarge o ailing h = h
-well_by status.Refused o ailing h = h
 well_by status.Memory o ailing h = tt
-well_by status.Satisfiable o ailing h = h
-well_by status.Unsatisfiable o ailing h = h
+well_by s o ailing h = h
 
 -- a result does not tell of a failure
 pub result_well : (s : Status) (o : Option Request) (ailing : Bool) → (IsTrue ailing → ReadsNothing o ⊎ ⊥) → IsWell s o ailing
@@ -191,11 +134,7 @@ stop_well : (s : Stop) (o : Option Request) (ailing : Bool) → (IsTrue ailing �
 stop_well stop.Read o ailing h = tt
 stop_well stop.Memory o ailing h = tt
 stop_well (stop.Words i) o ailing h = result_well status.Words o ailing h
-stop_well (stop.Formula r) o ailing h = result_well status.Input o ailing h
-stop_well (stop.Document line) o ailing h = result_well status.Input o ailing h
-stop_well (stop.Model line) o ailing h = result_well status.Input o ailing h
-stop_well (stop.Answer line) o ailing h = result_well status.Input o ailing h
-stop_well (stop.Edits line fault) o ailing h = result_well status.Input o ailing h
+stop_well s o ailing h = result_well status.Input o ailing h
 
 pub told_well : (s : Stop) (o : Option Request) (ailing : Bool) (r : Result Ending OutOfMemory) → IfOk r (λ e. e.status ≡ status_of s) → (IsTrue ailing → ReadsNothing o ⊎ IsFailure s) → IfOk r (λ e. IsWell e.status o ailing)
 told_well s o ailing (Ok e) is h = subst (λ (t : Status). IsWell t o ailing) (sym is) (stop_well s o ailing h)
@@ -215,9 +154,14 @@ memory_quiet words shelf out say answer is taken same unused = record { ending =
 
 -- WHAT IS WRITTEN
 
-rose_in : {SayIsSame : Type 0} → (out say : Sunk) (written said : List ℕ) → IsCutIn out say written said SayIsSame → Rose out.faults_before out.faults_after ⊎ Rose say.faults_before say.faults_after
+pub rose_in : {SayIsSame : Type 0} → (out say : Sunk) (written said : List ℕ) → IsCutIn out say written said SayIsSame → Rose out.faults_before out.faults_after ⊎ Rose say.faults_before say.faults_after
 rose_in out say written said (inl first) = inl first.0.rose
 rose_in out say written said (inr second) = inr second.1.rose
+
+-- that it failed in these texts, without what is said of the sink as a whole
+cut_in : {SayIsSame : Type 0} → (out say : Sunk) (written said one other : List ℕ) → one ≡ written → other ≡ said → IsCutIn out say one other SayIsSame → IsCutIn out say written said ⊤
+cut_in out say written said one other p q (inl first) = inl (subst (λ (t : List ℕ). IsCut out t) p first.0, first.1, tt)
+cut_in out say written said one other p q (inr second) = inr (subst (λ (t : List ℕ). Takes out t) p second.0, subst (λ (t : List ℕ). IsCut say t) q second.1)
 
 -- an ending that has the decided status keeps it as it is written, unless a sink fails
 written_decided : {ShelfFailed SayIsSame : Type 0} → (out say : Sunk) (written said : List ℕ) (s decided : Status) (answer : ℕ) → (answer ≢ 4 → (answer ≡ code s) × TakesBoth out say written said)
@@ -253,7 +197,7 @@ pub written_runs : {SayIsSame : Type 0} → (words : List Word) (shelf : Shelved
     → ((decided : Status) → IsDecided (request_of words) shelf.told decided → IsUnlessFailed (code s) decided (Rose shelf.before shelf.after) ⊥) → IsRun words shelf out say answer
 written_runs words shelf out say s written said one other answer allowed well p q ended cut h = record {
   ended = λ four. written_ends words shelf out say s written said one other answer allowed well p q (ended four);
-  cut = λ four. rose_in out say one other (cut four);
+  cut = λ four. record { status = s; written = written; said = said; allowed = allowed; well = well; cut = cut_in out say written said one other p q (cut four); out_unused = λ none. tt };
   complete = λ decided is. written_decided out say one other s decided answer ended cut (h decided is);
 }
 

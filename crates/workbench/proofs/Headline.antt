@@ -1,14 +1,14 @@
 -- The claim of leank, from what the commands answer.
-use Rattle.std.proofs.Common.{◌≡◌, ◌≢◌, ◌∙◌, ℕ, ◌≤◌, ◌^◌, Bool, true, false, cond, List, [], ◌∷◌, ◌++◌, length, map, flat_map, Option, Some, None, refl, ap, sym, subst, append_assoc, ◌⊎◌, inl, inr, arith}
-use Rattle.std.specs.Prelude.{◌↔◌, ⊤, codes, IfSome, IsSome, IsTrue, nat_le, option_map, ℤ, Ok}
-use Rattle.std.specs.Io.KnownBytes.{Appends}
-use Rattle.std.proofs.lemmas.Bool.{le-leb, cases_Bool}
+use Rattle.std.proofs.Common.{◌≡◌, ◌≢◌, ◌∙◌, ℕ, ◌≤◌, ◌^◌, Bool, false, List, [], ◌∷◌, ◌++◌, length, map, flat_map, Option, Some, None, refl, ap, sym, subst, append_assoc, ◌⊎◌, inl, inr, arith}
+use Rattle.std.specs.Prelude.{◌↔◌, codes, IsTrue, ℤ, Ok}
+use Rattle.std.proofs.lemmas.Bool.{cases_Bool}
 use Rattle.lk_model.specs.Lists.{among}
 use Rattle.lk_model.specs.Limits.{max_bytes}
 use Rattle.lk_model.specs.Checks.Checks.{Accepts, first_failure, first_failure_to_extend, first_failure_to_extend_under, first_five}
 use Rattle.lk_model.specs.Checks.CommonChecks.{other_formula, model_fails}
 use Rattle.lk_model.specs.Formulas.Literal.{variable, literal_of}
-use Rattle.lk_model.specs.Formulas.Assignment.{Assignment, assignment_of, extended_value}
+use Rattle.lk_model.specs.Formulas.Assignment.{Assignment, assignment_of, extended_value, IsModel}
+use Rattle.lk_model.specs.Formulas.Lean.{all_of}
 use Rattle.lk_model.specs.Formulas.Crossed.{protected_by, protect_line_of}
 use Rattle.lk_model.specs.Formulas.Formula.{Cnf, clauses_at, variables_to}
 use Rattle.lk_model.specs.Reduction.{IsReduction, WritesReduction}
@@ -30,8 +30,7 @@ use Rattle.lk_model.specs.declared.document.Round.{Round}
 use Rattle.lk_model.specs.declared.verdict.Why.{Why}
 use Rattle.lk_model.proofs.FaultConverse.{fault_law}
 use Rattle.lk_model.proofs.Literals.{variable_of}
-use Rattle.lk_outside.specs.Causes.{Rose}
-use Rattle.kernel_laws.proofs.Passed.{none_fails, has_passed, same_numbers}
+use Rattle.kernel_laws.proofs.Passed.{none_fails, has_passed, same_numbers, accepted_form}
 use Rattle.document_laws.proofs.SameKept.{same_kept_law}
 use Rattle.text_laws.proofs.SpelledFormulas.{spelled_form}
 use Rattle.text_laws.proofs.Spelling.{spells_law}
@@ -39,7 +38,6 @@ use Rattle.lean_checker.specs.Verdicts.{verdict_by, verdict_of, verdict_words}
 use Rattle.lean_checker.specs.declared.verdict.Verdict.{Verdict}
 use Rattle.lean_checker.specs.declared.verdict.Verdict.TheVariants as verdict
 use Rattle.cert_text.proofs.PrintedTexts.{text_in_row}
-use Rattle.cert_text.proofs.ReadLaws.{of_one_document, stops_nowhere}
 use Rattle.lk_model.specs.Documents.Answers.{is_answer}
 use Rattle.answer_check.specs.AnswerChecks.{first_failure_of_answer}
 use Rattle.lk_model.specs.declared.answer.Answer.{Answer}
@@ -49,17 +47,13 @@ use Rattle.edit_text.specs.Edits.{states}
 use Rattle.edit_text.specs.EditText.{IsEdits}
 use Rattle.edit_text.specs.LiveClauses.{live_of}
 use Rattle.edit_text.specs.declared.edit.Edit.{Edit}
-use Rattle.command_words.specs.Lawful.{Request, request_of}
-use Rattle.command_words.specs.Settings.{Options, options_by, options_of, are_options}
-use Rattle.command_words.specs.Shapes.{words_of, number_of, inputs_of, keys_of}
+use Rattle.command_words.specs.Lawful.{Request}
+use Rattle.command_words.specs.Settings.{Options, options_by, are_options}
+use Rattle.command_words.specs.Shapes.{inputs_of, keys_of}
 use Rattle.command_words.specs.declared.command.Command.{Command}
-use Rattle.command_words.specs.declared.command.Command.TheVariants.{ReducePure, ReduceMatching, ReduceLinear, ReduceGeneral, Check, Extend, Report, Demo, Solve, Verify, Deficiency, Edits, Mus}
-use Rattle.command_words.specs.declared.shape.Grammar.{Grammar}
+use Rattle.command_words.specs.declared.command.Command.TheVariants.{ReducePure, ReduceMatching, ReduceLinear, ReduceGeneral, Check, Extend, Report, Solve, Verify, Deficiency, Edits, Mus}
 use Rattle.command_words.specs.declared.shape.Grammar.TheVariants.{Document}
-use Rattle.command_inputs.specs.Inputs.{Told, Known, nothing_known, Values, IsTextOf, known_behind, AreRead, AreTold, IsFirstBad}
-use Rattle.command_inputs.specs.declared.stop.Stop.{Stop}
-use Rattle.command_inputs.proofs.InputLaws.{nothing_small, none_stops}
-use Rattle.command_endings.specs.Commands as commands
+use Rattle.command_inputs.specs.Inputs.{nothing_known, IsTextOf}
 use Rattle.command_endings.specs.Commands.Check as check
 use Rattle.command_endings.specs.Commands.Edits.{WritesKernels}
 use Rattle.command_endings.specs.Commands.Extend as extend
@@ -69,190 +63,28 @@ use Rattle.command_endings.specs.Commands.Mus as mus
 use Rattle.command_endings.specs.Commands.Deficiency.{WritesDeficiency}
 use Rattle.command_endings.specs.Commands.Report.{WritesReport}
 use Rattle.command_endings.specs.Commands.Solve as solve
-use Rattle.command_endings.specs.Commands.Solve.{IsEnoughToRefute, WritesAnswer}
+use Rattle.command_endings.specs.Commands.Solve.{IsEnoughToRefute, HasModel, WritesAnswer}
 use Rattle.command_endings.specs.Commands.Verify as verify
+use Rattle.command_endings.proofs.Extensions.{set_rises}
 use Rattle.command_endings.proofs.SolveEndings.{not_enough}
+use Rattle.command_endings.proofs.SolveEndings as solve_end
+use Rattle.command_endings.proofs.MusEndings as mus_end
+use Rattle.command_endings.proofs.GeneralEndings.{kernel_of, general_status}
 use Rattle.command_endings.proofs.VerifiedAnswers.{in_kernel, minimal_core}
 use Rattle.status_lines.specs.Statuses.{code, is_result}
 use Rattle.status_lines.specs.declared.status.Status.{Status}
-use Rattle.status_lines.specs.declared.status.Status.TheVariants.{Done, Words, Input as Refusal, ReadFault, WriteFault, Budget, TooWide, TooLarge, Refused as Failing, Memory, Satisfiable, Unsatisfiable}
-use Rattle.workbench.specs.Endings.{Ends, Allows, HasResult, IsResult, HasReadFault, DeservesStop, IsDecided, IsUnlessFailed}
-use Rattle.workbench.specs.Headline.{Input, names_of, AreShown, Ran, RanWell, Gives, BeginsWith, IsReduced, IsExtended, IsTrueOf, Answers, accepted, RunsWell, AreTexts, AreLawful, Decides, Headline}
-use Rattle.workbench.specs.Outcomes.{AskFor}
+use Rattle.status_lines.specs.declared.status.Status.TheVariants.{Done, Words, Input as Refusal}
+use Rattle.workbench.specs.Endings.{Allows, IsDecided}
+use Rattle.workbench.specs.Headline.{Input, names_of, Ran, RanWell, Gives, BeginsWith, IsReduced, IsExtended, IsTrueOf, Answers, accepted, RunsWell, AreLawful, EndsAmong, with_clauses, AreOver, Headline}
 use Rattle.workbench.specs.WrittenAnswers.{IsVerifiedFor, AsksVerify}
-use Rattle.workbench.specs.WrittenChecks.{AsksCheck}
+use Rattle.workbench.specs.WrittenChecks.{AskFor, AsksCheck}
 use Rattle.workbench.proofs.Agreement.{written_accepted}
-use Rattle.workbench.proofs.Outcomes.{numbered, one_status, result_in, result_at, accepted_by}
-use Rattle.workbench.proofs.VerifyOutcomes.{passes_by}
+use Rattle.workbench.proofs.Protecting.{same_models, carried}
+use Rattle.workbench.proofs.Runs.{words_for, asked, unasked, are_texts, numbered, one_status, HasAnswered, gives, well_decided, Comes, Refuses, Replies, comes, replied}
+use Rattle.workbench.proofs.Tellings.{accepted_by, passes_by}
 use Rattle.workbench.proofs.WrittenAnswers.{verified_for, verifies_as}
 use Rattle.workbench.proofs.WrittenChecks.{checks_as}
 use Rattle.workbench.proofs.WrittenCores.{core_spells}
-
--- WHAT IS ASKED FOR
-
--- the request where the options are valid, and else none
-abbrev asked_with : Command → List Word → List Word → Option Request
-asked_with command names options = option_map (λ (o : Options). record { command = command; names = names; options = record o { number = 0 } }) (options_of (keys_of command) options)
-
-one_input : (inputs : List Input) → length inputs ≡ 1 → (i : Input) × (inputs ≡ i ∷ [])
-one_input [] e = absurd (let f : ⊥ = cc e in f)
-one_input (i ∷ []) e = (i, refl)
-one_input (i ∷ j ∷ more) e = absurd (omega (arith, e))
-
-two_inputs : (inputs : List Input) → length inputs ≡ 2 → (i : Input) × (j : Input) × (inputs ≡ i ∷ j ∷ [])
-two_inputs [] e = absurd (let f : ⊥ = cc e in f)
-two_inputs (i ∷ []) e = absurd (omega (arith, e))
-two_inputs (i ∷ j ∷ []) e = (i, j, refl)
-two_inputs (i ∷ j ∷ k ∷ more) e = absurd (omega (arith, e))
-
-three_inputs : (inputs : List Input) → length inputs ≡ 3 → (i : Input) × (j : Input) × (k : Input) × (inputs ≡ i ∷ j ∷ k ∷ [])
-three_inputs [] e = absurd (let f : ⊥ = cc e in f)
-three_inputs (i ∷ []) e = absurd (omega (arith, e))
-three_inputs (i ∷ j ∷ []) e = absurd (omega (arith, e))
-three_inputs (i ∷ j ∷ k ∷ []) e = (i, j, k, refl)
-three_inputs (i ∷ j ∷ k ∷ l ∷ more) e = absurd (omega (arith, e))
-
-there : (count : ℕ) (words : List Word) → count ≤ length words → nat_le count (length words) ≡ true
-there count words l = le-leb count (length words) l
-
--- the words ask for the command over these names
-abbrev AsksFor : Command → List Word → List Input → Type 0
-AsksFor command options inputs = request_of (words_of command ++ names_of inputs ++ options) ≡ asked_with command (names_of inputs) options
-
-asks_one : (command : Command) (inputs : List Input) (options : List Word) → length inputs ≡ 1
-    → ((name : Word) → request_of (words_of command ++ (name ∷ []) ++ options) ≡ asked_with command (name ∷ []) options) → AsksFor command options inputs
-asks_one command inputs options count h =
-    let i = one_input inputs count in
-    subst (λ (is : List Input). request_of (words_of command ++ names_of is ++ options) ≡ asked_with command (names_of is) options) (sym i.1) (h i.0.name)
-
-asks_two : (command : Command) (inputs : List Input) (options : List Word) → length inputs ≡ 2
-    → ((one two : Word) → request_of (words_of command ++ (one ∷ two ∷ []) ++ options) ≡ asked_with command (one ∷ two ∷ []) options) → AsksFor command options inputs
-asks_two command inputs options count h =
-    let i = two_inputs inputs count in
-    subst (λ (is : List Input). request_of (words_of command ++ names_of is ++ options) ≡ asked_with command (names_of is) options) (sym i.2) (h i.0.name i.1.name)
-
-asks_three : (command : Command) (inputs : List Input) (options : List Word) → length inputs ≡ 3
-    → ((one two three : Word) → request_of (words_of command ++ (one ∷ two ∷ three ∷ []) ++ options) ≡ asked_with command (one ∷ two ∷ three ∷ []) options) → AsksFor command options inputs
-asks_three command inputs options count h =
-    let i = three_inputs inputs count in
-    subst (λ (is : List Input). request_of (words_of command ++ names_of is ++ options) ≡ asked_with command (names_of is) options) (sym i.3) (h i.0.name i.1.name i.2.name)
-
-asks : (command : Command) (inputs : List Input) (options : List Word) → number_of command ≡ None → length inputs ≡ length (inputs_of command) → AsksFor command options inputs
-asks ReducePure inputs options none count = asks_one ReducePure inputs options count (λ name. ap (λ (b : Bool). cond b (asked_with ReducePure (name ∷ []) options) None) (there 1 (name ∷ options) (omega arith)))
-asks ReduceMatching inputs options none count = asks_one ReduceMatching inputs options count (λ name. ap (λ (b : Bool). cond b (asked_with ReduceMatching (name ∷ []) options) None) (there 1 (name ∷ options) (omega arith)))
-asks ReduceLinear inputs options none count = asks_one ReduceLinear inputs options count (λ name. ap (λ (b : Bool). cond b (asked_with ReduceLinear (name ∷ []) options) None) (there 1 (name ∷ options) (omega arith)))
-asks ReduceGeneral inputs options none count = asks_one ReduceGeneral inputs options count (λ name. ap (λ (b : Bool). cond b (asked_with ReduceGeneral (name ∷ []) options) None) (there 1 (name ∷ options) (omega arith)))
-asks Report inputs options none count = asks_one Report inputs options count (λ name. ap (λ (b : Bool). cond b (asked_with Report (name ∷ []) options) None) (there 1 (name ∷ options) (omega arith)))
-asks Solve inputs options none count = asks_one Solve inputs options count (λ name. ap (λ (b : Bool). cond b (asked_with Solve (name ∷ []) options) None) (there 1 (name ∷ options) (omega arith)))
-asks Deficiency inputs options none count = asks_one Deficiency inputs options count (λ name. ap (λ (b : Bool). cond b (asked_with Deficiency (name ∷ []) options) None) (there 1 (name ∷ options) (omega arith)))
-asks Mus inputs options none count = asks_one Mus inputs options count (λ name. ap (λ (b : Bool). cond b (asked_with Mus (name ∷ []) options) None) (there 1 (name ∷ options) (omega arith)))
-asks Check inputs options none count = asks_two Check inputs options count (λ one two. ap (λ (b : Bool). cond b (asked_with Check (one ∷ two ∷ []) options) None) (there 2 (one ∷ two ∷ options) (omega arith)))
-asks Verify inputs options none count = asks_two Verify inputs options count (λ one two. ap (λ (b : Bool). cond b (asked_with Verify (one ∷ two ∷ []) options) None) (there 2 (one ∷ two ∷ options) (omega arith)))
-asks Edits inputs options none count = asks_two Edits inputs options count (λ one two. ap (λ (b : Bool). cond b (asked_with Edits (one ∷ two ∷ []) options) None) (there 2 (one ∷ two ∷ options) (omega arith)))
-asks Extend inputs options none count = asks_three Extend inputs options count (λ one two three. ap (λ (b : Bool). cond b (asked_with Extend (one ∷ two ∷ three ∷ []) options) None) (there 3 (one ∷ two ∷ three ∷ options) (omega arith)))
-asks Demo inputs options none count = absurd (let f : ⊥ = cc none in f)
-
--- a command over inputs, with options after their names
-abbrev words_for : Command → List Input → List Word → List Word
-words_for command inputs options = words_of command ++ names_of inputs ++ options
-
--- with valid options the words ask for it, and else for nothing
-asked : (command : Command) (inputs : List Input) (options : List Word) → number_of command ≡ None → length inputs ≡ length (inputs_of command) → are_options (keys_of command) options ≡ true
-    → AskFor (words_for command inputs options) command (names_of inputs) (options_by options)
-asked command inputs options none count valid =
-    asks command inputs options none count
-    ∙ ap (λ (b : Bool). option_map (λ (o : Options). let r : Request = record { command = command; names = names_of inputs; options = record o { number = 0 } } in r) (cond b (Some (options_by options)) None)) valid
-
-unasked : (command : Command) (inputs : List Input) (options : List Word) → number_of command ≡ None → length inputs ≡ length (inputs_of command) → are_options (keys_of command) options ≡ false
-    → request_of (words_for command inputs options) ≡ None
-unasked command inputs options none count invalid =
-    asks command inputs options none count
-    ∙ ap (λ (b : Bool). option_map (λ (o : Options). let r : Request = record { command = command; names = names_of inputs; options = record o { number = 0 } } in r) (cond b (Some (options_by options)) None)) invalid
-
--- WHAT IS READ
-
--- the texts are those of the values
-abbrev AreOf : Known → (grammars : List Grammar) → List Input → Values grammars → Type 0
-AreOf known [] inputs values = ⊤
-AreOf known (grammar ∷ grammars) [] values = ⊥
-AreOf known (grammar ∷ grammars) (input ∷ inputs) values = IsTextOf grammar known values.0 input.text × AreOf (known_behind grammar known values.0) grammars inputs values.1
-
-shown_if : (P : List ℕ → Type 0) (told : Option (List ℕ)) (text : List ℕ) → told ≡ Some text → IfSome told P → P text
-shown_if P told text is h = subst (λ (o : Option (List ℕ)). IfSome o P) is h
-
-if_shown : (P : List ℕ → Type 0) (told : Option (List ℕ)) (text : List ℕ) → told ≡ Some text → P text → IfSome told P
-if_shown P told text is h = subst (λ (o : Option (List ℕ)). IfSome o P) (sym is) h
-
--- what is read of inputs that are shown
-are_of : (told : Told) (known : Known) (grammars : List Grammar) (inputs : List Input) (values : Values grammars) → AreShown told inputs → AreRead told known grammars (names_of inputs) values → AreOf known grammars inputs values
-are_of told known [] inputs values shown read = tt
-are_of told known (grammar ∷ grammars) [] values shown read = absurd read
-are_of told known (grammar ∷ grammars) (i ∷ inputs) values shown read =
-    (shown_if (IsTextOf grammar known values.0) (told i.name) i.text shown.0 read.0, are_of told (known_behind grammar known values.0) grammars inputs values.1 shown.1 read.1)
-
-are_read : (told : Told) (known : Known) (grammars : List Grammar) (inputs : List Input) (values : Values grammars) → length inputs ≡ length grammars → AreShown told inputs → AreOf known grammars inputs values → AreRead told known grammars (names_of inputs) values
-are_read told known [] [] values count shown h = tt
-are_read told known [] (i ∷ inputs) values count shown h = absurd (omega (arith, count))
-are_read told known (grammar ∷ grammars) [] values count shown h = absurd h
-are_read told known (grammar ∷ grammars) (i ∷ inputs) values count shown h =
-    (if_shown (IsTextOf grammar known values.0) (told i.name) i.text shown.0 h.0, are_read told (known_behind grammar known values.0) grammars inputs values.1 (omega (arith, count)) shown.1 h.1)
-
-are_told : (told : Told) (inputs : List Input) → AreShown told inputs → AreTold told (names_of inputs)
-are_told told [] shown = tt
-are_told told (i ∷ inputs) shown = (subst (λ (o : Option (List ℕ)). IsSome o) (sym shown.0) refl, are_told told inputs shown.1)
-
--- so the inputs are texts, and texts are those of some values
-are_texts : (known : Known) (grammars : List Grammar) (inputs : List Input) (values : Values grammars) → AreOf known grammars inputs values → AreTexts known grammars inputs
-are_texts known [] inputs values h = tt
-are_texts known (grammar ∷ grammars) [] values h = tt
-are_texts known (grammar ∷ grammars) (i ∷ inputs) values h = (values.0, h.0, are_texts (known_behind grammar known values.0) grammars inputs values.1 h.1)
-
-values_of : (known : Known) (grammars : List Grammar) (inputs : List Input) → length inputs ≡ length grammars → AreTexts known grammars inputs → (values : Values grammars) × AreOf known grammars inputs values
-values_of known [] inputs count h = (tt, tt)
-values_of known (grammar ∷ grammars) [] count h = absurd (omega (arith, count))
-values_of known (grammar ∷ grammars) (i ∷ inputs) count h =
-    let others = values_of (known_behind grammar known h.0) grammars inputs (omega (arith, count)) h.2 in
-    ((h.0, others.0), (h.1, others.1))
-
--- WHAT A RUN ANSWERS
-
--- what was read, and that the command may answer it so
-record HasAnswered (command : Command) (inputs : List Input) (options : List Word) (status : Status) (written : List ℕ) : Type 0 where
-  values : Values (inputs_of command)
-  read : AreOf nothing_known (inputs_of command) inputs values
-  said : List ℕ
-  result : IsTrue (is_result status)
-  answers : commands.Answers command (options_by options) values status written said
-
--- what was written where nothing stood
-all_written : (before after : Option (List ℕ)) (written appended : List ℕ) → before ≡ Some [] → after ≡ Some written → Appends before after appended → appended ≡ written
-all_written before after written appended empty all taken =
-    let same : written ≡ appended = subst (λ (o : Option (List ℕ)). Appends (Some []) o appended) all (subst (λ (o : Option (List ℕ)). Appends o after appended) empty taken) in
-    sym same
-
-abbrev request_for : Command → List Input → List Word → Request
-request_for command inputs options = record { command = command; names = names_of inputs; options = options_by options }
-
--- of a result
-answered : (command : Command) (inputs : List Input) (options : List Word) (n : ℕ) (status : Status) (written : List ℕ) (run : Ran (words_for command inputs options) inputs n written)
-    → (e : Ends (words_for command inputs options) run.shelf run.out run.say n) → HasResult (request_for command inputs options) run.shelf.told status e.written e.said
-    → HasAnswered command inputs options status written
-answered command inputs options n status written run e r = record {
-  values = r.values;
-  read = are_of run.shelf.told nothing_known (inputs_of command) inputs r.values run.shown r.read;
-  said = e.said;
-  result = r.result;
-  answers = subst (λ (text : List ℕ). commands.Answers command (options_by options) r.values status text e.said) (all_written run.out.before run.out.after written e.written run.empty run.written_is e.taken.0.taken) r.answers;
-}
-
--- a run that ends with the status of a result had valid options
-gives : (command : Command) (inputs : List Input) (options : List Word) (n : ℕ) (written : List ℕ) → number_of command ≡ None → length inputs ≡ length (inputs_of command)
-    → Ran (words_for command inputs options) inputs n written → n ≢ 4 → IsTrue (is_result (numbered n)) → HasAnswered command inputs options (numbered n) written
-gives command inputs options n written none count run other result = elim (cases_Bool (are_options (keys_of command) options)) [
-  | inl valid ↦ answered command inputs options n (numbered n) written run (run.is_run.ended other)
-      (subst (λ (o : Option Request). IsResult o run.shelf.told (numbered n) (run.is_run.ended other).written (run.is_run.ended other).said) (asked command inputs options none count valid) (result_in (words_for command inputs options) run.shelf run.out run.say n (run.is_run.ended other) result))
-  | inr invalid ↦ absurd (subst (λ (o : Option Request). IsResult o run.shelf.told (numbered n) (run.is_run.ended other).written (run.is_run.ended other).said) (unasked command inputs options none count invalid) (result_in (words_for command inputs options) run.shelf run.out run.say n (run.is_run.ended other) result))
-]
 
 -- DOCUMENTS
 
@@ -280,10 +112,12 @@ reduced F class d text of_class accepts reduction is = record {
   kept = d.kept;
   set = d.set;
   begins = begins_with F class d text of_class (has_passed (protected_by d.protect) F d accepts.checks).formula is;
+  ascends = (accepted_form (protected_by d.protect) F d accepts).set;
   reduces = subst (λ (c : Class). ReducesBy (protected_by d.protect) c F d.kept (assignment_of d.set)) of_class reduction;
   spells = kept_spells F d text accepts is;
   document = d;
   text_is = is;
+  same = (refl, refl);
   accepts = accepts;
 }
 
@@ -293,12 +127,12 @@ writes_reduced F class listed pivots written w =
     subst (λ (protect : Option (List ℕ)). IsReduced protect class F written) w.protects (reduced F class w.document written r.class_is r.accepted r.reduction w.written_is)
 
 -- what `reduce` answered, of each class
-has_reduced : (class : Class) (formula : Input) (options : List Word) (written : List ℕ) → Ran (codes "reduce" ∷ class_word class ∷ formula.name ∷ options) (formula ∷ []) 0 written
+pub has_reduced : (class : Class) (formula : Input) (options : List Word) (written : List ℕ) → Ran (codes "reduce" ∷ class_word class ∷ formula.name ∷ options) (formula ∷ []) 0 written
     → (F : Cnf) × Spells formula.text F × WritesReduction F class (options_by options).protect (options_by options).pivots written
 has_reduced Pure formula options written run = let r = gives ReducePure (formula ∷ []) options 0 written refl refl run (λ e. omega (arith, e)) refl in (r.values.0, r.read.0, r.answers.writes)
 has_reduced Matching formula options written run = let r = gives ReduceMatching (formula ∷ []) options 0 written refl refl run (λ e. omega (arith, e)) refl in (r.values.0, r.read.0, r.answers.writes)
 has_reduced Linear formula options written run = let r = gives ReduceLinear (formula ∷ []) options 0 written refl refl run (λ e. omega (arith, e)) refl in (r.values.0, r.read.0, r.answers.writes)
-has_reduced General formula options written run = let r = gives ReduceGeneral (formula ∷ []) options 0 written refl refl run (λ e. omega (arith, e)) refl in (r.values.0, r.read.0, r.answers.writes.0.reduction)
+has_reduced General formula options written run = let r = gives ReduceGeneral (formula ∷ []) options 0 written refl refl run (λ e. omega (arith, e)) refl in (r.values.0, r.read.0, (kernel_of r.answers).0.reduction)
 
 reduce : (class : Class) (options : List Word) → Gives (codes "reduce" ∷ class_word class ∷ []) [] options 0 (λ F written. IsReduced (protect_line_of F (options_by options).protect) class F written)
 reduce class options formula written run =
@@ -345,6 +179,7 @@ extended_where F d document model written given None read gives proved is done t
   kept = d.kept;
   set = d.set;
   begins = begins_with F (class_of d.body) d document refl (same_formula F d (assignment_of given) is) read.text;
+  ascends = set_rises F d (assignment_of given) read.form is;
   given = given;
   gives = gives;
   literals = extension F d (assignment_of given);
@@ -389,25 +224,25 @@ writes_model text F written spells w = (w.literals, is_answered text F (Model w.
 solve_10 : (options : List Word) → Gives (codes "solve" ∷ []) [] options 10 (λ F written. (literals : List ℤ) × Answers F (Model literals) written)
 solve_10 options formula written run =
     let r = gives Solve (formula ∷ []) options 10 written refl refl run (λ e. omega (arith, e)) refl in
-    (r.values.0, r.read.0, writes_model formula.text r.values.0 written r.read.0 r.answers.0)
+    (r.values.0, r.read.0, writes_model formula.text r.values.0 written r.read.0 (solve_end.model_of r.answers).0)
 
 solve_20 : (options : List Word) → Gives (codes "solve" ∷ []) [] options 20 (λ F written. (round : Round) × Answers F (Refuted round) written)
 solve_20 options formula written run =
     let r = gives Solve (formula ∷ []) options 20 written refl refl run (λ e. omega (arith, e)) refl in
-    let w = r.answers.0 in
+    let w = (solve_end.refutation_of r.answers).0 in
     (r.values.0, r.read.0, (w.round, is_answered formula.text r.values.0 (Refuted w.round) written r.read.0 w.writes))
 
 mus_0 : (options : List Word) → Gives (codes "mus" ∷ []) [] options 0
     (λ F written. (core : MusAnswer) × Answers F (Core core) written × (length written ≤ max_bytes → Spells written (clauses_at F core.core)))
 mus_0 options formula written run =
     let r = gives Mus (formula ∷ []) options 0 written refl refl run (λ e. omega (arith, e)) refl in
-    let w = r.answers.0 in
-    (r.values.0, r.read.0, (w.core, is_answered formula.text r.values.0 (Core w.core) written r.read.0 w.writes, core_spells formula.text written (record { formula = r.values.0; spells = r.read.0; writes = w })))
+    let w = (mus_end.core_of r.answers).0 in
+    (r.values.0, r.read.0, (w.core, is_answered formula.text r.values.0 (Core w.core) written r.read.0 w.writes, core_spells formula.text (options_by options) written (record { formula = r.values.0; spells = r.read.0; writes = w })))
 
 mus_10 : (options : List Word) → Gives (codes "mus" ∷ []) [] options 10 (λ F written. (literals : List ℤ) × Answers F (Model literals) written)
 mus_10 options formula written run =
     let r = gives Mus (formula ∷ []) options 10 written refl refl run (λ e. omega (arith, e)) refl in
-    (r.values.0, r.read.0, writes_model formula.text r.values.0 written r.read.0 r.answers.0)
+    (r.values.0, r.read.0, writes_model formula.text r.values.0 written r.read.0 (mus_end.model_of r.answers).0)
 
 verify_0 : (answer : Input) → Gives (codes "verify" ∷ []) (answer ∷ []) [] 0 (λ F written. (a : Answer) × Answers F a answer.text × (written ≡ accepted))
 verify_0 answer formula written run =
@@ -434,86 +269,6 @@ edits : (changes : Input) → Gives (codes "edits" ∷ []) (changes ∷ []) [] 0
 edits changes formula written run =
     let r = gives Edits (formula ∷ changes ∷ []) [] 0 written refl refl run (λ e. omega (arith, e)) refl in
     (r.values.0, r.read.0, (r.values.1.0, r.read.1.0, r.answers.writes))
-
--- WHERE NOTHING FAILS
-
--- the status is the one that is decided
-well_decided : (words : List Word) (inputs : List Input) (status : ℕ) (written : List ℕ) (well : RanWell words inputs status written) (decided : Status) → IsDecided (request_of words) well.ran.shelf.told decided → status ≡ code decided
-well_decided words inputs status written well decided h = by (well.ran.is_run.complete decided h)
-  where
-    failed : Rose well.ran.out.faults_before well.ran.out.faults_after ⊎ Rose well.ran.say.faults_before well.ran.say.faults_after → ⊥
-    failed (inl rose) = well.could_write rose
-    failed (inr rose) = well.could_say rose
-
-    by : IsUnlessFailed status decided (Rose well.ran.shelf.before well.ran.shelf.after)
-        (Rose well.ran.out.faults_before well.ran.out.faults_after ⊎ Rose well.ran.say.faults_before well.ran.say.faults_after) → status ≡ code decided
-    by (inl e) = e
-    by (inr (inl e)) = absurd (well.could_read e.1)
-    by (inr (inr (inl e))) = absurd (failed e.1)
-    by (inr (inr (inr e))) = absurd (well.had_memory e)
-
--- and no ending was cut off
-never_cut : (words : List Word) (inputs : List Input) (status : ℕ) (written : List ℕ) → RanWell words inputs status written → status ≢ 4
-never_cut words inputs status written well four = by (well.ran.is_run.cut four)
-  where
-    by : Rose well.ran.out.faults_before well.ran.out.faults_after ⊎ Rose well.ran.say.faults_before well.ran.say.faults_after → ⊥
-    by (inl rose) = well.could_write rose
-    by (inr rose) = well.could_say rose
-
--- so an input is refused, or the command answers
-data Comes (command : Command) (inputs : List Input) (options : List Word) (status : ℕ) (written : List ℕ) : Type 0 where
-  Refuses : status ≡ 2 → (told : Told) → AreShown told inputs → (s : Stop) → IsFirstBad told nothing_known (inputs_of command) (names_of inputs) s → Comes command inputs options status written
-  Replies : (s : Status) → status ≡ code s → HasAnswered command inputs options s written → Comes command inputs options status written
-
--- where 1 does not come, the options are valid
-valid_of : (command : Command) (inputs : List Input) (options : List Word) (status : ℕ) → RunsWell command inputs options status → status ≢ 1 → AskFor (words_for command inputs options) command (names_of inputs) (options_by options)
-valid_of command inputs options status r other = elim (cases_Bool (are_options (keys_of command) options)) [
-  | inl valid ↦ asked command inputs options r.no_number r.count valid
-  | inr invalid ↦ absurd (other (well_decided (words_for command inputs options) inputs status r.written r.well Words
-      (subst (λ (o : Option Request). IsDecided o r.well.ran.shelf.told Words) (sym (unasked command inputs options r.no_number r.count invalid)) refl)))
-]
-
--- an ending that was allowed
-allowed_comes : (command : Command) (inputs : List Input) (options : List Word) (status : ℕ) → (r : RunsWell command inputs options status) → status ≢ 1 → AskFor (words_for command inputs options) command (names_of inputs) (options_by options)
-    → (e : Ends (words_for command inputs options) r.well.ran.shelf r.well.ran.out r.well.ran.say status) → (s : Status) → status ≡ code s → Allows (words_for command inputs options) r.well.ran.shelf s e.written e.said → Comes command inputs options status r.written
-allowed_comes command inputs options status r other request e s is h = by s is h
-  where
-    replies : (s : Status) → status ≡ code s → IsTrue (is_result s) → Allows (words_for command inputs options) r.well.ran.shelf s e.written e.said → Comes command inputs options status r.written
-    replies s is result h = Replies s is (answered command inputs options status s r.written r.well.ran e (result_at (words_for command inputs options) r.well.ran.shelf (request_for command inputs options) s e.written e.said request result h))
-
-    by : (s : Status) → status ≡ code s → Allows (words_for command inputs options) r.well.ran.shelf s e.written e.said → Comes command inputs options status r.written
-    by Words is h = absurd (other is)
-    by Refusal is h = Refuses is r.well.ran.shelf.told r.well.ran.shown h.0 (subst (λ (o : Option Request). DeservesStop o r.well.ran.shelf.told h.0) request h.1)
-    by ReadFault is h = absurd (r.well.could_read (subst (λ (o : Option Request). HasReadFault o r.well.ran.shelf) request h.0).0)
-    by WriteFault is h = absurd h
-    by Memory is h = absurd (r.well.had_memory is)
-    by Done is h = replies Done is refl h
-    by Budget is h = replies Budget is refl h
-    by TooWide is h = replies TooWide is refl h
-    by TooLarge is h = replies TooLarge is refl h
-    by Failing is h = replies Failing is refl h
-    by Satisfiable is h = replies Satisfiable is refl h
-    by Unsatisfiable is h = replies Unsatisfiable is refl h
-
-comes : (command : Command) (inputs : List Input) (options : List Word) (status : ℕ) → (r : RunsWell command inputs options status) → status ≢ 1 → Comes command inputs options status r.written
-comes command inputs options status r other =
-    let e = r.well.ran.is_run.ended (never_cut (words_for command inputs options) inputs status r.written r.well) in
-    allowed_comes command inputs options status r other (valid_of command inputs options status r other) e e.status e.answer_is e.allowed
-
--- lawful inputs are not refused
-never_refuses : (told : Told) (grammars : List Grammar) (inputs : List Input) (s : Stop) → length inputs ≡ length grammars → AreShown told inputs → AreTexts nothing_known grammars inputs → IsFirstBad told nothing_known grammars (names_of inputs) s → ⊥
-never_refuses told grammars inputs s count shown texts bad =
-    let v = values_of nothing_known grammars inputs count texts in
-    none_stops of_one_document stops_nowhere told nothing_known grammars (names_of inputs) v.0 s nothing_small (are_told told inputs shown) (are_read told nothing_known grammars inputs v.0 count shown v.1) bad
-
--- they are answered
-replied : (command : Command) (inputs : List Input) (options : List Word) (status : ℕ) → (r : RunsWell command inputs options status) → status ≢ 1 → AreLawful command inputs
-    → (s : Status) × (status ≡ code s) × HasAnswered command inputs options s r.written
-replied command inputs options status r other lawful = by (comes command inputs options status r other)
-  where
-    by : Comes command inputs options status r.written → (s : Status) × (status ≡ code s) × HasAnswered command inputs options s r.written
-    by (Replies s is a) = (s, is, a)
-    by (Refuses is told shown s bad) = absurd (never_refuses told (inputs_of command) inputs s r.count shown lawful bad)
 
 -- STATUSES
 
@@ -546,81 +301,75 @@ no_refusal s result two =
 
 refused_where : (command : Command) (inputs : List Input) (options : List Word) (status : ℕ) (written : List ℕ) → (AreLawful command inputs → ⊥) → Comes command inputs options status written → status ≡ 2
 refused_where command inputs options status written unlawful (Refuses is told shown s bad) = is
-refused_where command inputs options status written unlawful (Replies s is a) = absurd (unlawful (are_texts nothing_known (inputs_of command) inputs a.values a.read))
+refused_where command inputs options status written unlawful (Replies s is result said a) = absurd (unlawful (are_texts nothing_known (inputs_of command) inputs a.values a.read))
 
 refuses : (command : Command) (inputs : List Input) (options : List Word) (status : ℕ) → RunsWell command inputs options status → status ≢ 1 → (status ≡ 2) ↔ (AreLawful command inputs → ⊥)
 refuses command inputs options status r other = (
-  λ two lawful. let a = replied command inputs options status r other lawful in no_refusal a.0 a.2.result (sym two ∙ a.1),
+  λ two lawful. let a = replied command inputs options status r other lawful in no_refusal a.0 a.2 (sym two ∙ a.1),
   λ unlawful. refused_where command inputs options status r.written unlawful (comes command inputs options status r other),
 )
 
 -- it answers with status 0 alone
 abbrev EndsDone : List Input → List Word → Command → Type 0
-EndsDone inputs options c = (s : Status) (written : List ℕ) → HasAnswered c inputs options s written → s ≡ Done
+EndsDone inputs options c = (s : Status) (written said : List ℕ) → HasAnswered c inputs (options_by options) s written said → s ≡ Done
 
 done_at : (inputs : List Input) (options : List Word) (c d : Command) → c ≡ d → EndsDone inputs options d → EndsDone inputs options c
 done_at inputs options c d e h = subst (EndsDone inputs options) (sym e) h
 
 always_done : (c : Command) (inputs : List Input) (options : List Word) → (c ≡ ReducePure) ⊎ (c ≡ ReduceMatching) ⊎ (c ≡ Report) ⊎ (c ≡ Deficiency) ⊎ (c ≡ Edits) → EndsDone inputs options c
-always_done c inputs options (inl e) = done_at inputs options c ReducePure e (λ s written a. a.answers.status_is)
-always_done c inputs options (inr (inl e)) = done_at inputs options c ReduceMatching e (λ s written a. a.answers.status_is)
-always_done c inputs options (inr (inr (inl e))) = done_at inputs options c Report e (λ s written a. a.answers.status_is)
-always_done c inputs options (inr (inr (inr (inl e)))) = done_at inputs options c Deficiency e (λ s written a. a.answers.status_is)
-always_done c inputs options (inr (inr (inr (inr e)))) = done_at inputs options c Edits e (λ s written a. a.answers.status_is)
+always_done c inputs options (inl e) = done_at inputs options c ReducePure e (λ s written said a. a.answers.status_is)
+always_done c inputs options (inr (inl e)) = done_at inputs options c ReduceMatching e (λ s written said a. a.answers.status_is)
+always_done c inputs options (inr (inr (inl e))) = done_at inputs options c Report e (λ s written said a. a.answers.status_is)
+always_done c inputs options (inr (inr (inr (inl e)))) = done_at inputs options c Deficiency e (λ s written said a. a.answers.status_is)
+always_done c inputs options (inr (inr (inr (inr e)))) = done_at inputs options c Edits e (λ s written said a. a.answers.status_is)
 
 answers_0 : (c : Command) (inputs : List Input) (options : List Word) (status : ℕ) → (c ≡ ReducePure) ⊎ (c ≡ ReduceMatching) ⊎ (c ≡ Report) ⊎ (c ≡ Deficiency) ⊎ (c ≡ Edits)
     → RunsWell c inputs options status → status ≢ 1 → AreLawful c inputs → status ≡ 0
-answers_0 c inputs options status which r other lawful = let a = replied c inputs options status r other lawful in a.1 ∙ ap code (always_done c inputs options which a.0 r.written a.2)
+answers_0 c inputs options status which r other lawful = let a = replied c inputs options status r other lawful in a.1 ∙ ap code (always_done c inputs options which a.0 r.written a.3 a.4)
 
 -- with a budget that is enough none of these stops
-solve_ends : (options : Options) (F : Cnf) (s : Status) (written said : List ℕ) → IsEnoughToRefute options.conflicts F → solve.Answers options F s written said → IsTrue (among (10 ∷ 20 ∷ []) (code s))
-solve_ends options F Satisfiable written said enough a = refl
-solve_ends options F Unsatisfiable written said enough a = refl
-solve_ends options F Budget written said enough a = absurd (not_enough options.conflicts F a.0.few a.0.filled enough)
-solve_ends options F Done written said enough a = absurd a
-solve_ends options F Words written said enough a = absurd a
-solve_ends options F Refusal written said enough a = absurd a
-solve_ends options F ReadFault written said enough a = absurd a
-solve_ends options F WriteFault written said enough a = absurd a
-solve_ends options F TooWide written said enough a = absurd a
-solve_ends options F TooLarge written said enough a = absurd a
-solve_ends options F Failing written said enough a = absurd a
-solve_ends options F Memory written said enough a = absurd a
+solve_ends : {options : Options} {F : Cnf} {s : Status} {written said : List ℕ} → IsEnoughToRefute options.conflicts F → solve.Answers options F written said s → IsTrue (among (10 ∷ 20 ∷ []) (code s))
+solve_ends enough (solve.satisfied w silent) = refl
+solve_ends enough (solve.refuted w silent) = refl
+solve_ends {options = options} {F = F} enough (solve.stopped w line) = absurd (not_enough options.conflicts F w.few w.filled enough)
 
-mus_ends : (options : Options) (F : Cnf) (s : Status) (written said : List ℕ) → IsEnoughToRefute options.conflicts F → mus.Answers options F s written said → IsTrue (among (0 ∷ 10 ∷ []) (code s))
-mus_ends options F Done written said enough a = refl
-mus_ends options F Satisfiable written said enough a = refl
-mus_ends options F Budget written said enough a = absurd (not_enough options.conflicts F a.0.few a.0.filled enough)
-mus_ends options F Unsatisfiable written said enough a = absurd a
-mus_ends options F Words written said enough a = absurd a
-mus_ends options F Refusal written said enough a = absurd a
-mus_ends options F ReadFault written said enough a = absurd a
-mus_ends options F WriteFault written said enough a = absurd a
-mus_ends options F TooWide written said enough a = absurd a
-mus_ends options F TooLarge written said enough a = absurd a
-mus_ends options F Failing written said enough a = absurd a
-mus_ends options F Memory written said enough a = absurd a
+mus_ends : {options : Options} {F : Cnf} {s : Status} {written said : List ℕ} → IsEnoughToRefute options.conflicts F → mus.Answers options F written said s → IsTrue (among (0 ∷ 10 ∷ []) (code s))
+mus_ends enough (mus.extracted w silent) = refl
+mus_ends enough (mus.satisfied w silent) = refl
+mus_ends {options = options} {F = F} enough (mus.stopped w line) = absurd (not_enough options.conflicts F w.few w.filled enough)
 
-keeps : Decides ReduceGeneral general.IsEnoughToReduce (0 ∷ [])
+keeps : EndsAmong ReduceGeneral general.IsEnoughToReduce (0 ∷ [])
 keeps formula options status F r other spells enough =
     let a = replied ReduceGeneral (formula ∷ []) options status r other (F, spells, tt) in
-    let same : a.2.values.0 ≡ F = fault_law.one formula.text a.2.values.0 F a.2.read.0 spells in
-    let done = a.2.answers.enough (subst (general.IsEnoughToReduce (options_by options).conflicts) (sym same) enough) in
+    let same : a.4.values.0 ≡ F = fault_law.one formula.text a.4.values.0 F a.4.read.0 spells in
+    let done = general_status (general.is_enough (subst (general.IsEnoughToReduce (options_by options).conflicts) (sym same) enough)) a.4.answers in
     subst (λ (n : ℕ). IsTrue (among (0 ∷ []) n)) (sym (a.1 ∙ ap code done)) refl
 
-solves : Decides Solve IsEnoughToRefute (10 ∷ 20 ∷ [])
+solves : EndsAmong Solve IsEnoughToRefute (10 ∷ 20 ∷ [])
 solves formula options status F r other spells enough =
     let a = replied Solve (formula ∷ []) options status r other (F, spells, tt) in
-    let same : a.2.values.0 ≡ F = fault_law.one formula.text a.2.values.0 F a.2.read.0 spells in
+    let same : a.4.values.0 ≡ F = fault_law.one formula.text a.4.values.0 F a.4.read.0 spells in
     subst (λ (n : ℕ). IsTrue (among (10 ∷ 20 ∷ []) n)) (sym a.1)
-    (solve_ends (options_by options) a.2.values.0 a.0 r.written a.2.said (subst (IsEnoughToRefute (options_by options).conflicts) (sym same) enough) a.2.answers)
+    (solve_ends (subst (IsEnoughToRefute (options_by options).conflicts) (sym same) enough) a.4.answers)
 
-extracts : Decides Mus IsEnoughToRefute (0 ∷ 10 ∷ [])
+extracts : EndsAmong Mus IsEnoughToRefute (0 ∷ 10 ∷ [])
 extracts formula options status F r other spells enough =
     let a = replied Mus (formula ∷ []) options status r other (F, spells, tt) in
-    let same : a.2.values.0 ≡ F = fault_law.one formula.text a.2.values.0 F a.2.read.0 spells in
+    let same : a.4.values.0 ≡ F = fault_law.one formula.text a.4.values.0 F a.4.read.0 spells in
     subst (λ (n : ℕ). IsTrue (among (0 ∷ 10 ∷ []) n)) (sym a.1)
-    (mus_ends (options_by options) a.2.values.0 a.0 r.written a.2.said (subst (IsEnoughToRefute (options_by options).conflicts) (sym same) enough) a.2.answers)
+    (mus_ends (subst (IsEnoughToRefute (options_by options).conflicts) (sym same) enough) a.4.answers)
+
+-- PROTECTED VARIABLES
+
+protects : (protect : Option (List ℕ)) (class : Class) (F : Cnf) (text : List ℕ) (r : IsReduced protect class F text) (more : List (List ℤ)) → AreOver (protected_by protect) F.vars more
+    → HasModel (with_clauses (clauses_at F r.kept) more) ↔ HasModel (with_clauses F more)
+protects protect class F text r more over = same_models (protected_by protect) class F r.kept (assignment_of r.set) more r.reduces over
+
+carries : (F : Cnf) (document model written : List ℕ) (e : IsExtended F document model written) (more : List (List ℤ)) → AreOver (protected_by e.protect) F.vars more
+    → (let K = with_clauses (clauses_at F e.kept) more in IsModel K (all_of K) (assignment_of e.given)) → (let G = with_clauses F more in IsModel G (all_of G) (assignment_of e.literals))
+carries F document model written e more over satisfied =
+    subst (λ (φ : Assignment). IsModel (with_clauses F more) (all_of (with_clauses F more)) φ) (sym e.values)
+    (carried (protected_by e.protect) F (clauses_at F e.kept) (assignment_of e.set) (assignment_of e.given) more e.protected (subst (IsModel F (all_of F)) e.values e.are_model.model) over satisfied)
 
 -- AGREEMENT
 
@@ -638,28 +387,28 @@ accepts class formula document options status said run well =
 solve_verified : (formula : Input) (options : List Word) (found : ℕ) (text : List ℕ) → (found ≡ 0) ⊎ (found ≡ 10) ⊎ (found ≡ 20) → Ran (codes "solve" ∷ formula.name ∷ options) (formula ∷ []) found text → IsVerifiedFor formula.text text
 solve_verified formula options found text (inl e) run =
     let r = gives Solve (formula ∷ []) options 0 text refl refl (subst (λ (n : ℕ). Ran (codes "solve" ∷ formula.name ∷ options) (formula ∷ []) n text) e run) (λ four. omega (arith, four)) refl in
-    absurd r.answers
+    elim r.answers [ ]
 solve_verified formula options found text (inr (inl e)) run =
     let r = gives Solve (formula ∷ []) options 10 text refl refl (subst (λ (n : ℕ). Ran (codes "solve" ∷ formula.name ∷ options) (formula ∷ []) n text) e run) (λ four. omega (arith, four)) refl in
-    let w = r.answers.0 in
+    let w = (solve_end.model_of r.answers).0 in
     verified_for formula.text text r.values.0 (Model w.literals) r.read.0 w.writes
 solve_verified formula options found text (inr (inr e)) run =
     let r = gives Solve (formula ∷ []) options 20 text refl refl (subst (λ (n : ℕ). Ran (codes "solve" ∷ formula.name ∷ options) (formula ∷ []) n text) e run) (λ four. omega (arith, four)) refl in
-    let w = r.answers.0 in
+    let w = (solve_end.refutation_of r.answers).0 in
     verified_for formula.text text r.values.0 (Refuted w.round) r.read.0 w.writes
 
 mus_verified : (formula : Input) (options : List Word) (found : ℕ) (text : List ℕ) → (found ≡ 0) ⊎ (found ≡ 10) ⊎ (found ≡ 20) → Ran (codes "mus" ∷ formula.name ∷ options) (formula ∷ []) found text → IsVerifiedFor formula.text text
 mus_verified formula options found text (inl e) run =
     let r = gives Mus (formula ∷ []) options 0 text refl refl (subst (λ (n : ℕ). Ran (codes "mus" ∷ formula.name ∷ options) (formula ∷ []) n text) e run) (λ four. omega (arith, four)) refl in
-    let w = r.answers.0 in
+    let w = (mus_end.core_of r.answers).0 in
     verified_for formula.text text r.values.0 (Core w.core) r.read.0 w.writes
 mus_verified formula options found text (inr (inl e)) run =
     let r = gives Mus (formula ∷ []) options 10 text refl refl (subst (λ (n : ℕ). Ran (codes "mus" ∷ formula.name ∷ options) (formula ∷ []) n text) e run) (λ four. omega (arith, four)) refl in
-    let w = r.answers.0 in
+    let w = (mus_end.model_of r.answers).0 in
     verified_for formula.text text r.values.0 (Model w.literals) r.read.0 w.writes
 mus_verified formula options found text (inr (inr e)) run =
     let r = gives Mus (formula ∷ []) options 20 text refl refl (subst (λ (n : ℕ). Ran (codes "mus" ∷ formula.name ∷ options) (formula ∷ []) n text) e run) (λ four. omega (arith, four)) refl in
-    absurd r.answers
+    elim r.answers [ ]
 
 verifies : (solver : Word) (formula answer : Input) (options : List Word) (found status : ℕ) (said : List ℕ) → (solver ≡ codes "solve") ⊎ (solver ≡ codes "mus") → (found ≡ 0) ⊎ (found ≡ 10) ⊎ (found ≡ 20)
     → Ran (solver ∷ formula.name ∷ options) (formula ∷ []) found answer.text → RanWell (codes "verify" ∷ formula.name ∷ answer.name ∷ []) (formula ∷ answer ∷ []) status said → status ≡ 0
@@ -687,6 +436,8 @@ headline = record {
   verify = verify_0;
   deficiency = deficiency;
   edits = edits;
+  protects = protects;
+  carries = carries;
   accepts = accepts;
   verifies = verifies;
   obeys = obeys;

@@ -1,18 +1,7 @@
 pub mod EndingLaws
 pub mod Agreement
-pub mod Outcomes
-pub mod StopOutcomes
-pub mod ExtendOutcomes
-pub mod LinearOutcomes
-pub mod GeneralOutcomes
-pub mod DemoOutcomes
-pub mod ModelOrNone
-pub mod SolveOutcomes
-pub mod VerifyOutcomes
-pub mod DeficiencyOutcomes
-pub mod EditsOutcomes
-pub mod MusOutcomes
-pub mod QuietEndings
+pub mod Tellings
+pub mod Runs
 pub mod KeptClauses
 pub mod WrittenChecks
 pub mod WrittenAnswers
@@ -20,4 +9,6 @@ pub mod WrittenCores
 pub mod Names
 pub mod Writes
 pub mod Performing
+pub mod Protecting
 pub mod Headline
+pub mod StatusClaim

@@ -20,11 +20,7 @@ pub formula_stops : (told : Told) (name : Word) (ailing : Bool) (current : Optio
 formula_stops told name ailing current stop.Read h at = inl (h, at refl)
 formula_stops told name ailing current stop.Memory h at = tt
 formula_stops told name ailing current (stop.Formula r) h at = inl h
-formula_stops told name ailing current (stop.Words i) h at = absurd h
-formula_stops told name ailing current (stop.Document line) h at = absurd h
-formula_stops told name ailing current (stop.Model line) h at = absurd h
-formula_stops told name ailing current (stop.Answer line) h at = absurd h
-formula_stops told name ailing current (stop.Edits line fault) h at = absurd h
+formula_stops told name ailing current s h at = absurd h
 
 -- an input is bad, or a call failed
 pub stopped : (request : Request) (shelf : Shelved) (s : Stop) → StopsOn shelf.told nothing_known (inputs_of request.command) request.names shelf.ailing shelf.current s

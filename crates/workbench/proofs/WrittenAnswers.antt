@@ -20,13 +20,12 @@ use Rattle.status_lines.specs.Verdicts.{verdict_status}
 use Rattle.command_endings.specs.Commands.Solve.{WritesAnswer}
 use Rattle.command_endings.specs.Commands.Verify.{verdict_by}
 use Rattle.workbench.specs.Endings.{Shelved, Sunk, Takes, IsDecided}
-use Rattle.workbench.specs.SolveOutcomes.{IsSatisfiedText, IsRefutedText, IsUndecidedText}
-use Rattle.workbench.specs.WrittenAnswers.{IsVerifiedFor, SolvedIsVerified, AsksVerify, WrittenVerifiesAsAccepted, UnsolvedChecksAsUnfinished}
+use Rattle.workbench.specs.WrittenAnswers.{IsSatisfiedText, IsRefutedText, IsUndecidedText, IsVerifiedFor, SolvedIsVerified, AsksVerify, WrittenVerifiesAsAccepted, UnsolvedChecksAsUnfinished}
 use Rattle.workbench.specs.WrittenChecks.{HasWrittenBy, ChecksAs}
 use Rattle.workbench.proofs.Agreement.{unfinished_for}
-use Rattle.workbench.proofs.Outcomes.{result_of}
-use Rattle.workbench.proofs.SolveOutcomes.{solve_outcomes}
-use Rattle.workbench.proofs.WrittenChecks.{whole, decided_by, checks_as}
+use Rattle.workbench.proofs.Runs.{ends_with, wrote}
+use Rattle.command_endings.proofs.SolveEndings.{model_of, refutation_of, stop_of}
+use Rattle.workbench.proofs.WrittenChecks.{decided_by, checks_as}
 
 -- OF THE TEXTS
 
@@ -43,19 +42,13 @@ solved_verified = record {
 -- WHAT STANDS ON `out`
 
 has_solved : (options : Options) (text written : List ℕ) → HasWrittenBy Solve options text 10 written → IsSatisfiedText text written
-has_solved options text written h =
-    let d = (solve_outcomes h.words h.shelf h.out h.say h.name options h.asks).satisfiable h.ends in
-    whole (λ bytes t. IsSatisfiedText bytes t) (h.shelf.told h.name) h.out.before h.out.after text written d.0 h.text_is h.empty h.written_is d.1 d.2.taken
+has_solved options text written h = let a = wrote Solve options text 10 written h refl in record { formula = a.values.0; spells = a.read.0; writes = (model_of a.answers).0 }
 
 has_refuted : (options : Options) (text written : List ℕ) → HasWrittenBy Solve options text 20 written → IsRefutedText text options written
-has_refuted options text written h =
-    let d = (solve_outcomes h.words h.shelf h.out h.say h.name options h.asks).unsatisfiable h.ends in
-    whole (λ bytes t. IsRefutedText bytes options t) (h.shelf.told h.name) h.out.before h.out.after text written d.0 h.text_is h.empty h.written_is d.1 d.2.taken
+has_refuted options text written h = let a = wrote Solve options text 20 written h refl in record { formula = a.values.0; spells = a.read.0; writes = (refutation_of a.answers).0 }
 
 has_stopped : (options : Options) (text written : List ℕ) → HasWrittenBy Solve options text 5 written → IsUndecidedText text options written
-has_stopped options text written h =
-    let d = (solve_outcomes h.words h.shelf h.out h.say h.name options h.asks).budget h.ends in
-    whole (λ bytes t. IsUndecidedText bytes options t) (h.shelf.told h.name) h.out.before h.out.after text written d.0 h.text_is h.empty h.written_is d.1 d.2.taken
+has_stopped options text written h = let a = wrote Solve options text 5 written h refl in record { formula = a.values.0; spells = a.read.0; writes = (stop_of a.answers).0 }
 
 written_verified : (options : Options) (text : List ℕ) (answer : ℕ) (written : List ℕ) → (answer ≡ 10) ⊎ (answer ≡ 20) → HasWrittenBy Solve options text answer written → IsVerifiedFor text written
 written_verified options text answer written (inl e) h = solved_verified.model text written (has_solved options text written (subst (λ (n : ℕ). HasWrittenBy Solve options text n written) e h))
@@ -77,7 +70,7 @@ verifies_as text written v words shelf out say a = record {
         decides = sym (ap (λ (o : Option Why). verdict_status (verdict_by o)) v.passes);
       }));
   writes = λ e.
-      let r = result_of words shelf out say _ 0 e a.asks refl in
+      let r = ends_with words shelf out say _ 0 e a.asks refl in
       let spells = subst (λ (o : Option (List ℕ)). IfSome o (λ bytes. Spells bytes r.values.0)) a.text_is r.read.0 in
       let formula : r.values.0 ≡ v.F = fault_law.one text r.values.0 v.F spells v.spells in
       let read = subst (λ (F : Cnf). IsAnswerText F.vars (length F.clauses) written r.values.1.0) formula

@@ -1,13 +1,12 @@
 -- What `check` comes to on what `reduce` wrote.
-use Rattle.std.proofs.Common.{◌≡◌, ◌∙◌, ℕ, List, [], Option, Some, refl, sym, ap, subst}
+use Rattle.std.proofs.Common.{◌≡◌, ◌∙◌, ℕ, List, Option, refl, sym, ap, subst}
 use Rattle.std.specs.Prelude.{IfSome, IsSome, IsTrue}
-use Rattle.std.specs.Io.KnownBytes.{Appends}
 use Rattle.lk_model.specs.Formulas.Formula.{Cnf}
 use Rattle.lk_model.specs.Texts.Dimacs.{Spells}
 use Rattle.lk_model.specs.Texts.Lines.{Word}
 use Rattle.lk_model.specs.Texts.PlainText.{line}
 use Rattle.lk_model.specs.Documents.Reading.{IsTextOfDocument}
-use Rattle.lk_model.specs.Reduction.{ReducesTo}
+use Rattle.lk_model.specs.Reduction.{ReducesTo, StopsUnfinished}
 use Rattle.lk_model.specs.declared.class.Class.{Class}
 use Rattle.lk_model.specs.declared.class.Class.TheVariants.{Pure, Matching, Linear, General}
 use Rattle.lk_model.specs.declared.document.Document.{Document}
@@ -18,47 +17,31 @@ use Rattle.lean_checker.specs.declared.verdict.Verdict.TheVariants as verdict
 use Rattle.cert_text.proofs.ReadLaws.{of_one_document}
 use Rattle.status_lines.specs.Verdicts.{verdict_status}
 use Rattle.workbench.specs.Endings.{Shelved, Sunk, Takes, HasValues, IsDecidedFor, IsDecided}
-use Rattle.workbench.specs.GeneralOutcomes.{ReducesWithin, StopsShort}
 use Rattle.command_inputs.specs.Inputs.{Told}
 use Rattle.command_words.specs.Lawful.{Request}
 use Rattle.command_words.specs.Settings.{Options}
 use Rattle.status_lines.specs.Statuses.{code, is_result}
 use Rattle.workbench.specs.WrittenChecks.{HasWritten, AsksCheck, ChecksAs, WrittenChecksAsAccepted, StoppedChecksAsUnfinished}
 use Rattle.workbench.proofs.Agreement.{written_accepted, stopped_unfinished}
-use Rattle.workbench.proofs.GeneralOutcomes.{general_outcomes, within_reduces, short_stops}
-use Rattle.workbench.proofs.LinearOutcomes.{linear_outcomes}
-use Rattle.workbench.proofs.Outcomes.{numbered, result_of, pure_outcomes, matching_outcomes}
+use Rattle.workbench.proofs.Runs.{numbered, ends_with, wrote}
+use Rattle.command_endings.proofs.GeneralEndings.{kernel_of, stop_of}
+use Rattle.command_words.specs.declared.command.Command.TheVariants.{ReducePure, ReduceMatching, ReduceLinear, ReduceGeneral}
 
 -- WHAT STANDS ON `out`
 
--- what is known of a visible text and of what was appended to nothing
-pub whole : (P : List ℕ → List ℕ → Type 0) (told before after : Option (List ℕ)) (text written appended : List ℕ) → told ≡ Some text → before ≡ Some [] → after ≡ Some written → IfSome told (λ bytes. P bytes appended) → Appends before after appended → P text written
-whole P told before after text written appended is empty all h taken =
-    let known : P text appended = subst (λ (o : Option (List ℕ)). IfSome o (λ bytes. P bytes appended)) is h in
-    let same : written ≡ appended = subst (λ (o : Option (List ℕ)). Appends (Some []) o appended) all (subst (λ (o : Option (List ℕ)). Appends o after appended) empty taken) in
-    subst (P text) (sym same) known
-
 -- with status 0 it is a reduction of the text
 has_reduced : (class : Class) (options : Options) (text written : List ℕ) → HasWritten class options text 0 written → ReducesTo text class options.protect options.pivots written
-has_reduced Pure options text written h =
-    let d = (pure_outcomes h.words h.shelf h.out h.say h.name options h.asks).done h.ends in
-    whole (λ bytes t. ReducesTo bytes Pure options.protect options.pivots t) (h.shelf.told h.name) h.out.before h.out.after text written d.0 h.text_is h.empty h.written_is d.1 d.2.taken
-has_reduced Matching options text written h =
-    let d = (matching_outcomes h.words h.shelf h.out h.say h.name options h.asks).done h.ends in
-    whole (λ bytes t. ReducesTo bytes Matching options.protect options.pivots t) (h.shelf.told h.name) h.out.before h.out.after text written d.0 h.text_is h.empty h.written_is d.1 d.2.taken
-has_reduced Linear options text written h =
-    let d = (linear_outcomes h.words h.shelf h.out h.say h.name options h.asks).done h.ends in
-    whole (λ bytes t. ReducesTo bytes Linear options.protect options.pivots t) (h.shelf.told h.name) h.out.before h.out.after text written d.0 h.text_is h.empty h.written_is d.1 d.2.taken
-has_reduced General options text written h =
-    let d = (general_outcomes h.words h.shelf h.out h.say h.name options h.asks).done h.ends in
-    within_reduces text options written
-    (whole (λ bytes t. ReducesWithin bytes options t) (h.shelf.told h.name) h.out.before h.out.after text written d.0 h.text_is h.empty h.written_is d.1 d.2.taken)
+has_reduced Pure options text written h = let a = wrote ReducePure options text 0 written h refl in record { formula = a.values.0; spells = a.read.0; writes = a.answers.writes }
+has_reduced Matching options text written h = let a = wrote ReduceMatching options text 0 written h refl in record { formula = a.values.0; spells = a.read.0; writes = a.answers.writes }
+has_reduced Linear options text written h = let a = wrote ReduceLinear options text 0 written h refl in record { formula = a.values.0; spells = a.read.0; writes = a.answers.writes }
+has_reduced General options text written h = let a = wrote ReduceGeneral options text 0 written h refl in record { formula = a.values.0; spells = a.read.0; writes = (kernel_of a.answers).0.reduction }
 
 -- with 5, of general, it is an unfinished document
-has_stopped : (options : Options) (text written : List ℕ) → HasWritten General options text 5 written → StopsShort text options written
+has_stopped : (options : Options) (text written : List ℕ) → HasWritten General options text 5 written → StopsUnfinished text options.protect options.conflicts written
 has_stopped options text written h =
-    let d = (general_outcomes h.words h.shelf h.out h.say h.name options h.asks).budget h.ends in
-    whole (λ bytes t. StopsShort bytes options t) (h.shelf.told h.name) h.out.before h.out.after text written d.0 h.text_is h.empty h.written_is d.1 d.2.taken
+    let a = wrote ReduceGeneral options text 5 written h refl in
+    let w = (stop_of a.answers).0 in
+    record { formula = a.values.0; spells = a.read.0; unfinished = w.unfinished; part = w.part; is_part = w.is_part; names = w.names }
 
 -- WHAT THE CHECK COMES TO
 
@@ -86,7 +69,7 @@ checks_as text written F d v spells is known words shelf out say a = record {
         decides = ap verdict_status (sym known);
       }));
   writes = λ e.
-      let r = result_of words shelf out say _ (code (verdict_status v)) e a.asks (told_by v) in
+      let r = ends_with words shelf out say _ (code (verdict_status v)) e a.asks (told_by v) in
       let formula : r.values.0 ≡ F = fault_law.one text r.values.0 F (subst (λ (o : Option (List ℕ)). IfSome o (λ bytes. Spells bytes r.values.0)) a.text_is r.read.0) spells in
       let document : r.values.1.0 ≡ d = of_one_document written r.values.1.0 d (subst (λ (o : Option (List ℕ)). IfSome o (λ bytes. IsTextOfDocument bytes r.values.1.0)) a.written_is r.read.1.0) is in
       let same : verdict_of r.values.0 r.values.1.0 ≡ v = (λ i. verdict_of (formula i) (document i)) ∙ known in
@@ -100,5 +83,5 @@ written_checks class options text written h words shelf out say a =
 
 pub stopped_checks : StoppedChecksAsUnfinished
 stopped_checks options text written h words shelf out say a =
-    let w = stopped_unfinished text written options.protect options.conflicts (short_stops text options written (has_stopped options text written h)) in
+    let w = stopped_unfinished text written options.protect options.conflicts (has_stopped options text written h) in
     checks_as text written w.F w.d (verdict.Unfinished options.conflicts) w.spells w.read w.unfinished words shelf out say a

@@ -1,5 +1,5 @@
 -- What `verify` and `check` come to on what `mus` wrote.
-use Rattle.std.proofs.Common.{◌≡◌, ℕ, ◌≤◌, ◌^◌, true, List, length, None, sym, ap, subst, ◌⊎◌, inl, inr, arith}
+use Rattle.std.proofs.Common.{◌≡◌, ℕ, ◌≤◌, ◌^◌, true, List, length, None, refl, sym, ap, subst, ◌⊎◌, inl, inr, arith}
 use Rattle.lk_model.specs.Limits.{max_bytes}
 use Rattle.lk_model.specs.Formulas.Formula.{clauses_at}
 use Rattle.lk_model.specs.Texts.Dimacs.{Spells}
@@ -14,21 +14,20 @@ use Rattle.lk_model.specs.declared.answer.Answer.TheVariants.{Core}
 use Rattle.answer_check.proofs.AnswerLaws.{answer_law}
 use Rattle.command_words.specs.Settings.{Options}
 use Rattle.command_words.specs.declared.command.Command.TheVariants.{Mus}
-use Rattle.workbench.specs.MusOutcomes.{IsExtracted, IsUnextracted}
-use Rattle.workbench.specs.SolveOutcomes.{IsSatisfiedText}
-use Rattle.workbench.specs.WrittenAnswers.{IsVerifiedFor}
+use Rattle.workbench.specs.WrittenAnswers.{IsSatisfiedText, IsVerifiedFor}
 use Rattle.workbench.specs.WrittenChecks.{HasWrittenBy}
-use Rattle.workbench.specs.WrittenCores.{ExtractedIsVerified, ExtractedVerifiesAsAccepted, UnextractedChecksAsUnfinished}
+use Rattle.workbench.specs.WrittenCores.{IsExtracted, IsUnextracted, ExtractedIsVerified, ExtractedVerifiesAsAccepted, UnextractedChecksAsUnfinished}
 use Rattle.workbench.proofs.Agreement.{unfinished_for}
-use Rattle.workbench.proofs.MusOutcomes.{mus_outcomes}
+use Rattle.workbench.proofs.Runs.{wrote}
+use Rattle.command_endings.proofs.MusEndings.{core_of, model_of, stop_of}
 use Rattle.workbench.proofs.WrittenAnswers.{solved_verified, verified_for, verifies_as}
-use Rattle.workbench.proofs.WrittenChecks.{whole, checks_as}
+use Rattle.workbench.proofs.WrittenChecks.{checks_as}
 
 -- OF THE TEXTS
 
 -- the clauses of a core are the formula's at its positions, and the text spells them
-pub core_spells : (text written : List ℕ) → (e : IsExtracted text written) → length written ≤ max_bytes → Spells written (clauses_at e.formula e.writes.core.core)
-core_spells text written e short =
+pub core_spells : (text : List ℕ) (options : Options) (written : List ℕ) → (e : IsExtracted text options written) → length written ≤ max_bytes → Spells written (clauses_at e.formula e.writes.core.core)
+core_spells text options written e short =
     let w = e.writes.writes in
     let core = e.writes.core in
     let form : is_core_in_form core ≡ true = (and_true _ (is_core_in_form core) w.form).1 in
@@ -47,7 +46,7 @@ open_spells text options written u short =
 
 pub extracted_verified : ExtractedIsVerified
 extracted_verified = record {
-  core = λ text written e. verified_for text written e.formula _ e.spells e.writes.writes;
+  core = λ text options written e. verified_for text written e.formula _ e.spells e.writes.writes;
   spells = core_spells;
   unfinished = λ text options written u short.
       unfinished_for written written (clauses_at u.formula u.writes.part) None options.conflicts (open_spells text options written u short) u.writes.unfinished;
@@ -55,23 +54,17 @@ extracted_verified = record {
 
 -- WHAT STANDS ON `out`
 
-has_extracted : (options : Options) (text written : List ℕ) → HasWrittenBy Mus options text 0 written → IsExtracted text written
-has_extracted options text written h =
-    let d = (mus_outcomes h.words h.shelf h.out h.say h.name options h.asks).done h.ends in
-    whole (λ bytes t. IsExtracted bytes t) (h.shelf.told h.name) h.out.before h.out.after text written d.0 h.text_is h.empty h.written_is d.1 d.2.taken
+has_extracted : (options : Options) (text written : List ℕ) → HasWrittenBy Mus options text 0 written → IsExtracted text options written
+has_extracted options text written h = let a = wrote Mus options text 0 written h refl in record { formula = a.values.0; spells = a.read.0; writes = (core_of a.answers).0 }
 
 has_solved : (options : Options) (text written : List ℕ) → HasWrittenBy Mus options text 10 written → IsSatisfiedText text written
-has_solved options text written h =
-    let d = (mus_outcomes h.words h.shelf h.out h.say h.name options h.asks).satisfiable h.ends in
-    whole (λ bytes t. IsSatisfiedText bytes t) (h.shelf.told h.name) h.out.before h.out.after text written d.0 h.text_is h.empty h.written_is d.1 d.2.taken
+has_solved options text written h = let a = wrote Mus options text 10 written h refl in record { formula = a.values.0; spells = a.read.0; writes = (model_of a.answers).0 }
 
 has_stopped : (options : Options) (text written : List ℕ) → HasWrittenBy Mus options text 5 written → IsUnextracted text options written
-has_stopped options text written h =
-    let d = (mus_outcomes h.words h.shelf h.out h.say h.name options h.asks).budget h.ends in
-    whole (λ bytes t. IsUnextracted bytes options t) (h.shelf.told h.name) h.out.before h.out.after text written d.0 h.text_is h.empty h.written_is d.1 d.2.taken
+has_stopped options text written h = let a = wrote Mus options text 5 written h refl in record { formula = a.values.0; spells = a.read.0; writes = (stop_of a.answers).0 }
 
 written_verified : (options : Options) (text : List ℕ) (answer : ℕ) (written : List ℕ) → (answer ≡ 0) ⊎ (answer ≡ 10) → HasWrittenBy Mus options text answer written → IsVerifiedFor text written
-written_verified options text answer written (inl e) h = extracted_verified.core text written (has_extracted options text written (subst (λ (n : ℕ). HasWrittenBy Mus options text n written) e h))
+written_verified options text answer written (inl e) h = extracted_verified.core text options written (has_extracted options text written (subst (λ (n : ℕ). HasWrittenBy Mus options text n written) e h))
 written_verified options text answer written (inr e) h = solved_verified.model text written (has_solved options text written (subst (λ (n : ℕ). HasWrittenBy Mus options text n written) e h))
 
 -- WHAT IT COMES TO

@@ -12,9 +12,8 @@ use Rattle.command_words.specs.Settings.{Options}
 use Rattle.command_words.specs.declared.command.Command.TheVariants.{Solve, Verify}
 use Rattle.workbench.specs.Agreement.{IsUnfinishedFor}
 use Rattle.workbench.specs.Endings.{Shelved, Sunk}
-use Rattle.workbench.specs.Outcomes.{AskFor}
-use Rattle.workbench.specs.SolveOutcomes.{IsSatisfiedText, IsRefutedText, IsUndecidedText}
-use Rattle.workbench.specs.WrittenChecks.{HasWrittenBy, AsksCheck, ChecksAs}
+use Rattle.workbench.specs.WrittenChecks.{AskFor, HasWrittenBy, AsksCheck, ChecksAs}
+use Rattle.command_endings.specs.Commands.Solve.{WritesModel, WritesRefutation, WritesUnfinishedSearch}
 
 -- OF THE TEXTS
 
@@ -25,6 +24,23 @@ pub record IsVerifiedFor (text written : List ℕ) : Type 0 where
   pub spells : Spells text F
   pub read : IsAnswerText F.vars (length F.clauses) written a
   pub passes : first_failure_of_answer F a ≡ None
+
+-- The text spells a formula, and what is written is a model of it; or a refutation of it; or an unfinished document of it with
+-- as many learned clauses as were allowed.
+pub record IsSatisfiedText (text written : List ℕ) : Type 0 where
+  pub formula : Cnf
+  pub spells : Spells text formula
+  pub writes : WritesModel formula written
+
+pub record IsRefutedText (text : List ℕ) (options : Options) (written : List ℕ) : Type 0 where
+  pub formula : Cnf
+  pub spells : Spells text formula
+  pub writes : WritesRefutation options formula written
+
+pub record IsUndecidedText (text : List ℕ) (options : Options) (written : List ℕ) : Type 0 where
+  pub formula : Cnf
+  pub spells : Spells text formula
+  pub writes : WritesUnfinishedSearch options formula written
 
 -- so it is of a model that is written, and of a refutation; and of what is written where the budget is used up no check fails
 pub record SolvedIsVerified : Type 0 where

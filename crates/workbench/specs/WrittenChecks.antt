@@ -11,11 +11,14 @@ use Rattle.status_lines.specs.Verdicts.{verdict_status}
 use Rattle.workbench.specs.Endings.{Shelved, Sunk, Takes, Ends, IsDecided}
 use Rattle.command_inputs.specs.Inputs.{Told}
 use Rattle.command_words.specs.Lawful.{request_of}
-use Rattle.workbench.specs.Outcomes.{AskFor}
 use Rattle.command_words.specs.Settings.{Options}
 use Rattle.status_lines.specs.Statuses.{code}
 use Rattle.command_words.specs.declared.command.Command.{Command}
 use Rattle.command_words.specs.declared.command.Command.TheVariants.{ReducePure, ReduceMatching, ReduceLinear, ReduceGeneral, Check}
+
+-- the words ask for the command over these inputs, with these options
+abbrev pub AskFor : List Word → Command → List Word → Options → Type 0
+AskFor words command names options = request_of words ≡ Some (record { command = command; names = names; options = options })
 
 -- the command that reduces for a class
 abbrev pub reducing : Class → Command

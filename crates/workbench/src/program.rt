@@ -23,9 +23,10 @@ use status_lines::{Ending, Status, code_of_failure, ending_of};
 use std::alloc::Global;
 use std::thread::Threads;
 
-/// Does what the command line asks for, and answers the status. `headline_law` (`specs/Headline.antt`) says what that
-/// means if the inputs are visible and `out` is empty, the laws beside it the rest. If an input is not visible, what is
-/// said of 0, 5, 6, 7, 8, 10 and 20 is true of some formula, document, model, answer or edits; of 2 nothing is said.
+/// Does what the command line asks for, and answers the status. `headline_law` (`specs/Headline.antt`,
+/// `specs/StatusClaim.antt`) says what that means if the inputs are visible and the sinks are empty. If an input is not
+/// visible, what is said of 0, 5, 6, 7, 8, 10 and 20 is true of some formula, document, model, answer or edits; of 2
+/// nothing is said.
 /// - 0, 10, 20: `out` has the result, a model, a refutation; `check` and `verify` accept the input. `say` has nothing.
 /// - 1, 2: the command line is not valid, or an input is outside its grammar. `say` has the first fault.
 /// - 3, 4, 9: a call failed on the shelf, or on `out` or `say`, whose count of faults rose; memory ran out.

@@ -7,8 +7,6 @@ use Rattle.lk_model.specs.Texts.PlainText.{line, ended, number_words}
 use Rattle.lk_model.specs.declared.class.Class.TheVariants.{Matching}
 use Rattle.lk_model.specs.declared.document.Own.{Own}
 use Rattle.deficiency.specs.Deficiency.{IsMaxDeficiency, HasDeficiency, AreOwners}
-use Rattle.status_lines.specs.declared.status.Status.{Status}
-use Rattle.status_lines.specs.declared.status.Status.TheVariants.{Done}
 
 -- WHAT IS WRITTEN
 
@@ -34,13 +32,3 @@ pub record WritesDeficiency (F : Cnf) (written : List ℕ) : Type 0 where
   pub owners : AreOwners F own
   pub all_but : length own + value ≡ length F.clauses
   pub written_is : written ≡ flat_map line (lines_of value kept own)
-
--- It writes the maximal deficiency, with what shows it.
-pub record Answers (F : Cnf) (status : Status) (written said : List ℕ) : Type 0 where
-  pub status_is : status ≡ Done
-  pub writes : WritesDeficiency F written
-  pub silent : said ≡ []
-
--- so it does for each formula
-abbrev pub Decides : Cnf → Status → Type 0
-Decides F status = status ≡ Done

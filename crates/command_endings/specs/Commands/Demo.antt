@@ -5,7 +5,6 @@ use Rattle.lk_model.specs.Formulas.Crossed.{no_variable}
 use Rattle.lk_model.specs.Chains.Rounds.{AreNeeded}
 use Rattle.lk_model.specs.Texts.PlainText.{line}
 use Rattle.lk_model.specs.Documents.Documents.{class_of, rounds_in}
-use Rattle.lk_model.specs.Reduction.{IsUnfinishedText}
 use Rattle.lk_model.specs.declared.class.Class.TheVariants.{Matching, General}
 use Rattle.lk_model.specs.declared.document.Document.TheVariants.{Done as Finished}
 use Rattle.lk_model.specs.declared.document.DoneDocument.{DoneDocument}
@@ -14,6 +13,7 @@ use Rattle.lean_checker.specs.declared.verdict.Verdict.TheVariants.{Accepted}
 use Rattle.demo_formula.specs.Demo.{demo_formula}
 use Rattle.lk_model.specs.Chains.Budgets.{AreWithinBudget}
 use Rattle.status_lines.specs.RunLines.{conflicts_line}
+use Rattle.command_endings.specs.Commands.ReduceGeneral.{WritesUnfinishedKernel}
 use Rattle.command_endings.specs.Commands.Report.{IsKernelSize, Row, row, row_line}
 use Rattle.status_lines.specs.declared.status.Status.{Status}
 use Rattle.status_lines.specs.declared.status.Status.TheVariants.{Done, Budget}
@@ -54,11 +54,10 @@ pub record WritesDemo (number : ℕ) (written : List ℕ) : Type 0 where
   pub checked : IsCheckedSize (demo_formula number) general
   pub written_is : written ≡ flat_map row_line (demo_rows number matching general) ++ line (verdict_words Accepted)
 
--- It writes these rows, or the text of an unfinished document of the formula that has learned as many clauses as it may.
-abbrev pub Answers : ℕ → Status → List ℕ → List ℕ → Type 0
-Answers number Done written said = WritesDemo number written × (said ≡ [])
-Answers number Budget written said = IsUnfinishedText (demo_formula number) None conflicts written × (said ≡ conflicts_line conflicts)
-Answers number _ written said = ⊥
+-- It writes these rows, or, where its budget is used up, the unfinished document of the formula's general kernel.
+pub data Answers (number : ℕ) (written said : List ℕ) : Status → Type 0 where
+  finished : WritesDemo number written → said ≡ [] → Answers number written said Done
+  stopped : WritesUnfinishedKernel None conflicts (demo_formula number) written → said ≡ conflicts_line conflicts → Answers number written said Budget
 
 -- nothing decides between these two beforehand
 abbrev pub Decides : Status → Type 0

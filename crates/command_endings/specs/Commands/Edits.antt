@@ -1,13 +1,9 @@
 -- The command `edits`.
 use Rattle.std.specs.Prelude.{◌≡◌, ℕ, List, [], ◌∷◌, ◌++◌, codes, flat_map, ⊤}
-use Rattle.lk_model.specs.Formulas.Formula.{Cnf}
 use Rattle.lk_model.specs.Texts.PlainText.{line, ended, number_words}
-use Rattle.edit_text.specs.LiveClauses.{LiveClauses, live_of}
+use Rattle.edit_text.specs.LiveClauses.{LiveClauses}
 use Rattle.edit_text.specs.Edits.{states}
-use Rattle.edit_text.specs.declared.edit.Edit.{Edit}
 use Rattle.match_edits.specs.LiveKernel.{IsLiveKernel}
-use Rattle.status_lines.specs.declared.status.Status.{Status}
-use Rattle.status_lines.specs.declared.status.Status.TheVariants.{Done}
 
 -- WHAT IS WRITTEN
 
@@ -31,13 +27,3 @@ pub record WritesKernel (s : LiveClauses) (before behind : List ℕ) : Type 0 wh
   pub kept : List ℕ
   pub is : IsLiveKernel s kept
   pub written_is : behind ≡ before ++ keep_line kept
-
--- It writes the matching kernel of the formula, and that of what is live after each edit.
-pub record Answers (F : Cnf) (edits : List Edit) (status : Status) (written said : List ℕ) : Type 0 where
-  pub status_is : status ≡ Done
-  pub writes : WritesKernels (states (live_of F) edits) written
-  pub silent : said ≡ []
-
--- so it does for each formula and all edits of it
-abbrev pub Decides : Cnf → List Edit → Status → Type 0
-Decides F edits status = status ≡ Done

@@ -1,5 +1,5 @@
 -- The command `reduce general`.
-use Rattle.std.specs.Prelude.{◌≡◌, ℕ, ◌*◌, ◌^◌, ◌≤◌, List, [], ◌∷◌, ◌++◌, length, IsTrue}
+use Rattle.std.specs.Prelude.{◌≡◌, ℕ, ◌*◌, ◌^◌, ◌≤◌, ◌<◌, List, [], ◌∷◌, ◌++◌, length, Option, IsTrue}
 use Rattle.std.specs.List.{AllByRecursion}
 use Rattle.lk_model.specs.Formulas.Formula.{Cnf}
 use Rattle.lk_model.specs.Formulas.Crossed.{protected_by}
@@ -36,9 +36,9 @@ pub record WritesFinished (options : Options) (F : Cnf) (written : List ℕ) : T
 -- What is written is the text of a sound unfinished document of the formula, with progress and as many learned clauses as
 -- were allowed, in which the listed variables are protected. Its chains name positions of one part alone, of which the last
 -- round is open (`WantsMore`). The parts before it can be finished with as many learned clauses.
-pub record WritesUnfinishedKernel (options : Options) (F : Cnf) (written : List ℕ) : Type 0 where
-  pub unfinished : IsUnfinishedText F options.protect options.conflicts written
-  pub learned : length (learned_steps unfinished.document.rounds) ≡ options.conflicts
+pub record WritesUnfinishedKernel (listed : Option (List ℕ)) (conflicts : ℕ) (F : Cnf) (written : List ℕ) : Type 0 where
+  pub unfinished : IsUnfinishedText F listed conflicts written
+  pub learned : length (learned_steps unfinished.document.rounds) ≡ conflicts
   pub part : List ℕ
   pub is_part : IsPartUnder (protected_by unfinished.document.protect) F part
   pub names : IsTrue (names_within F part unfinished.document.rounds)
@@ -46,22 +46,16 @@ pub record WritesUnfinishedKernel (options : Options) (F : Cnf) (written : List 
   pub before : List (List ℕ)
   pub after : List (List ℕ)
   pub parts : ArePartsUnder (protected_by unfinished.document.protect) F (before ++ part ∷ after)
-  pub finished : AllByRecursion (CanBeFinished (protected_by unfinished.document.protect) F options.conflicts) before
+  pub finished : AllByRecursion (CanBeFinished (protected_by unfinished.document.protect) F conflicts) before
 
 -- HOW IT ENDS
 
--- the document of a reduction of the formula for the class, in which the listed variables are protected; or an unfinished one
-abbrev pub Writes : Options → Cnf → Status → List ℕ → List ℕ → Type 0
-Writes options F Done written said = WritesFinished options F written × (said ≡ [])
-Writes options F Budget written said = WritesUnfinishedKernel options F written × (said ≡ conflicts_line options.conflicts)
-Writes options F _ written said = ⊥
-
--- It writes either, and a finished one where the budget is enough.
-pub record Answers (options : Options) (F : Cnf) (status : Status) (written said : List ℕ) : Type 0 where
-  pub writes : Writes options F status written said
-  pub enough : IsEnoughToReduce options.conflicts F → status ≡ Done
+-- It writes the document of a reduction of the formula for the class, in which the listed variables are protected; or an
+-- unfinished one, where the budget is not enough.
+pub data Answers (options : Options) (F : Cnf) (written said : List ℕ) : Status → Type 0 where
+  finished : WritesFinished options F written → said ≡ [] → Answers options F written said Done
+  stopped : WritesUnfinishedKernel options.protect options.conflicts F written → options.conflicts < F.vars * 3 ^ F.vars → said ≡ conflicts_line options.conflicts → Answers options F written said Budget
 
 -- done, where the budget is enough
-pub record Decides (options : Options) (F : Cnf) (status : Status) : Type 0 where
-  pub status_is : status ≡ Done
-  pub enough : IsEnoughToReduce options.conflicts F
+pub data Decides (options : Options) (F : Cnf) : Status → Type 0 where
+  is_enough : IsEnoughToReduce options.conflicts F → Decides options F Done

@@ -8,8 +8,6 @@ use Rattle.lk_model.specs.Texts.Lines.{Word}
 use Rattle.lk_model.specs.Texts.PlainText.{line}
 use Rattle.lk_model.specs.declared.class.Class.{Class}
 use Rattle.lk_model.specs.declared.class.Class.TheVariants.{Pure, Matching}
-use Rattle.status_lines.specs.declared.status.Status.{Status}
-use Rattle.status_lines.specs.declared.status.Status.TheVariants.{Done}
 
 -- THE NUMBERS
 
@@ -60,13 +58,3 @@ pub record WritesReport (F : Cnf) (written : List ℕ) : Type 0 where
   pub pure_is : IsKernelSize Pure F pure
   pub matching_is : IsKernelSize Matching F matching
   pub written_is : written ≡ flat_map row_line (report_rows F pure matching)
-
--- It writes the numbers of the formula.
-pub record Answers (F : Cnf) (status : Status) (written said : List ℕ) : Type 0 where
-  pub status_is : status ≡ Done
-  pub writes : WritesReport F written
-  pub silent : said ≡ []
-
--- so it does for each formula
-abbrev pub Decides : Cnf → Status → Type 0
-Decides F status = status ≡ Done

@@ -2,11 +2,12 @@
 use Rattle.std.specs.Prelude.{◌≡◌, ◌⊎◌, ℕ, ◌^◌, ◌≤◌, ◌<◌, List, [], ◌∷◌, length, ℤ, None, is_some, IfSome, IsTrue}
 use Rattle.lk_model.specs.Formulas.Formula.{Cnf, first_empty}
 use Rattle.lk_model.specs.Formulas.Assignment.{assignment_of, IsModel}
-use Rattle.lk_model.specs.Formulas.Lean.{all_of}
+use Rattle.lk_model.specs.Formulas.Lean.{Kernel, all_of}
 use Rattle.lk_model.specs.Formulas.Minimal.{IsSatisfiable, IsUnsatisfiable}
 use Rattle.lk_model.specs.Chains.Rounds.{used_positions, is_trimmed, empty_round}
 use Rattle.lk_model.specs.Checks.RoundChecks.{learned_steps}
 use Rattle.lk_model.specs.Reduction.{IsUnfinishedText}
+use Rattle.lk_model.specs.declared.class.Class.TheVariants.{Matching}
 use Rattle.lk_model.specs.declared.document.Round.{Round}
 use Rattle.kernel_solve.specs.Solutions.{RefutesIn, StopsIn}
 use Rattle.lk_model.specs.Documents.Answers.{is_answer, answer_text}
@@ -79,14 +80,14 @@ pub record WritesUnfinishedSearch (options : Options) (F : Cnf) (written : List 
 -- HOW IT ENDS
 
 -- it writes one of the three
-abbrev pub Answers : Options → Cnf → Status → List ℕ → List ℕ → Type 0
-Answers options F Satisfiable written said = WritesModel F written × (said ≡ [])
-Answers options F Unsatisfiable written said = WritesRefutation options F written × (said ≡ [])
-Answers options F Budget written said = WritesUnfinishedSearch options F written × (said ≡ conflicts_line options.conflicts)
-Answers options F _ written said = ⊥
+pub data Answers (options : Options) (F : Cnf) (written said : List ℕ) : Status → Type 0 where
+  satisfied : WritesModel F written → said ≡ [] → Answers options F written said Satisfiable
+  refuted : WritesRefutation options F written → said ≡ [] → Answers options F written said Unsatisfiable
+  stopped : WritesUnfinishedSearch options F written → said ≡ conflicts_line options.conflicts → Answers options F written said Budget
 
--- Where the budget is enough, that the formula has a model, or that it has none. Where a clause is empty, each budget is enough.
-abbrev pub Decides : Options → Cnf → Status → Type 0
-Decides options F Satisfiable = IsEnoughToDecide options.conflicts F × HasModel F
-Decides options F Unsatisfiable = IsEnoughToRefute options.conflicts F × HasNoModel F
-Decides options F _ = ⊥
+-- Where the budget is enough, that the formula has a model, or that it has none. Each budget is enough where a clause is empty,
+-- or where the matching kernel is.
+pub data Decides (options : Options) (F : Cnf) : Status → Type 0 where
+  has_model : IsEnoughToDecide options.conflicts F → HasModel F → Decides options F Satisfiable
+  no_kernel : Kernel Matching F [] → Decides options F Satisfiable
+  has_none : IsEnoughToRefute options.conflicts F → HasNoModel F → Decides options F Unsatisfiable

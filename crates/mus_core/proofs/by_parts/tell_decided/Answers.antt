@@ -29,4 +29,4 @@ returns-in-Model c =
 pub returns-in-Refuted : goal.returns-in-Refuted
 returns-in-Refuted c =
     let of = c.args.of.now in
-    refuted_whole of c.in-Refuted.refutation c.requires (subst (λ (d : Decided (List ℤ) Refutation Open). IsDecided of c.args.conflicts d) c.in-Refuted.is c.in_ok-set.ensures)
+    refuted_whole of c.args.conflicts c.in-Refuted.refutation c.requires (subst (λ (d : Decided (List ℤ) Refutation Open). IsDecided of c.args.conflicts d) c.in-Refuted.is c.in_ok-set.ensures)

@@ -11,8 +11,8 @@ only-requires c =
     rises_to 0 c.args.of.now.formula.now.vars max_vars c.args.of.now.names.now c.len-2.ensures.limits.vars c.requires.copy.dense.ascend
 
 pub returns : goal.returns
-returns c =
-    refutation_told c.args.of.now c.args.round c.in_ok-only.field-0 c.from.result c.in_ok-places.places c.requires.copy c.requires.refuted
+returns c conflicts h =
+    refutation_told c.args.of.now c.args.round c.in_ok-only.field-0 c.from.result conflicts c.in_ok-places.places c.requires.copy h
     (subst (λ (m : ℕ). rises_within 0 m c.in_ok-places.places ≡ true) c.len.ensures.value c.in_ok-places.ensures.rise)
     (subst (λ (m : ℕ). names_only m c.in_ok-places.places c.args.round ≡ true) c.len.ensures.value c.in_ok-places.ensures.names)
     (c.from.ensures ∙ c.len-2.ensures.value) c.in_ok-only.ensures.numbers c.in_ok-only.ensures.round

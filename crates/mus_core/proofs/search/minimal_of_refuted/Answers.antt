@@ -13,5 +13,5 @@ pub shrink-requires-clause-refuted : goal.shrink-requires-clause-refuted
 shrink-requires-clause-refuted c =
     let first = c.in_ok-first.first in
     let e = c.in_ok-first.ensures in
-    first_refuted _ first.part first.places c.args.round c.requires.refuted e.named c.as_slice.ensures e.places
+    first_refuted _ c.args.conflicts first.part first.places c.args.round c.requires.refuted e.named c.as_slice.ensures e.places
     (ap (λ (ps : List ℕ). length ps) c.as_slice.ensures ∙ part_length c.args.f.now first.clauses first.part first.names.items e.dense)

@@ -7,5 +7,5 @@ pub shrink_by-requires-clause-shrunk : goal.shrink_by-requires-clause-shrunk
 shrink_by-requires-clause-shrunk c =
     let G = c.args.core.now.clauses.now in
     let is = c.in_ok-tables.ensures.witnesses in
-    begins c.args.core.now c.args.refutation c.in_ok-tables.tables.witnesses c.requires.refuted is
+    begins c.args.core.now c.args.conflicts c.args.refutation c.in_ok-tables.tables.witnesses c.requires.refuted is
     (ap (λ (ws : List (Option (List (Option Bool)))). length ws) is ∙ length-replicate (length G.clauses) None)

@@ -11,7 +11,7 @@ told_core-requires-clause-each c =
 
 pub leave_out-requires-clause-next : goal.leave_out-requires-clause-next
 leave_out-requires-clause-next c =
-    next c.args.core.now c.clauses.refutation c.clauses.witnesses c.in-Some.p c.clauses.invariant
+    next c.args.core.now c.args.conflicts c.clauses.refutation c.clauses.witnesses c.in-Some.p c.clauses.invariant
     (ap (find (λ (p : ℕ). not (is_some (witness_at c.clauses.witnesses p)))) (sym c.as_slice.ensures) ∙ sym c.first_open.ensures ∙ c.in-Some.is)
 
 pub clauses-smaller : goal.clauses-smaller
