@@ -11,9 +11,8 @@ document of these. `rows` prints rows for the script of crates/test_commands, by
 `expected` prints their answers. If a round also turned the longer paths that it meets, several parts at once would
 get other pairs than each part alone, for each of these formulas. `compare` draws COUNT formulas, or 1,000, and
 compares what LEANK (`dist/leank`) writes by as many workers with the plain document. It prints each formula for which
-one differs, and how many they are; the status is 1 if there is one. `large` draws formulas of 4,200 clauses or more,
-which are looked at before their parts are searched (COUNT or 40), and compares what LEANK writes by as many workers
-with what it writes by one. Needs python3.
+one differs, and how many they are; the status is 1 if there is one. `large` draws formulas of 4,200 clauses or more
+(COUNT or 40), and compares what LEANK writes by as many workers with what it writes by one. Needs python3.
 """
 import os
 import random

@@ -1,40 +1,68 @@
 #!/usr/bin/env python3
-"""How much of the specifications must be read to know what `Headline` says.
+"""How much of the specifications must be read to know what `Headline` and `StatusClaim` say.
 
     bench/route.py              the number of lines for each question
     bench/route.py QUESTION     the files to read for one of them, in their order, with the lines in each
     bench/route.py QUESTION --text      the definitions themselves, in that order
 
-`Headline` (crates/workbench/specs/Headline.antt) is the claim of leank in one record. Each question needs some of its fields,
-and the definitions that these cite, down to the kit's. A definition counts with its comment; `use` lines and blank lines
-do not. The definitions in SHUT need not be opened: they stand in the claim and in the clauses of `run` alike. Those in
-CERTIFICATE say what a certificate is, which the question `certificates` opens. A type of the sources counts as it is
-declared there, without derives. Definitions of the kit (std) do not count.
+`Headline` and `StatusClaim` (crates/workbench/specs) are the claim of leank, in a record for results and one for statuses.
+Each question needs some fields of one of them, and the definitions that these cite, down to the kit's. A definition counts
+with its comment; `use` lines and blank lines do not. `IsRun` need not be opened: the records speak of all runs of which it is
+true, and `run` ensures it. Other definitions that a question leaves shut are opened by another one. A type of the sources
+counts as it is declared there, without derives. Definitions of the kit (std) do not count.
 """
 import os
 import re
 import sys
 
 TOP = os.path.dirname(os.path.dirname(os.path.abspath(__file__)))
-CLAIM = ("workbench", ("Headline",))
-SHUT = {"Ends", "IsDecided", "IsUnlessFailed", "request_of"}
-CERTIFICATE = {"Accepts", "text_of", "DoneDocument", "Document"}
-# What an input may be is told by these, each of which another question opens: for `statuses` they stay shut.
+SHUT = {"IsRun"}
+# what a certificate is: `certificates` opens it, and `certify` for what `reduce` writes
+CERTIFICATE = {"Accepts", "IsSound", "HasProgress", "text_of", "DoneDocument", "OpenDocument", "Document", "WritesReduction"}
+# which texts are a document, a model, an answer or edits: the questions of the commands open it
 GRAMMARS = {"Document", "is_in_form", "text_of", "model_of", "Answer", "IsAnswerText", "Edit", "IsEdits"}
+# what a search that stopped shows: `searches` opens it
+SEARCHES = {"WantsMore", "CanBeFinished", "StopsIn", "MayStopAt"}
+# which check is the first that fails, and which fault of an input: `certificates`, `verify` and the pages of the readers
+CHECKS = {"first_failure", "first_failure_to_extend", "first_failure_of_answer"}
+FAULTS = {"refusal_of", "StopsAt", "StopsAs", "IsFaultyAt", "IsTextOfAnswer", "fault_text"}
+# of each question the record, its fields, and what may stay shut
 QUESTIONS = {
-    "reduce": ["reduce"],
-    "check": ["check"],
-    "certificates": ["check"],
-    "extend": ["extend"],
-    "report": ["report"],
-    "solve": ["solve_10", "solve_20"],
-    "verify": ["verify"],
-    "mus": ["mus_0", "mus_10"],
-    "deficiency": ["deficiency"],
-    "edits": ["edits"],
-    "agreement": ["accepts", "verifies"],
-    "statuses": ["obeys", "refuses", "answers", "keeps", "solves", "extracts"],
+    "reduce": ("Headline", ["reduce"], CERTIFICATE),
+    "check": ("Headline", ["check"], CERTIFICATE),
+    "certificates": ("Headline", ["check"], set()),
+    "extend": ("Headline", ["extend"], CERTIFICATE),
+    "protect": ("Headline", ["protects", "carries"], CERTIFICATE),
+    "report": ("Headline", ["report"], CERTIFICATE),
+    "solve": ("Headline", ["solve_10", "solve_20"], CERTIFICATE),
+    "verify": ("Headline", ["verify"], CERTIFICATE),
+    "mus": ("Headline", ["mus_0", "mus_10"], CERTIFICATE),
+    "deficiency": ("Headline", ["deficiency"], CERTIFICATE),
+    "edits": ("Headline", ["edits"], CERTIFICATE),
+    "agreement": ("Headline", ["accepts", "verifies"], CERTIFICATE),
+    "statuses": ("Headline", ["obeys", "refuses", "answers", "keeps", "solves", "extracts"], CERTIFICATE | GRAMMARS),
+    "endings": ("StatusClaim", ["every_status", "results_only", "results_come"], CERTIFICATE | GRAMMARS),
+    "linear": ("StatusClaim", ["linear_exactly"], CERTIFICATE),
+    "verdicts": ("StatusClaim", ["check_exactly", "verify_exactly"], CERTIFICATE | GRAMMARS | CHECKS),
+    "extended": ("StatusClaim", ["extend_exactly", "extend_serves"], CERTIFICATE | GRAMMARS | CHECKS | {"IsReduced"}),
+    "stopped": ("StatusClaim", ["reduce_5", "solve_5", "mus_5"], CERTIFICATE | SEARCHES),
+    "searches": ("StatusClaim", ["reduce_5", "solve_5", "mus_5", "solve_free"], CERTIFICATE),
+    "demo": ("StatusClaim", ["demo"], CERTIFICATE | CHECKS | SEARCHES),
+    "certify": ("StatusClaim", ["certifies"], CERTIFICATE - {"WritesReduction"}),
+    "trimmed": ("StatusClaim", ["reduce_trims", "solve_trims", "mus_trims"], CERTIFICATE),
+    "failed": (
+        "StatusClaim",
+        ["refuses_words", "words_refused", "shelf_failed", "sink_failed", "cuts_short"],
+        CERTIFICATE | GRAMMARS | {"Allows"},
+    ),
+    "said": (
+        "StatusClaim",
+        ["says_nothing", "writes_nothing", "says_word", "says_input", "says_fault", "says_memory"],
+        CERTIFICATE | GRAMMARS | FAULTS,
+    ),
 }
+# all fields of a record, and of both, with nothing shut but `IsRun`
+ALL = {"Headline": ["Headline"], "StatusClaim": ["StatusClaim"], "all": ["Headline", "StatusClaim"]}
 NAME = r"[A-Za-z_α-ωΑ-Ω][A-Za-z0-9_α-ωΑ-Ω]*"
 HEAD = re.compile(rf"(?:(?:pattern|unfoldable|abbrev|pub) )*(?:(?:record|data) )?({NAME})\b")
 
@@ -187,23 +215,27 @@ class House:
             elif first in module.names:
                 yield self.named(*module.names[first])
 
-    def closure(self, fields, shut):
-        """All definitions that these fields need, each behind those that it cites, and the lines of the fields."""
-        claim = self.modules[CLAIM].blocks["Headline"]
-        shown = fields_of(claim.lines, fields)
-        order, seen = [], set()
+    def closure(self, claims, shut):
+        """All definitions that these claims need, each behind those that it cites."""
+        order, seen = [], {claim.where for claim in claims}
 
         def walk(block):
-            if block is None or block.where in seen or block.where[2] in shut or block is claim:
+            if block is None or block.where in seen or block.where[2] in shut:
                 return
             seen.add(block.where)
             for other in self.cited(block):
                 walk(other)
             order.append(block)
 
-        for other in self.cited(claim, shown):
-            walk(other)
-        return order, Block(claim.where, claim.file, claim.at, shown)
+        for claim in claims:
+            for other in self.cited(claim, claim.lines):
+                walk(other)
+        return order
+
+    def claim(self, record, fields):
+        """The record with these fields alone."""
+        whole = self.modules["workbench", (record,)].blocks[record]
+        return Block(whole.where, whole.file, whole.at, fields_of(whole.lines, fields))
 
 
 def fields_of(lines, fields):
@@ -228,21 +260,26 @@ def head_of(file):
 
 
 def needed(house, question):
-    """The definitions of a question, and its fields of the claim."""
-    every = [name for names in QUESTIONS.values() for name in names]
-    shut = SHUT if question in ("certificates", "all") else SHUT | CERTIFICATE
-    shut = shut | GRAMMARS if question == "statuses" else shut
-    return house.closure(QUESTIONS.get(question, every), shut)
+    """The definitions of a question, and the records with its fields."""
+    if question in ALL:
+        records, shut = ALL[question], SHUT
+        fields = {record: [name for r, names, _ in QUESTIONS.values() if r == record for name in names] for record in records}
+    else:
+        record, names, more = QUESTIONS[question]
+        records, fields, shut = [record], {record: names}, SHUT | more
+    claims = [house.claim(record, fields[record]) for record in records]
+    return house.closure(claims, shut), claims
 
 
 def files_of(house, question):
-    order, claim = needed(house, question)
+    order, claims = needed(house, question)
     lines, blocks = {}, {}
-    for block in [*order, claim]:
+    for block in [*order, *claims]:
         lines[block.file] = lines.get(block.file, 0) + len(block.lines)
         blocks.setdefault(block.file, []).append(block.where[2])
-    lines[claim.file] += head_of(claim.file)
-    files = in_order(house, [*order, claim], lines)
+    for claim in claims:
+        lines[claim.file] += head_of(claim.file)
+    files = in_order(house, [*order, *claims], lines)
     return [(file, lines[file], blocks[file]) for file in files]
 
 
@@ -252,7 +289,7 @@ def in_order(house, blocks, files):
     crate_of = lambda file: os.path.relpath(file, f"{TOP}/crates").split("/")[0]
     below = {file: set() for file in files}
     for block in blocks:
-        others = house.cited(block, block.lines if block.where[2] == "Headline" else None)
+        others = house.cited(block, block.lines)
         below[block.file] |= {other.file for other in others if other and other.file in below and other.file != block.file}
     left, ordered = list(files), []
     while left:
@@ -265,16 +302,30 @@ def in_order(house, blocks, files):
 def show(house, question):
     """Prints the definitions of a question, file by file."""
     files = files_of(house, question)
-    order, claim = needed(house, question)
+    order, claims = needed(house, question)
     for file, _, _ in files:
         print(f"\n==== {os.path.relpath(file, TOP)}")
-        for block in [*order, claim]:
+        for block in [*order, *claims]:
             if block.file == file:
                 print("\n" + "\n".join(block.lines))
 
 
+def forgotten(house):
+    """The fields that no question has, and those of questions that no record has."""
+    asked = {(record, name) for record, names, _ in QUESTIONS.values() for name in names}
+    there = set()
+    for record in ALL["all"]:
+        lines = house.modules["workbench", (record,)].blocks[record].lines
+        there |= {(record, found.group(1)) for line in lines if (found := re.match(rf"  pub ({NAME}) :", line))}
+    return sorted(f"{record}.{name}" for record, name in asked ^ there)
+
+
 def main(question=None, how=None):
-    house, questions = House(), [*QUESTIONS, "all"]
+    house, questions = House(), [*QUESTIONS, *ALL]
+    lacking = forgotten(house)
+    if lacking:
+        print(f"route.py: QUESTIONS and the records differ in {', '.join(lacking)}", file=sys.stderr)
+        return 1
     if question is None:
         for name in questions:
             files = files_of(house, name)
