@@ -27,6 +27,7 @@ MISTAKES = {
     "a document with carriage returns": ("check f.cnf r", {"r": None}),
     "the document before the formula": ("check d f.cnf", {}),
     "a solver's output to `verify`": ("verify f.cnf m", {"m": b"c found\ns SATISFIABLE\nv 1 2 3 0\n"}),
+    "minisat's result file to `extend`": ("extend f.cnf d s", {"s": b"SAT\n1 2 3 0\n"}),
     "a solver's `s UNSATISFIABLE` to `extend`": ("extend f.cnf d u", {"u": b"s UNSATISFIABLE\n"}),
     "an option before a name": ("reduce pure --workers 2 f.cnf", {}),
     "an option of `solve` or `mus` before the name": ("solve --workers 2 f.cnf", {}),
