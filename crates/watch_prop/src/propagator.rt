@@ -1,22 +1,23 @@
 //! Propagators.
-ghost use Rattle.std.specs.Prelude.{◌≡◌, ◌<◌, ◌≤◌, [], not, ◌&&◌, Some, IfOk, OnOk, OnErr, IsTrue, IfSome};
-ghost use Rattle.std.specs.Prelude.{IsNone, IsSome};
+ghost use Rattle.std.specs.Prelude.{◌≡◌, ◌+◌, ◌*◌, ◌<◌, ◌≤◌, [], not, ◌&&◌, Some, IfOk, OnOk, OnErr, IsTrue, IfSome};
+ghost use Rattle.std.specs.Prelude.{IsNone, IsSome, length};
 ghost use Rattle.lk_model.specs.Lists.{among, is_empty};
 ghost use Rattle.lk_model.specs.Formulas.Literal.{variable, is_literal, is_clause};
-ghost use Rattle.lk_model.specs.Held.VariableSets.{IsCrossed};
+ghost use Rattle.lk_model.specs.Formulas.Crossed.{crossed_out};
+ghost use Rattle.lk_model.specs.Held.VariableSets.{is_in, IsCrossed};
 ghost use Rattle.watch_prop.specs.Trail.{literals_of, level_of, reason_of, present_level, clause_numbered};
 ghost use Rattle.watch_prop.specs.Propagation.{Propagation, IsPropagation, assigned, numbers_of, crossed_clauses};
 ghost use Rattle.watch_prop.specs.Propagation.{is_quiet, IsAnswered, GoesOn, with_held, with_assigned, back_at};
 ghost use Rattle.watch_prop.specs.Propagation.{may_be_held};
 
 use crate::clauses::Clauses;
-use crate::entry::{NumberedClause, Propagated};
+use crate::entry::Propagated;
 use crate::places::place_of;
 use crate::state::{State, propagate};
 use crate::trail::Trail;
 use crate::watch::Watch;
 use crate::watcher_lists::WatcherLists;
-use lk_model::{Crossed, Lit, OutOfMemory};
+use lk_model::{Crossed, Lit, LitTable, OutOfMemory, VarSet};
 use std::alloc::Global;
 use std::marker::Model;
 
@@ -53,9 +54,9 @@ impl Propagator {
         ensures trail { IfOk result (λ p. p.trail ≡ []) }
         ensures held { IfOk result (λ p. IsPropagation p) }
     {
-        let clauses = clauses_of(alloc, over)?;
-        let mut propagator = Propagator::without_clauses(alloc, over.formula.vars())?;
-        propagator.hold_all(&clauses)?;
+        let expected = occurrences(alloc, over)?;
+        let mut propagator = Propagator::without_clauses(alloc, over.formula.vars(), &expected)?;
+        propagator.hold_part(alloc, over)?;
         Ok(propagator)
     }
 
@@ -160,15 +161,20 @@ impl Propagator {
         self.clauses.lits(place_of(&self.clauses, number))
     }
 
-    // The propagator without a clause.
-    fn without_clauses(alloc: Global, n: u32) -> Result<Propagator, OutOfMemory>
-        requires { n ≤ 1000000 }
+    // The propagator without a clause, with room for as many clauses with each literal as are expected.
+    fn without_clauses(
+        alloc: Global,
+        n: u32,
+        expected: &LitTable<u32>,
+    ) -> Result<Propagator, OutOfMemory>
+        requires few { n ≤ 1000000 }
+        requires expected { length expected.now ≡ 2 * n + 2 }
         ensures vars { IfOk result (λ p. p.vars ≡ n) }
         ensures clauses { IfOk result (λ p. p.clauses ≡ []) }
         ensures trail { IfOk result (λ p. p.trail ≡ []) }
     {
         let marks = Vec::with_capacity(alloc, n as usize)?;
-        let lists = WatcherLists::new(alloc, n)?;
+        let lists = WatcherLists::new(alloc, n, expected)?;
         Ok(Propagator {
             trail: Trail::new(alloc, n)?,
             clauses: Clauses::new(alloc),
@@ -184,14 +190,20 @@ impl Propagator {
         })
     }
 
-    // Holds the first clauses.
-    fn hold_all(&mut self, clauses: &[NumberedClause]) -> Result<(), OutOfMemory>
+    // Holds the first clauses: the non-empty crossed ones of the part, each with its position as its number. They are
+    // crossed out one after another in one buffer.
+    fn hold_part(&mut self, alloc: Global, over: &Crossed) -> Result<(), OutOfMemory>
+        requires crossed { IsCrossed over.now }
         requires none { self.old.clauses ≡ [] }
-        requires held { IsPropagation (record self.old { clauses = clauses.now }) }
-        ensures { OnOk result (self.new ≡ record self.old { clauses = clauses.now }) }
+        requires vars { self.old.vars ≡ over.now.formula.now.vars }
+        ensures { OnOk result (self.new ≡ record self.old { clauses = crossed_clauses over.now }) }
     {
-        for clause in clauses {
-            self.hold(clause.number, clause.lits.as_slice())?;
+        let mut lits = Vec::new(alloc);
+        for p in over.part {
+            cross_out(&mut lits, over.formula.clause(*p), over.blocked)?;
+            if lits.len() > 0 {
+                self.hold(u64::from(*p), &lits)?;
+            }
         }
         Ok(())
     }
@@ -227,18 +239,42 @@ impl Propagator {
     }
 }
 
-// The non-empty crossed clauses of the part, each with its position as its number.
-fn clauses_of(alloc: Global, over: &Crossed) -> Result<Vec<NumberedClause>, OutOfMemory>
+// How often each literal occurs in the crossed clauses of the part. The numbers only tell how much room to make, so no
+// clause states them.
+fn occurrences(alloc: Global, over: &Crossed) -> Result<LitTable<u32>, OutOfMemory>
     requires { IsCrossed over.now }
-    ensures { IfOk result (λ v. v.items ≡ crossed_clauses over.now) }
+    ensures { IfOk result (λ t. length t ≡ 2 * over.now.formula.now.vars + 2) }
 {
-    let mut clauses = Vec::new(alloc);
+    let mut counts = LitTable::new(alloc, over.formula.vars(), 0)?;
     for p in over.part {
-        let lits = over.clause(alloc, *p)?;
-        if lits.len() > 0 {
-            let number = u64::from(*p);
-            clauses.push(NumberedClause { number, lits })?;
+        count_occurrences(&mut counts, over.formula.clause(*p), over.blocked);
+    }
+    Ok(counts)
+}
+
+// Counts the literals of one more clause that are not on a variable of the set.
+fn count_occurrences(counts: &mut LitTable<u32>, clause: &[Lit], blocked: &VarSet)
+    requires clause { IsTrue (is_clause (length blocked.now) clause.now) }
+    requires counts { length counts.old ≡ 2 * length blocked.now + 2 }
+    ensures { length counts.new ≡ length counts.old }
+{
+    for l in clause {
+        if !blocked.has(l.var()) {
+            counts[*l] = counts[*l].saturating_add(1);
         }
     }
-    Ok(clauses)
+}
+
+// Makes a buffer hold the literals of a clause that are not on a variable of the set, in their order.
+fn cross_out(lits: &mut Vec<Lit>, clause: &[Lit], blocked: &VarSet) -> Result<(), OutOfMemory>
+    requires { IsTrue (is_clause (length blocked.now) clause.now) }
+    ensures { OnOk result (lits.new.items ≡ crossed_out (is_in blocked.now) clause.now) }
+{
+    lits.clear();
+    for l in clause {
+        if !blocked.has(l.var()) {
+            lits.push(*l)?;
+        }
+    }
+    Ok(())
 }

@@ -1,6 +1,6 @@
 //! The watchers of a literal: the clauses that watch it, each with a literal to look at first.
 ghost use Rattle.std.specs.Prelude.{◌≡◌, ◌≢◌, ℕ, ◌+◌, ◌*◌, ◌^◌, ◌<◌, ◌≤◌, [], length, replicate, slice_index_or};
-ghost use Rattle.std.specs.Prelude.{nat_lt, ℤ, Vec, vec_len, vec_capacity, IfOk, OnOk, OnErr, IsTrue};
+ghost use Rattle.std.specs.Prelude.{nat_lt, ℤ, Vec, vec_len, vec_capacity, All, IfOk, OnOk, OnErr, IsTrue};
 ghost use Rattle.std.specs.List.{list_all};
 ghost use Rattle.lk_model.specs.Formulas.Literal.{contains, is_distinct, rank_of};
 ghost use Rattle.watch_prop.specs.Watchers.{row_of, places, watchers, count_of, with_watcher, with_row, with_counted};
@@ -41,15 +41,17 @@ impl Model for WatcherLists {
 }
 
 impl WatcherLists {
-    /// Those without a clause, over the variables from 1 to n.
-    pub fn new(alloc: Global, n: u32) -> Result<WatcherLists, OutOfMemory>
-        requires { n ≤ 1000000 }
+    /// Those without a clause, over the variables from 1 to n. Each list is made once, with room for as many clauses as
+    /// are expected to have its literal; more may come.
+    pub fn new(alloc: Global, n: u32, expected: &LitTable<u32>) -> Result<WatcherLists, OutOfMemory>
+        requires few { n ≤ 1000000 }
+        requires expected { length expected.now ≡ 2 * n + 2 }
         ensures lists { IfOk result (λ w. w.lists ≡ replicate (2 * n + 2) []) }
         ensures rows { IfOk result (λ w. w.rows ≡ replicate (2 * n + 2) []) }
         ensures counts { IfOk result (λ w. w.counts ≡ replicate (2 * n + 2) 0) }
     {
         Ok(WatcherLists {
-            lists: LitTable::new_with(alloc, n, || Vec::new(alloc))?,
+            lists: empty_lists(alloc, expected)?,
             counts: LitTable::new(alloc, n, 0)?,
         })
     }
@@ -114,6 +116,22 @@ impl WatcherLists {
         let place = self.lists[l].swap_remove(at).place;
         self.lists[to].push_reserved(Watcher { place, blocker });
     }
+}
+
+// For each literal an empty list, with room for as many watchers as are expected.
+fn empty_lists(
+    alloc: Global,
+    expected: &LitTable<u32>,
+) -> Result<LitTable<Vec<Watcher>>, OutOfMemory>
+    ensures size { IfOk result (λ t. length t ≡ length expected.now) }
+    ensures empty { IfOk result (λ t. All (λ list. list.items ≡ []) t) }
+{
+    let capacities = expected.as_slice();
+    let mut lists = Vec::with_capacity(alloc, capacities.len())?;
+    for capacity in capacities {
+        lists.push(Vec::with_capacity(alloc, *capacity as usize)?)?;
+    }
+    Ok(LitTable::from_vec(lists))
 }
 
 // Gives the watcher at a place another blocker.

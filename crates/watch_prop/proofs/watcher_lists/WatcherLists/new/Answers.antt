@@ -1,4 +1,4 @@
-use Rattle.std.proofs.Common.{◌≡◌, ◌∙◌, ℕ, ◌<◌, List, [], get_or, length, replicate, ap, sym, arith, rules, Vec, vec_len}
+use Rattle.std.proofs.Common.{◌≡◌, ◌∙◌, ℕ, ◌<◌, List, [], get_or, length, replicate, ap, sym, arith, Vec, vec_len}
 use Rattle.std.specs.declared.alloc.Global.{Global}
 use Rattle.std.specs.List.{All}
 use Rattle.std.proofs.lemmas.List.{length-replicate, get_or-replicate}
@@ -19,20 +19,21 @@ none lists counts r d empty zero lt =
 
 pub invariant_of-result : goal.invariant_of-result
 invariant_of-result c =
-    let lists = c.in_ok-new_with.field-0 in
-    let counts = c.in_ok-new.field-0 in
-    let empty : All (λ (v : Vec Watcher Global). v.items ≡ []) lists = λ k d lt. (let made = c.in_ok-new_with.ensures.made k d lt in search rules) in
-    let zero : counts ≡ replicate (length lists) 0 = search rules in
-    record { same = sym (ap (λ (ns : List ℕ). length ns) zero ∙ length-replicate (length lists) 0); each = λ r d lt. none lists counts r d empty zero lt }
+    let lists = c.in_ok-empty_lists.field-0 in
+    let zero : c.in_ok-new.field-0 ≡ replicate (length lists) 0 =
+    c.in_ok-new.ensures ∙ ap (λ (n : ℕ). replicate n 0) (sym (c.in_ok-empty_lists.ensures.size ∙ c.requires.expected)) in
+    record {
+      same = sym (ap (λ (ns : List ℕ). length ns) zero ∙ length-replicate (length lists) 0);
+      each = λ r d lt. none lists c.in_ok-new.field-0 r d c.in_ok-empty_lists.ensures.empty zero lt;
+    }
 
 pub returns-clause-lists : goal.returns-clause-lists
 returns-clause-lists c =
-    let lists = c.in_ok-new_with.field-0 in
-    let empty : All (λ (v : Vec Watcher Global). v.items ≡ []) lists = λ k d lt. (let made = c.in_ok-new_with.ensures.made k d lt in search rules) in
-    ap all_places (rows_none lists empty) ∙ no_places (length lists) ∙ ap (λ (n : ℕ). replicate n []) c.in_ok-new_with.ensures.size
+    let lists = c.in_ok-empty_lists.field-0 in
+    ap all_places (rows_none lists c.in_ok-empty_lists.ensures.empty) ∙ no_places (length lists)
+    ∙ ap (λ (n : ℕ). replicate n []) (c.in_ok-empty_lists.ensures.size ∙ c.requires.expected)
 
 pub returns-clause-rows : goal.returns-clause-rows
 returns-clause-rows c =
-    let lists = c.in_ok-new_with.field-0 in
-    let empty : All (λ (v : Vec Watcher Global). v.items ≡ []) lists = λ k d lt. (let made = c.in_ok-new_with.ensures.made k d lt in search rules) in
-    rows_none lists empty ∙ ap (λ (n : ℕ). replicate n []) c.in_ok-new_with.ensures.size
+    rows_none c.in_ok-empty_lists.field-0 c.in_ok-empty_lists.ensures.empty
+    ∙ ap (λ (n : ℕ). replicate n []) (c.in_ok-empty_lists.ensures.size ∙ c.requires.expected)
