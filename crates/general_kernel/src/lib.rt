@@ -9,3 +9,4 @@ mod rounds;
 mod setting;
 
 pub use general::{general_kernel, set_of};
+pub use setting::literals_on;

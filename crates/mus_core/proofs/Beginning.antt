@@ -12,8 +12,6 @@ use Rattle.renaming_laws.specs.Renaming.{IsDense, nth}
 use Rattle.renaming_laws.proofs.Mapped.{row_mapped}
 use Rattle.mus_core.specs.declared.deciding.Copied.{Copied}
 use Rattle.mus_core.specs.Copies.{IsCopy, IsRefutedWithin}
-use Rattle.mus_core.specs.Named.{names_only}
-use Rattle.mus_core.proofs.Narrowing.{elsewhere, narrowed_here}
 
 -- no clause of a part is empty where none is
 filled_at : (F : Cnf) (part : List ℕ) → are_positions F part ≡ true → are_filled F (positions_of F) ≡ true → are_filled F part ≡ true
@@ -39,14 +37,12 @@ all_told part n len =
     ap (λ (k : ℕ). map (nth part) (up_to k)) (sym len)
     ∙ row_mapped (nth part) part 1 (λ i lt. let back : 1 + i - 1 ≡ i = omega arith in ap (λ (j : ℕ). get_or part j 0) back)
 
-pub first_refuted : (c : Copied) (conflicts : ℕ) (part places : List ℕ) (r : Round) → IsPartRefuted c.formula.now (positions_of c.formula.now) conflicts r
-    → names_only (length c.formula.now.clauses) part r ≡ true → c.part.now ≡ part → places ≡ positions_of c.clauses.now → length c.part.now ≡ length c.clauses.now.clauses
-    → IsRefutedWithin c conflicts (record { places = places; round = r })
-first_refuted c conflicts part places r h only part_is places_is len =
-    let F = c.formula.now in
+pub first_refuted : (c : Copied) (conflicts : ℕ) (places : List ℕ) (r : Round) → IsPartRefuted c.formula.now c.part.now conflicts r → places ≡ positions_of c.clauses.now
+    → length c.part.now ≡ length c.clauses.now.clauses → IsRefutedWithin c conflicts (record { places = places; round = r })
+first_refuted c conflicts places r h places_is len =
     let G = c.clauses.now in
-    let all : map (nth c.part.now) places ≡ part = ap (map (nth c.part.now)) places_is ∙ all_told c.part.now (length G.clauses) len ∙ part_is in
+    let all : map (nth c.part.now) places ≡ c.part.now = ap (map (nth c.part.now)) places_is ∙ all_told c.part.now (length G.clauses) len in
     record {
       places = subst (λ (ps : List ℕ). are_positions G ps ≡ true) (sym places_is) (all_rise G);
-      refuted = subst (λ (ps : List ℕ). IsPartRefuted F ps conflicts r) (sym all) (elsewhere h (narrowed_here F (positions_of F) part r h.refutation only));
+      refuted = subst (λ (ps : List ℕ). IsPartRefuted c.formula.now ps conflicts r) (sym all) h;
     }

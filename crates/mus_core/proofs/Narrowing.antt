@@ -9,7 +9,7 @@ use Rattle.lk_model.specs.Formulas.Formula.{Cnf}
 use Rattle.lk_model.specs.Formulas.Crossed.{no_variable}
 use Rattle.lk_model.specs.Chains.Chain.{names_of}
 use Rattle.lk_model.specs.Documents.Documents.{steps_of}
-use Rattle.lk_model.specs.Documents.Form.{are_steps, counts_from, is_step, is_turn}
+use Rattle.lk_model.specs.Documents.Form.{are_steps, is_step, is_turn}
 use Rattle.lk_model.specs.declared.document.Turn.{Turn}
 use Rattle.lk_model.specs.declared.document.Step.{Step}
 use Rattle.lk_model.specs.declared.document.Round.{Round}
@@ -74,9 +74,6 @@ narrowed F part core r h names = record {
       (alone (list_all (λ (s : Step). list_all (λ k. nat_lt (length F.clauses) k || among core k) (names_of s))) r.steps names);
 }
 
-in_form : (n m : ℕ) (steps : List Step) → are_steps n m steps ≡ true → list_all (is_step n) steps ≡ true
-in_form n m steps e = (and_true (counts_from (m + 1) (map (λ (s : Step). s.number) steps)) (list_all (is_step n) steps) e).1
-
 one_above : (m : ℕ) (ps : List ℕ) (k : ℕ) → 1 ≤ k → is_one m ps k ≡ true → (nat_lt m k ≡ true) ⊎ (among ps k ≡ true)
 one_above m ps k low e = elim (or_true (k == 0 || nat_lt m k) (among ps k) e) [
   | inl outside ↦ elim (or_true (k == 0) (nat_lt m k) outside) [
@@ -85,20 +82,6 @@ one_above m ps k low e = elim (or_true (k == 0 || nat_lt m k) (among ps k) e) [
   ]
   | inr there ↦ inr there
 ]
-
--- those of the formula
-pub narrowed_here : (F : Cnf) (part core : List ℕ) (r : Round) → IsRefutation F part r → names_only (length F.clauses) core r ≡ true → IsRefutation F core r
-narrowed_here F part core r h names =
-    narrowed F part core r h (steps_weaker (is_one m core) (λ k. nat_lt m k || among core k) F.vars weaker r.steps (in_form F.vars m r.steps h.steps) names)
-  where
-    m : ℕ
-    m = length F.clauses
-
-    weaker : (k : ℕ) → 1 ≤ k → is_one m core k ≡ true → (nat_lt m k || among core k) ≡ true
-    weaker k low e = elim (one_above m core k low e) [
-      | inl past ↦ or_left (nat_lt m k) (among core k) past
-      | inr there ↦ or_right (nat_lt m k) (among core k) there
-    ]
 
 -- TOLD
 

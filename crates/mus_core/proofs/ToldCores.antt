@@ -6,6 +6,7 @@ use Rattle.std.proofs.lemmas.Bool.{cases_Bool, eqb-true, eq-eqb, not_from_false,
 use Rattle.lk_model.specs.Lists.{among, rises_within}
 use Rattle.lk_model.specs.Formulas.Literal.{variable, is_literal}
 use Rattle.lk_model.specs.Formulas.Formula.{Cnf, clause_at, is_formula, variable_occurs}
+use Rattle.lk_model.specs.Formulas.Crossed.{Variables}
 use Rattle.lk_model.specs.Formulas.Assignment.{assignment_of, satisfies}
 use Rattle.lk_model.specs.Formulas.Lean.{are_positions}
 use Rattle.lk_model.specs.Documents.CoreText.{are_for, is_without}
@@ -43,12 +44,12 @@ use Rattle.mus_core.proofs.ShrunkCores.{none_all}
 -- LINES
 
 -- the literals of a line ascend
-pub literals_rise : (G : Cnf) (places : List ℕ) (ws : List (Option (List (Option Bool)))) (p : ℕ) → rises_within 0 G.vars (map variable (literals_at G places ws p)) ≡ true
-literals_rise G places ws p = at (witness_at ws p)
+pub literals_rise : (G : Cnf) (on : Variables) (ws : List (Option (List (Option Bool)))) (p : ℕ) → rises_within 0 G.vars (map variable (literals_at G.vars on ws p)) ≡ true
+literals_rise G on ws p = at (witness_at ws p)
   where
-    at : (o : Option (List (Option Bool))) → rises_within 0 G.vars (map variable (option_map_or (literals_of G places) o [])) ≡ true
+    at : (o : Option (List (Option Bool))) → rises_within 0 G.vars (map variable (option_map_or (literals_of G.vars on) o [])) ≡ true
     at None = refl
-    at (Some values) = set_rises (variable_occurs G places) (assignment_by values) G.vars
+    at (Some values) = set_rises on (assignment_by values) G.vars
 
 -- and so they do told of the formula
 told_ascend : (names : List ℕ) (top : ℕ) (lits : List ℤ) → rises_within 0 top names ≡ true → rises_within 0 (length names) (map variable lits) ≡ true
@@ -68,13 +69,13 @@ told_ascend names top lits ascend rise =
 
 -- what the values satisfy, their literals do
 kept_true : (G : Cnf) (places : List ℕ) (values : List (Option Bool)) (q : ℕ) → is_formula G ≡ true → among places q ≡ true
-    → satisfies (assignment_by values) (clause_at G q) ≡ true → satisfies (assignment_of (literals_of G places values)) (clause_at G q) ≡ true
+    → satisfies (assignment_by values) (clause_at G q) ≡ true → satisfies (assignment_of (literals_of G.vars (variable_occurs G places) values)) (clause_at G q) ≡ true
 kept_true G places values q form there holds =
     let φ = assignment_by values in
     let w = satisfying φ (clause_at G q) holds in
     let mention = mentions_of (clause_at G q) w.0 w.1 in
     let bound = variable_bound G q (variable w.0) form mention in
-    satisfied_at (assignment_of (literals_of G places values)) (clause_at G q) w.0 w.1
+    satisfied_at (assignment_of (literals_of G.vars (variable_occurs G places) values)) (clause_at G q) w.0 w.1
     (set_true (variable_occurs G places) φ G.vars w.0 bound.0 bound.1 (occurs G places q (variable w.0) there mention) w.2)
 
 -- and told of the formula they satisfy its clause
@@ -118,23 +119,23 @@ not_not false e = absurd (let f : ⊥ = cc in f)
 -- each clause but that of the place
 others_true : (c : Copied) (conflicts : ℕ) (r : Refutation) (ws : List (Option (List (Option Bool)))) (p : ℕ) → IsCopy c → IsShrunk c conflicts r ws → is_some (witness_at ws p) ≡ true
     → among r.places p ≡ true → (q : ℕ) → among r.places q ≡ true
-    → (nth c.part.now q == nth c.part.now p || satisfies (assignment_of (map (named c.names.now) (literals_at c.clauses.now r.places ws p))) (clause_at c.formula.now (nth c.part.now q))) ≡ true
+    → (nth c.part.now q == nth c.part.now p || satisfies (assignment_of (map (named c.names.now) (literals_at c.clauses.now.vars (variable_occurs c.clauses.now r.places) ws p))) (clause_at c.formula.now (nth c.part.now q))) ≡ true
 others_true c conflicts r ws p copy h given there q inside = elim (cases_Bool (q == p)) [
   | inl own ↦ or_left (nth c.part.now q == nth c.part.now p) _ (eq-eqb (nth c.part.now q) (nth c.part.now p) (ap (nth c.part.now) (eqb-true q p own)))
   | inr other ↦ or_right (nth c.part.now q == nth c.part.now p) _ (holds other)
 ]
   where
-    holds : (q == p) ≡ false → satisfies (assignment_of (map (named c.names.now) (literals_at c.clauses.now r.places ws p))) (clause_at c.formula.now (nth c.part.now q)) ≡ true
+    holds : (q == p) ≡ false → satisfies (assignment_of (map (named c.names.now) (literals_at c.clauses.now.vars (variable_occurs c.clauses.now r.places) ws p))) (clause_at c.formula.now (nth c.part.now q)) ≡ true
     holds other =
         let G = c.clauses.now in
         let dense = copy.dense in
         let v = has_values ws p given in
         let b = bounded 0 (length G.clauses) r.places q h.refuted.places inside in
         let low = b.0 in
-        let are : literals_at G r.places ws p ≡ literals_of G r.places v.values = ap (λ (o : Option (List (Option Bool))). option_map_or (literals_of G r.places) o []) v.are in
-        let rise = subst (λ (n : ℕ). rises_within 0 n (map variable (literals_at G r.places ws p)) ≡ true) dense.vars (literals_rise G r.places ws p) in
+        let are : literals_at G.vars (variable_occurs G r.places) ws p ≡ literals_of G.vars (variable_occurs G r.places) v.values = ap (λ (o : Option (List (Option Bool))). option_map_or (literals_of G.vars (variable_occurs G r.places)) o []) v.are in
+        let rise = subst (λ (n : ℕ). rises_within 0 n (map variable (literals_at G.vars (variable_occurs G r.places) ws p)) ≡ true) dense.vars (literals_rise G (variable_occurs G r.places) ws p) in
         let model = h.held.witnesses p v.values there v.are q (and_from (among r.places q) (not (q == p)) inside (not_from_false (q == p) other)) in
-        told_true c.formula.now G c.part.now c.names.now (literals_at G r.places ws p) q copy.part dense rise (omega (arith, low)) b.1
+        told_true c.formula.now G c.part.now c.names.now (literals_at G.vars (variable_occurs G r.places) ws p) q copy.part dense rise (omega (arith, low)) b.1
         (subst (λ (ls : List ℤ). satisfies (assignment_of ls) (clause_at G q) ≡ true) (sym are) (kept_true G r.places v.values q dense.formula inside model))
 
 shown : (c : Copied) (conflicts : ℕ) (r : Refutation) (ws : List (Option (List (Option Bool)))) (core : List ℕ) (without : List Without) → IsCopy c → IsShrunk c conflicts r ws
@@ -145,10 +146,10 @@ shown c conflicts r ws core without copy h none core_is without_is =
       positions = rising_told part (length F.clauses) (length G.clauses) r.places copy.part (part_length F G part c.names.now copy.dense) h.refuted.places;
       refuted = h.refuted.refuted.refutation;
       lines = same_positions c r.places ws r.places;
-      literals = all_pass (is_without F.vars) (line_at c r.places ws) r.places (λ p m. told_ascend c.names.now F.vars (literals_at G r.places ws p) copy.dense.ascend
-          (subst (λ (n : ℕ). rises_within 0 n (map variable (literals_at G r.places ws p)) ≡ true) copy.dense.vars (literals_rise G r.places ws p)));
+      literals = all_pass (is_without F.vars) (line_at c r.places ws) r.places (λ p m. told_ascend c.names.now F.vars (literals_at G.vars (variable_occurs G r.places) ws p) copy.dense.ascend
+          (subst (λ (n : ℕ). rises_within 0 n (map variable (literals_at G.vars (variable_occurs G r.places) ws p)) ≡ true) copy.dense.vars (literals_rise G (variable_occurs G r.places) ws p)));
       satisfied = all_pass (satisfies_others F told) (line_at c r.places ws) r.places (λ p m.
-          all_pass (λ q. q == nth part p || satisfies (assignment_of (map (named c.names.now) (literals_at G r.places ws p))) (clause_at F q)) (nth part) r.places
+          all_pass (λ q. q == nth part p || satisfies (assignment_of (map (named c.names.now) (literals_at G.vars (variable_occurs G r.places) ws p))) (clause_at F q)) (nth part) r.places
           (others_true c conflicts r ws p copy h (given p m) m));
     }))
   where

@@ -3,6 +3,7 @@ use Rattle.std.specs.Prelude.{length, ◌≡◌, ℕ, ◌-◌, Bool, not, ◌&&�
 use Rattle.std.specs.Option.{option_map_or}
 use Rattle.lk_model.specs.Lists.{among}
 use Rattle.lk_model.specs.Formulas.Formula.{Cnf, variable_occurs}
+use Rattle.lk_model.specs.Formulas.Crossed.{Variables}
 use Rattle.lk_model.specs.Formulas.Autarky.{Positions}
 use Rattle.lk_model.specs.Formulas.Minimal.{all_but}
 use Rattle.lk_model.specs.Held.PartialValues.{assignment_by}
@@ -16,20 +17,24 @@ use Rattle.mus_core.specs.declared.deciding.Copied.{Copied}
 abbrev pub witness_at : List (Option (List (Option Bool))) → ℕ → Option (List (Option Bool))
 witness_at ws p = slice_index_or ws (p - 1) None
 
--- the true literals of values, on variables of the clauses at some places
-abbrev pub literals_of : Cnf → List ℕ → List (Option Bool) → List ℤ
-literals_of F places values = literals_on (variable_occurs F places) (assignment_by values) F.vars
+-- the true literals of values, on some of the variables from 1 to n
+abbrev pub literals_of : ℕ → Variables → List (Option Bool) → List ℤ
+literals_of n on values = literals_on on (assignment_by values) n
 
 -- those of the values for a place
-abbrev pub literals_at : Cnf → List ℕ → List (Option (List (Option Bool))) → ℕ → List ℤ
-literals_at F places ws p = option_map_or (literals_of F places) (witness_at ws p) []
+abbrev pub literals_at : ℕ → Variables → List (Option (List (Option Bool))) → ℕ → List ℤ
+literals_at n on ws p = option_map_or (literals_of n on) (witness_at ws p) []
 
 -- told of the formula
-abbrev pub line_at : Copied → List ℕ → List (Option (List (Option Bool))) → ℕ → Without
-line_at c places ws p = record {
+abbrev pub line_on : Copied → Variables → List (Option (List (Option Bool))) → ℕ → Without
+line_on c on ws p = record {
   pos = nth c.part.now p;
-  lits = map (named c.names.now) (literals_at c.clauses.now places ws p);
+  lits = map (named c.names.now) (literals_at c.clauses.now.vars on ws p);
 }
+
+-- on variables of the clauses at some places
+abbrev pub line_at : Copied → List ℕ → List (Option (List (Option Bool))) → ℕ → Without
+line_at c places = line_on c (variable_occurs c.clauses.now places)
 
 -- values for places, of all variables; those for a place of the set satisfy the clauses at all others of it
 pub record AreHeld (F : Cnf) (S : Positions) (ws : List (Option (List (Option Bool)))) : Type 0 where

@@ -12,6 +12,7 @@ ghost use Rattle.mus_core.specs.ByParts.{IsDecidedByParts, IsPartDecided};
 
 use crate::deciding::{Copied, Open, decide_copy};
 use crate::mus::Mus;
+use crate::shrinking::told_places;
 use autarky_compose::join_general;
 use cdcl_core::Schedule;
 use lk_model::{Budget, Decided, Formula, GeneralResult, List, Lit, OutOfMemory, Round};
@@ -28,7 +29,7 @@ pub(crate) fn decide_by_parts(
     alloc: Global,
     f: &Formula,
     conflicts: Budget,
-) -> Result<Decided<List<Lit>, Round, Mus>, OutOfMemory>
+) -> Result<Decided<List<Lit>, RefutedPart, Mus>, OutOfMemory>
     requires { IsTrue (are_filled f.now (positions_of f.now)) }
     ensures { IfOk result (IsDecidedByParts f.now conflicts) }
 {
@@ -37,7 +38,7 @@ pub(crate) fn decide_by_parts(
         if let Some(first) = Budget::new(FIRST_BUDGET) {
             match decide_each(alloc, f, list.as_slice(), first)? {
                 Decided::Model(set) => return Ok(Decided::Model(set)),
-                Decided::Refuted(round) => return Ok(Decided::Refuted(round)),
+                Decided::Refuted(part) => return Ok(Decided::Refuted(part)),
                 Decided::Stopped(_) => {}
             }
         }
@@ -51,7 +52,7 @@ fn decide_each(
     f: &Formula,
     list: &[List<u32>],
     conflicts: Budget,
-) -> Result<Decided<List<Lit>, Round, Mus>, OutOfMemory>
+) -> Result<Decided<List<Lit>, RefutedPart, Mus>, OutOfMemory>
     requires parts { AreParts f.now list.now }
     requires filled { IsTrue (are_filled f.now (positions_of f.now)) }
     ensures { IfOk result (IsDecidedByParts f.now conflicts) }
@@ -75,6 +76,13 @@ fn decide_each(
     }
 }
 
+/// A refutation, and the positions of the clauses that its chains name, ascending.
+#[derive(Drop)]
+pub(crate) struct RefutedPart {
+    pub positions: List<u32>,
+    pub round: Round,
+}
+
 /// A search over a part that stopped.
 #[derive(Drop)]
 pub(crate) struct Stop {
@@ -88,7 +96,7 @@ fn decide_part(
     f: &Formula,
     part: &[u32],
     conflicts: Budget,
-) -> Result<Decided<List<Lit>, Round, Stop>, OutOfMemory>
+) -> Result<Decided<List<Lit>, RefutedPart, Stop>, OutOfMemory>
     requires part { IsTrue (are_positions f.now part.now) }
     requires filled { IsTrue (are_filled f.now (positions_of f.now)) }
     ensures { IfOk result (IsPartDecided f.now conflicts part.now) }
@@ -111,7 +119,7 @@ fn tell_decided(
     alloc: Global,
     of: &Copied,
     conflicts: Budget,
-) -> Result<Decided<List<Lit>, Round, Stop>, OutOfMemory>
+) -> Result<Decided<List<Lit>, RefutedPart, Stop>, OutOfMemory>
     requires { IsCopy of.now }
     ensures { IfOk result (IsPartDecided of.now.formula.now conflicts of.now.part.now) }
 {
@@ -125,7 +133,10 @@ fn tell_decided(
             };
             Ok(Decided::Model(renaming.literals(set)))
         }
-        Decided::Refuted(refutation) => Ok(Decided::Refuted(refutation.round)),
+        Decided::Refuted(refutation) => Ok(Decided::Refuted(RefutedPart {
+            positions: told_places(alloc, of.part, refutation.places.as_slice())?,
+            round: refutation.round,
+        })),
         Decided::Stopped(open) => Ok(Decided::Stopped(Stop {
             part: List::from_vec(Vec::from_slice(alloc, of.part)?),
             open,

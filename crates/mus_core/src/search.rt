@@ -1,19 +1,18 @@
 //! A minimally unsatisfiable core of a formula, or a model of it.
-ghost use Rattle.std.specs.Prelude.{◌≡◌, length, IfOk, IsTrue};
-ghost use Rattle.lk_model.specs.Lists.{rises_within};
+ghost use Rattle.std.specs.Prelude.{◌≡◌, IfOk, IsTrue};
 ghost use Rattle.lk_model.specs.Formulas.Formula.{positions_of};
-ghost use Rattle.part_formula.specs.Decisions.{are_filled, IsPartModel, IsPartRefuted};
+ghost use Rattle.lk_model.specs.Formulas.Lean.{are_positions};
+ghost use Rattle.part_formula.specs.Decisions.{are_filled, IsPartModel};
 ghost use Rattle.renaming_laws.specs.Renaming.{IsDense};
-ghost use Rattle.mus_core.specs.Named.{names_only};
+ghost use Rattle.mus_core.specs.ByParts.{IsRefutedPart};
 ghost use Rattle.mus_core.specs.Found.{IsMus, IsWholeModel, TakesEmpty};
 
-use crate::by_parts::decide_by_parts;
+use crate::by_parts::{RefutedPart, decide_by_parts};
 use crate::deciding::{Copied, Refutation};
 use crate::mus::Mus;
-use crate::named::named_positions;
 use crate::shrinking::shrink;
 use empty_clauses::{empty_core, first_empty};
-use lk_model::{Budget, Decided, Formula, List, Lit, OutOfMemory, Round};
+use lk_model::{Budget, Decided, Formula, List, Lit, OutOfMemory};
 use part_formula::{dense_formula, names_of};
 use partial_assign::{Partial, assignment_of, extend_total};
 use std::alloc::Global;
@@ -40,7 +39,7 @@ fn minimal_of_filled(alloc: Global, f: &Formula, conflicts: Budget) -> Result<Mu
 {
     match decide_by_parts(alloc, f, conflicts)? {
         Decided::Model(set) => Ok(Mus::Model(whole_model(alloc, f, set.as_slice())?)),
-        Decided::Refuted(round) => minimal_of_refuted(alloc, f, round, conflicts),
+        Decided::Refuted(found) => minimal_of_refuted(alloc, f, found, conflicts),
         Decided::Stopped(mus) => Ok(mus),
     }
 }
@@ -59,28 +58,29 @@ fn whole_model(alloc: Global, f: &Formula, set: &[Lit]) -> Result<List<Lit>, Out
 fn minimal_of_refuted(
     alloc: Global,
     f: &Formula,
-    round: Round,
+    found: RefutedPart,
     conflicts: Budget,
 ) -> Result<Mus, OutOfMemory>
     requires filled { IsTrue (are_filled f.now (positions_of f.now)) }
-    requires refuted { IsPartRefuted f.now (positions_of f.now) conflicts round }
+    requires refuted { IsRefutedPart f.now conflicts found }
     ensures { IfOk result (IsMus f.now conflicts) }
 {
-    let first = FirstCore::of(alloc, f, &round)?;
+    let RefutedPart { positions, round } = found;
+    let part = positions.as_slice();
+    let first = FirstCore::of(alloc, f, part)?;
     let places = first.places;
     let core = Copied {
         formula: f,
-        part: first.part.as_slice(),
+        part,
         names: &first.names,
         clauses: &first.clauses,
     };
     shrink(alloc, &core, Refutation { places, round }, conflicts)
 }
 
-/// The clauses that a refutation names, by position, with their variables and a copy of them.
+/// The clauses that a refutation names: their variables and a copy of them.
 #[derive(Drop)]
 pub(crate) struct FirstCore {
-    pub part: List<u32>,
     pub names: Vec<u32>,
     pub clauses: Formula,
     /// All places in the copy.
@@ -88,19 +88,18 @@ pub(crate) struct FirstCore {
 }
 
 impl FirstCore {
-    // That of a refutation.
-    fn of(alloc: Global, f: &Formula, round: &Round) -> Result<FirstCore, OutOfMemory>
-        ensures rise { IfOk result (λ core. IsTrue (rises_within 0 (length f.now.clauses) core.part)) }
-        ensures named { IfOk result (λ core. IsTrue (names_only (length f.now.clauses) core.part round.now)) }
-        ensures dense { IfOk result (λ core. IsDense f.now core.part core.names.items core.clauses) }
+    // Those at some positions.
+    fn of(alloc: Global, f: &Formula, part: &[u32]) -> Result<FirstCore, OutOfMemory>
+        requires { IsTrue (are_positions f.now part.now) }
+        ensures dense { IfOk result (λ core. IsDense f.now part.now core.names.items core.clauses) }
         ensures places { IfOk result (λ core. core.places ≡ positions_of core.clauses) }
     {
-        let part = named_positions(alloc, f.len(), round)?;
-        let names = names_of(alloc, f, part.as_slice())?;
-        let clauses = dense_formula(alloc, f, part.as_slice(), &names)?;
+        // (by it contracts see that the formula is one)
+        let _vars = f.vars();
+        let names = names_of(alloc, f, part)?;
+        let clauses = dense_formula(alloc, f, part, &names)?;
         let places = clauses.positions(alloc)?;
         Ok(FirstCore {
-            part,
             names,
             clauses,
             places,

@@ -189,8 +189,12 @@ fn others(alloc: Global, places: &[u32], p: u32) -> Result<List<u32>, OutOfMemor
     Ok(others)
 }
 
-// What stands at the places.
-fn told_places(alloc: Global, part: &[u32], places: &[u32]) -> Result<List<u32>, OutOfMemory>
+/// What stands at the places.
+pub(crate) fn told_places(
+    alloc: Global,
+    part: &[u32],
+    places: &[u32],
+) -> Result<List<u32>, OutOfMemory>
     ensures { IfOk result (λ ps. ps ≡ map (nth part.now) places.now) }
 {
     let mut positions = List::new(alloc);

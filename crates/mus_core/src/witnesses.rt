@@ -1,11 +1,11 @@
 //! Witnesses: for places of a refuted set, values that satisfy all its clauses but the one there.
 ghost use Rattle.std.specs.Prelude.{◌≡◌, ◌≢◌, ◌<◌, ◌≤◌, ℕ, Some, None, find, not, is_some, length, replicate, IfOk};
-ghost use Rattle.std.specs.Prelude.{IfSome, IsTrue};
-ghost use Rattle.lk_model.specs.Formulas.Lean.{are_positions};
+ghost use Rattle.std.specs.Prelude.{IfSome};
+ghost use Rattle.lk_model.specs.Held.VariableSets.{is_in};
 ghost use Rattle.mus_core.specs.WitnessValues.{witness_at, literals_at};
 
-use general_kernel::set_of;
-use lk_model::{Formula, List, Lit, OutOfMemory};
+use general_kernel::literals_on;
+use lk_model::{List, Lit, OutOfMemory, VarSet};
 use partial_assign::Partial;
 use std::alloc::Global;
 use std::marker::Model;
@@ -67,21 +67,14 @@ impl Witnesses {
         }
     }
 
-    /// The true literals of the values for a place, on variables of the clauses at some places, ascending. There are
-    /// none where there are no values.
-    pub fn literals(
-        &self,
-        alloc: Global,
-        clauses: &Formula,
-        places: &[u32],
-        p: u32,
-    ) -> Result<List<Lit>, OutOfMemory>
-        requires places { IsTrue (are_positions clauses.now places.now) }
-        requires vars { (q : ℕ) → IfSome (witness_at self.now q) (λ values. length values ≡ clauses.now.vars) }
-        ensures { IfOk result (λ ls. ls ≡ literals_at clauses.now places.now self.now p) }
+    /// The true literals of the values for a place, on the variables of a set, ascending. There are none where there are
+    /// no values.
+    pub fn literals(&self, alloc: Global, vars: &VarSet, p: u32) -> Result<List<Lit>, OutOfMemory>
+        requires { (q : ℕ) → IfSome (witness_at self.now q) (λ values. length values ≡ length vars.now) }
+        ensures { IfOk result (λ ls. ls ≡ literals_at (length vars.now) (is_in vars.now) self.now p) }
     {
         match self.values.get(p.saturating_sub(1) as usize) {
-            Some(Some(values)) => set_of(alloc, clauses, places, values),
+            Some(Some(values)) => literals_on(alloc, vars, values),
             _ => Ok(List::new(alloc)),
         }
     }

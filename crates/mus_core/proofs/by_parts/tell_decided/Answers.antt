@@ -1,4 +1,5 @@
-use Rattle.std.proofs.Common.{ℤ, List, sym, subst, arith}
+use Rattle.std.proofs.Common.{◌∙◌, ℤ, List, map, sym, ap, subst, arith}
+use Rattle.renaming_laws.specs.Renaming.{nth}
 use Rattle.lk_model.specs.Limits.{max_vars}
 use Rattle.lk_model.proofs.Rising.{rises_to}
 use Rattle.part_formula.specs.Decisions.{IsPartModel}
@@ -7,7 +8,7 @@ use Rattle.lk_model.specs.declared.decided.Decided.{Decided}
 use Rattle.mus_core.specs.declared.deciding.Refutation.{Refutation}
 use Rattle.mus_core.specs.declared.deciding.Open.{Open}
 use Rattle.mus_core.specs.Copies.{IsDecided}
-use Rattle.mus_core.proofs.PartModels.{refuted_whole}
+use Rattle.mus_core.proofs.PartModels.{refuted_there}
 use Rattle.mus_core.proofs.by_parts.tell_decided.Goals as goal
 
 pub literals-requires : goal.literals-requires
@@ -29,4 +30,5 @@ returns-in-Model c =
 pub returns-in-Refuted : goal.returns-in-Refuted
 returns-in-Refuted c =
     let of = c.args.of.now in
-    refuted_whole of c.args.conflicts c.in-Refuted.refutation c.requires (subst (λ (d : Decided (List ℤ) Refutation Open). IsDecided of c.args.conflicts d) c.in-Refuted.is c.in_ok-set.ensures)
+    refuted_there of c.args.conflicts c.in-Refuted.refutation _ c.requires (c.in_ok-told_places-in-Refuted.ensures ∙ ap (map (nth of.part.now)) c.as_slice.ensures)
+    (subst (λ (d : Decided (List ℤ) Refutation Open). IsDecided of c.args.conflicts d) c.in-Refuted.is c.in_ok-set.ensures)
