@@ -13,7 +13,8 @@ The first prints what is wrong, and its status is 1 then:
 - one of the floors APART, with a reducer or the search, uses another of them;
 - a crate that is no test stands on one that is;
 - the tables of docs/ARCHITECTURE.md have other crates or another order, or not two columns, or its heads are other floors;
-- docs/house.svg is not the picture of crates.txt.
+- docs/house.svg is not the picture of crates.txt;
+- a crate exports a name that no other crate names, no test either; OFFERED has the exceptions, of which again none may be idle.
 
 `draw` draws that picture: the crates as the floors of a house (SVG), from the lowest floor up, and the tests below the ground.
 Nobody else compares these, so run it whenever the map changes. Needs python3.
@@ -22,6 +23,7 @@ import os
 import re
 import sys
 
+from house_exports import unnamed
 from house_picture import picture
 
 TOP = os.path.dirname(os.path.dirname(os.path.abspath(__file__)))
@@ -42,6 +44,8 @@ EXCEPT = {
     ("lean_checker", "itoa"): "the digits of a number in the line of a verdict",
     ("answer_check", "answer_text"): "no check of its own: it hands out the texts of answers beside their checks",
 }
+# What is exported for users of the library, though no crate here calls it.
+OFFERED = {}
 
 
 def read(name):
@@ -127,6 +131,23 @@ def wrong_picture():
         yield f"{PICTURE} is not the picture of crates.txt: draw it anew"
 
 
+def texts_under(crate, folders, ending):
+    found = []
+    for folder in folders:
+        for place, _, names in os.walk(os.path.join(TOP, "crates", crate, folder)):
+            found += [read(os.path.join(place, name)) for name in sorted(names) if name.endswith(ending)]
+    return "\n".join(found)
+
+
+def wrong_exports(floors):
+    every = [crate for crates in floors.values() for crate in crates]
+    codes = {crate: texts_under(crate, ["src"], ".rt") for crate in every}
+    idle = set(unnamed(codes, {crate: texts_under(crate, ["specs", "proofs"], ".antt") for crate in every}))
+    for crate, name in sorted(OFFERED.keys() - idle):
+        yield f"bench/house.py: {name} of {crate} is not exported, or some crate names it, so this is no exception"
+    yield from (f"crates/{crate}: exports {name}, which no other crate names" for crate, name in sorted(idle - OFFERED.keys()))
+
+
 def draw():
     with open(os.path.join(TOP, PICTURE), "w", encoding="utf-8") as out:
         out.write(picture(read("crates.txt")))
@@ -138,7 +159,8 @@ def main():
     if sys.argv[1:]:
         sys.exit(__doc__)
     floors = floors_of(read("crates.txt"))
-    wrong = [*wrong_order(floors), *wrong_wall(floors), *wrong_floors(floors), *wrong_folders(floors), *wrong_pages(floors), *wrong_picture()]
+    checks = (wrong_order, wrong_wall, wrong_floors, wrong_folders, wrong_pages, wrong_exports)
+    wrong = [*(line for check in checks for line in check(floors)), *wrong_picture()]
     print("\n".join(wrong) or f"{len(floors)} floors, {sum(map(len, floors.values()))} crates: all is told as it is")
     return 1 if wrong else 0
 

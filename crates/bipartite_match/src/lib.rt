@@ -20,4 +20,4 @@ pub use laws::cover_law;
 pub use matching::{Matching, maximum};
 pub use pairs::Pairs;
 pub use steps::Steps;
-pub use walk::{Reached, reach, reached_positions};
+pub use walk::{Reached, reach};

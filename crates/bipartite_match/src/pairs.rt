@@ -2,15 +2,15 @@
 //!
 //! A search asks only which clause a variable has, and which clauses have none. So where clauses come and go, the rest
 //! of a matching, the part and the variable of each of its clauses, is left to contracts: no list is made anew then.
-ghost use Rattle.std.specs.Prelude.{◌≡◌, ◌+◌, ℕ, List, OnErr, IfOk, false};
+ghost use Rattle.std.specs.Prelude.{◌≡◌, ◌+◌, ℕ, List, OnErr, IfOk, false, map};
+ghost use Rattle.bipartite_match.specs.declared.visits.Visit.{Visit as AVisit};
 ghost use Rattle.bipartite_match.specs.Walks.{AreReached};
 ghost use Rattle.bipartite_match.specs.Behind.{matching_of, CanAugment, CanReach, IsOutcome};
 
 use crate::augmenting::Start;
 use crate::exchange::{exchange, index_of};
 use crate::steps::Steps;
-use crate::visits::Visits;
-use crate::walk::visited_positions;
+use crate::visits::{Visit, Visits};
 use lk_model::{Formula, List, OutOfMemory, VarSet};
 use std::alloc::Global;
 
@@ -60,8 +60,8 @@ impl Pairs {
         Ok(true)
     }
 
-    /// The positions, ascending, that alternating walks from the unmatched clauses reach, as `reached_positions` finds
-    /// them.
+    /// The positions, ascending, that alternating walks from the unmatched clauses reach. It costs what it visits, and
+    /// to sort this.
     pub fn reached_positions(
         &self,
         alloc: Global,
@@ -73,12 +73,25 @@ impl Pairs {
             → IfOk result (AreReached f.now part (matching_of own self.now marks.old)) }
         ensures same { marks.new ≡ marks.old }
     {
-        visited_positions(
+        // From all unmatched clauses, to any free variable: there is none.
+        let visits = Visits::of(
             alloc,
             f,
             self.of_var.as_slice(),
             self.unmatched.as_slice(),
             marks,
-        )
+            Start::Variable(0),
+        )?;
+        let mut reached = positions_of(alloc, &visits.queue)?;
+        reached.sort_unstable();
+        reached.dedup();
+        Ok(List::from_vec(reached))
     }
+}
+
+// The positions that were visited.
+fn positions_of(alloc: Global, queue: &[Visit]) -> Result<Vec<u32>, OutOfMemory>
+    ensures { IfOk result (λ v. v.items ≡ map (λ (x : AVisit). x.pos) queue.now) }
+{
+    Ok(queue.iter().map(|visit| visit.pos).collect(alloc)?)
 }

@@ -9,20 +9,14 @@
 //! without a search that its clauses are lean for matching autarkies.
 ghost use Rattle.std.specs.Prelude.{◌≡◌, ◌≢◌, ◌+◌, ◌-◌, ◌≤◌, ℕ, List, length, slice_index, map, IfOk, IsTrue};
 ghost use Rattle.lk_model.specs.Formulas.Lean.{are_positions};
-ghost use Rattle.bipartite_match.specs.Matchings.{IsMaximum, IsReady};
-ghost use Rattle.bipartite_match.specs.Walks.{AreReached, IsReached};
-ghost use Rattle.bipartite_match.specs.Visiting.{CanRead};
-ghost use Rattle.bipartite_match.specs.declared.augmenting.Start.TheVariants.{Variable};
-ghost use Rattle.bipartite_match.specs.declared.matching.Matching.{Matching as AMatching};
-ghost use Rattle.bipartite_match.specs.declared.visits.Visit.{Visit as AVisit};
+ghost use Rattle.bipartite_match.specs.Matchings.{IsMaximum};
+ghost use Rattle.bipartite_match.specs.Walks.{IsReached};
 ghost use Rattle.bipartite_match.specs.Found.{kept_of, rank_of};
 
-use crate::augmenting::Start;
 use crate::matching::Matching;
 use crate::mates::{Mates, into_positions};
 use crate::search::Search;
-use crate::visits::{Visit, Visits};
-use lk_model::{Formula, List, OutOfMemory, VarSet};
+use lk_model::{Formula, List, OutOfMemory};
 use std::alloc::Global;
 
 /// What alternating walks from the unmatched clauses of a part reach: the positions, ascending, and for each variable
@@ -48,58 +42,6 @@ pub fn reach(alloc: Global, f: &Formula, part: &[u32], m: &Matching) -> Result<R
         rank: List::from_vec(ranks(alloc, &search.layer, &search.escape)?),
         escape: into_positions(part, search.escape),
     })
-}
-
-/// The positions, ascending, that alternating walks from the unmatched clauses of the part reach. It costs what it
-/// visits, and to sort this.
-pub fn reached_positions(
-    alloc: Global,
-    f: &Formula,
-    part: &[u32],
-    m: &mut Matching,
-) -> Result<List<u32>, OutOfMemory>
-    requires positions { IsTrue (are_positions f.now part.now) }
-    requires maximum { IsMaximum f.now part.now m.old }
-    requires ready { IsReady f.now part.now m.old }
-    ensures reached { IfOk result (AreReached f.now part.now m.old) }
-    ensures same { m.new ≡ m.old }
-{
-    visited_positions(
-        alloc,
-        f,
-        m.of_var.as_slice(),
-        m.unmatched.as_slice(),
-        &mut m.seen,
-    )
-}
-
-/// The same by what a search reads: the position of each variable, the unmatched positions and marks.
-pub fn visited_positions(
-    alloc: Global,
-    f: &Formula,
-    of_var: &[u32],
-    unmatched: &[u32],
-    seen: &mut VarSet,
-) -> Result<List<u32>, OutOfMemory>
-    requires can { (part : List ℕ) × (m : AMatching) × IsMaximum f.now part m ×
-        CanRead f.now of_var.now unmatched.now seen.old (Variable 0) part m }
-    ensures reached { (part : List ℕ) (m : AMatching) → IsMaximum f.now part m
-        → CanRead f.now of_var.now unmatched.now seen.old (Variable 0) part m → IfOk result (AreReached f.now part m) }
-    ensures same { seen.new ≡ seen.old }
-{
-    // From all unmatched clauses, to any free variable: there is none.
-    let visits = Visits::of(alloc, f, of_var, unmatched, seen, Start::Variable(0))?;
-    let mut kept = positions_of(alloc, &visits.queue)?;
-    kept.sort_unstable();
-    kept.dedup();
-    Ok(List::from_vec(kept))
-}
-
-// The positions that were visited.
-fn positions_of(alloc: Global, queue: &[Visit]) -> Result<Vec<u32>, OutOfMemory>
-    ensures { IfOk result (λ v. v.items ≡ map (λ (x : AVisit). x.pos) queue.now) }
-{
-    Ok(queue.iter().map(|visit| visit.pos).collect(alloc)?)
 }
 
 // The matching by indices.

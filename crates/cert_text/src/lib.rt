@@ -14,6 +14,6 @@ mod signed_lists;
 mod steps;
 
 pub use laws::document_text_law;
-pub use model_text::{print_model, read_model};
+pub use model_text::print_model;
 pub use printing::print;
 pub use reading::{DocumentReader, document_reader, read};

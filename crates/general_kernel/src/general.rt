@@ -13,6 +13,7 @@ ghost use Rattle.std.specs.Prelude.{◌≡◌, ◌<◌, ◌^◌, length, IfOk, I
 ghost use Rattle.lk_model.specs.Formulas.Lean.{are_positions};
 ghost use Rattle.lk_model.specs.Formulas.Formula.{variable_occurs};
 ghost use Rattle.lk_model.specs.Held.PartialValues.{assignment_by};
+ghost use Rattle.occurrence_lists.specs.Occurrences.{AreOccurrences};
 ghost use Rattle.general_laws.specs.Found.{IsFound};
 ghost use Rattle.general_kernel.specs.Ends.{IsBegun, EndsRounds};
 ghost use Rattle.general_kernel.specs.SetLiterals.{literals_on};
@@ -23,12 +24,13 @@ use crate::near::{Nearby, refute_near};
 use crate::rounds::Rounds;
 use crate::setting::literals_on;
 use cdcl_core::{Schedule, decide_by_schedule};
+use crossed_copy::CrossedRefutation;
 use lk_model::{
     Budget, Crossed, Decided, Formula, General, GeneralResult, List, Lit, OutOfMemory, Round,
     VarSet,
 };
+use occurrence_lists::OccurrenceLists;
 use partial_assign::Partial;
-use round_replay::Replayed;
 use std::alloc::Global;
 use unit_refutations::{UnitRefutation, Units};
 
@@ -44,8 +46,23 @@ pub fn general_kernel(
     requires part { IsTrue (are_positions f.now part.now) }
     ensures { IfOk result (IsFound f.now part.now conflicts) }
 {
+    general_kernel_by_lists(alloc, f, part, OccurrenceLists::new(alloc, f)?, conflicts)
+}
+
+/// The same, where the lists of the formula are there.
+pub fn general_kernel_by_lists(
+    alloc: Global,
+    f: &Formula,
+    part: &[u32],
+    lists: OccurrenceLists,
+    conflicts: Budget,
+) -> Result<General, OutOfMemory>
+    requires part { IsTrue (are_positions f.now part.now) }
+    requires lists { AreOccurrences f.now lists }
+    ensures { IfOk result (IsFound f.now part.now conflicts) }
+{
     let mut rounds = Rounds::new(alloc, f, conflicts)?;
-    match run(alloc, f, part, &mut rounds)? {
+    match run(alloc, f, part, lists, &mut rounds)? {
         End::Kernel { kept, set } => Ok(General::Done(GeneralResult {
             kept,
             set,
@@ -65,14 +82,21 @@ pub(crate) enum End {
 }
 
 // The rounds, to the end.
-fn run(alloc: Global, f: &Formula, part: &[u32], rounds: &mut Rounds) -> Result<End, OutOfMemory>
+fn run(
+    alloc: Global,
+    f: &Formula,
+    part: &[u32],
+    lists: OccurrenceLists,
+    rounds: &mut Rounds,
+) -> Result<End, OutOfMemory>
     requires part { IsTrue (are_positions f.now part.now) }
+    requires lists { AreOccurrences f.now lists }
     requires begun { IsBegun f.now rounds.old }
     requires some { 0 < rounds.old.budget }
     requires most { rounds.old.budget < 2 ^ 63 }
     ensures { IfOk result (EndsRounds f.now part.now rounds.old.budget rounds.new) }
 {
-    let mut units = Units::new(alloc, f, part)?;
+    let mut units = Units::by_lists(alloc, f, part, lists)?;
     let mut nearby = Nearby::new(alloc, f, part)?;
     let mut schedule = Schedule::new();
     round_after_round(
@@ -125,7 +149,7 @@ fn round_after_round(
             let steps = List::new(alloc);
             return Ok(End::Open(Round { steps }));
         }
-        if let Some(Replayed { round: near, used }) = refute_near(
+        if let Some(CrossedRefutation { round: near, used }) = refute_near(
             alloc,
             &over,
             units,

@@ -2,11 +2,10 @@
 #![tactic(auto)]
 
 mod blocking;
-mod copied;
 mod general;
 mod near;
 mod rounds;
 mod setting;
 
-pub use general::{general_kernel, set_of};
+pub use general::{general_kernel, general_kernel_by_lists, set_of};
 pub use setting::literals_on;

@@ -2,18 +2,17 @@
 //!
 //! A part may have thousands of small refutations, and a search costs as much as its part is long. So the clauses around
 //! one of few unset literals are searched first, then those around the next one, each time in a copy as small as they
-//! are. What is found is made again over the part. Searches in vain are limited by a credit of clauses, which searches of
+//! are. What is found there is told of the part. Searches in vain are limited by a credit of clauses, which searches of
 //! the whole part and refutations found here add to.
 ghost use Rattle.std.specs.Prelude.{◌+◌, ◌-◌, ◌<◌, ◌^◌, length, IfOk, IfSome, IsTrue};
 ghost use Rattle.lk_model.specs.Formulas.Formula.{is_formula};
 ghost use Rattle.lk_model.specs.Held.VariableSets.{IsCrossed};
 ghost use Rattle.unit_refutations.specs.Standing.{IsKept, IsWithin};
-ghost use Rattle.round_replay.specs.Replaying.{IsReplayed};
+ghost use Rattle.general_kernel.specs.NearRefutations.{IsRefutedNear, RefutesAll};
 
-use crate::copied::{Copied, copy_of};
 use cdcl_core::decide;
-use lk_model::{Crossed, Decided, Formula, OutOfMemory, Round, VarSet};
-use round_replay::{Originals, Replayed, replay};
+use crossed_copy::{CrossedCopy, CrossedRefutation};
+use lk_model::{Crossed, Decided, Formula, OutOfMemory, VarSet};
 use std::alloc::Global;
 use unit_refutations::{Around, Units};
 
@@ -87,7 +86,7 @@ impl Nearby {
         self.credit = self.credit.saturating_sub(self.around.positions().len());
     }
 
-    // Notes that what was found failed a test, which may cost more than a search in vain.
+    // Notes that what was found is not learned, a test that may cost more than a search in vain.
     fn note_refused(&mut self) {
         self.credit /= 2;
     }
@@ -140,7 +139,7 @@ pub(crate) fn refute_near(
     nearby: &mut Nearby,
     next: u64,
     budget: u64,
-) -> Result<Option<Replayed>, OutOfMemory>
+) -> Result<Option<CrossedRefutation>, OutOfMemory>
     requires formula { IsTrue (is_formula over.now.formula.now) }
     requires crossed { IsCrossed over.now }
     requires kept { IsKept over.now.formula.now over.now.blocked.now units.now }
@@ -148,7 +147,7 @@ pub(crate) fn refute_near(
     requires some { 0 < budget }
     requires past { length over.now.formula.now.clauses < next }
     requires room { next + budget < 2 ^ 64 - 1 }
-    ensures { IfOk result (λ o. IfSome o (IsReplayed over.now next budget)) }
+    ensures { IfOk result (λ o. IfSome o (IsRefutedNear over.now next budget)) }
 {
     for _ in 0..over.part.len() {
         if nearby.credit == 0 {
@@ -175,7 +174,7 @@ fn refute_around(
     nearby: &mut Nearby,
     next: u64,
     budget: u64,
-) -> Result<Option<Replayed>, OutOfMemory>
+) -> Result<Option<CrossedRefutation>, OutOfMemory>
     requires formula { IsTrue (is_formula over.now.formula.now) }
     requires crossed { IsCrossed over.now }
     requires kept { IsKept over.now.formula.now over.now.blocked.now units.now }
@@ -183,36 +182,32 @@ fn refute_around(
     requires some { 0 < budget }
     requires past { length over.now.formula.now.clauses < next }
     requires room { next + budget < 2 ^ 64 - 1 }
-    ensures { IfOk result (λ o. IfSome o (IsReplayed over.now next budget)) }
+    ensures { IfOk result (λ o. IfSome o (IsRefutedNear over.now next budget)) }
 {
     let positions = nearby.around.positions();
     if positions.len() > MOST_GATHERED {
         return Ok(None);
     }
-    let Some(copy) = copy_of(alloc, over, positions)? else {
+    let copy = CrossedCopy::of(alloc, over, units, positions)?;
+    let Some(refutation) = refute_all(alloc, &copy.formula, budget)? else {
         return Ok(None);
     };
-    let Some(round) = refute_copy(alloc, &copy, budget)? else {
-        return Ok(None);
-    };
-    let originals = Originals {
-        positions,
-        names: copy.names.as_slice(),
-        next,
-    };
-    let steps = round.steps.as_slice();
-    let found = replay(alloc, over, units, steps, &originals, budget)?;
+    let found = copy.learned(alloc, over, units, next - 1, refutation)?;
     if found.is_none() {
         nearby.note_refused();
     }
     Ok(found)
 }
 
-// The steps of a refutation of a copy, numbered after its clauses.
-fn refute_copy(alloc: Global, copy: &Copied, budget: u64) -> Result<Option<Round>, OutOfMemory>
+// A refutation of all clauses of a formula, with steps numbered after them.
+fn refute_all(
+    alloc: Global,
+    f: &Formula,
+    budget: u64,
+) -> Result<Option<CrossedRefutation>, OutOfMemory>
     requires { 0 < budget }
+    ensures { IfOk result (λ o. IfSome o (RefutesAll f.now budget)) }
 {
-    let f = &copy.formula;
     let part = f.positions(alloc)?;
     let blocked = VarSet::new(alloc, f.vars())?;
     let over = Crossed {
@@ -222,7 +217,11 @@ fn refute_copy(alloc: Global, copy: &Copied, budget: u64) -> Result<Option<Round
     };
     let next = u64::from(f.len()) + 1;
     match decide(alloc, &over, next, budget.min(MOST_LEARNED))? {
-        Decided::Refuted(log) => Ok(Some(log.into_round()?)),
+        Decided::Refuted(log) => {
+            let used = log.used(&over)?;
+            let round = log.into_round()?;
+            Ok(Some(CrossedRefutation { round, used }))
+        }
         Decided::Model(_) | Decided::Stopped(_) => Ok(None),
     }
 }

@@ -18,7 +18,7 @@ use Rattle.lk_model.specs.Checks.RoundChecks.{IsRefutation}
 use Rattle.kernel_laws.proofs.Lines.{found_any, found_passes}
 use Rattle.general_laws.proofs.JoinLaws.{none_misstated}
 use Rattle.general_laws.proofs.Numbering.{premises_in}
-use Rattle.part_formula.specs.Decisions.{are_filled}
+use Rattle.part_copy.specs.Found.{are_filled}
 use Rattle.renaming_laws.proofs.Mapped.{rising_all}
 use Rattle.kernel_solve.specs.Solutions.{IsRefutedWithin}
 

@@ -28,7 +28,7 @@ use Rattle.general_laws.specs.ForeignLaw.{HasForeign, IsAmongForeign}
 use Rattle.general_laws.specs.GeneralResults.{IsGeneralResult}
 use Rattle.general_laws.proofs.PartLaws.{part_law}
 use Rattle.general_laws.proofs.PartResults.{no_rounds}
-use Rattle.part_formula.specs.Decisions.{IsPartModel, sets_only}
+use Rattle.part_copy.specs.Found.{IsPartModel, sets_only}
 use Rattle.renaming_laws.specs.Renaming.{nth}
 use Rattle.renaming_laws.proofs.Mapped.{rises_mapped}
 use Rattle.renaming_laws.proofs.Told.{told as place_told, told_low, told_rise}
@@ -65,7 +65,7 @@ positions F kept part rise inside =
     let long : length (clauses_at F kept).clauses ≡ length kept = length-map {B = List ℤ} kept (clause_at F) in
     let within : rises_within 0 (length kept) part ≡ true = subst (λ (n : ℕ). rises_within 0 n part ≡ true) long inside in
     subst (λ (ps : List ℕ). rises_within 0 m ps ≡ true) (sym (kept_told kept m part within))
-    (rises_mapped (place_told kept m) 0 (length kept) 0 m part (told_rise kept m rise) (λ k le. told_low kept m k rise le)
+    (rises_mapped (place_told kept m) 0 (length kept) 0 m part (told_rise kept m rise) (λ k le. told_low kept m m k rise le)
     (λ k lt. let up = told_rise kept m rise 0 k lt in omega (arith, up)) within)
 
 -- a variable of the part's clauses is one of them in the kernel

@@ -2,7 +2,6 @@
 use Rattle.std.proofs.Common.{◌≡◌, ℕ, zero, suc, ◌+◌, ◌<◌, ◌≤◌, ◌^◌, true, List, [], ◌∷◌, ◌++◌, length, map, get_or, refl, sym, ◌∙◌, ap, subst, arith, ℤ, inl, inr, Ok, Err, Result, IfOk, Contains, All, None}
 use Rattle.std.specs.List.{AllByRecursion}
 use Rattle.std.proofs.lemmas.List.{append-nil, length-map}
-use Rattle.std.proofs.lemmas.Result.{IfOk-at_ok}
 use Rattle.lk_model.specs.Lists.{among, rises_within}
 use Rattle.lk_model.specs.Formulas.Literal.{variable}
 use Rattle.lk_model.specs.Formulas.Formula.{Cnf, IsWithinLimits, is_formula, clause_at, clauses_at, positions_of, first_empty}
@@ -14,7 +13,6 @@ use Rattle.lk_model.specs.Formulas.Parts.{IsPart}
 use Rattle.lk_model.specs.Chains.Rounds.{is_trimmed}
 use Rattle.lk_model.specs.Documents.Documents.{steps_of}
 use Rattle.lk_model.specs.declared.document.Round.{Round}
-use Rattle.lk_model.specs.declared.list.OutOfMemory.{OutOfMemory}
 use Rattle.lk_model.specs.declared.result.GeneralResult.{GeneralResult}
 use Rattle.lk_model.specs.declared.result.MatchingResult.{MatchingResult}
 use Rattle.lk_model.proofs.Booleans.{and_true}
@@ -27,10 +25,11 @@ use Rattle.general_laws.specs.GeneralResults.{IsGeneralResult, AreGeneralResults
 use Rattle.general_laws.proofs.OpenResults.{open_result_law}
 use Rattle.autarky_compose.specs.JoinedGeneral.{AreJoinable, AreJoined, all_kept, rounds_behind}
 use Rattle.autarky_compose.proofs.GeneralLaws.{joined_general_law}
-use Rattle.part_formula.specs.Decisions.{Decision, IsDecision, IsPartModel, IsPartRefuted, sets_only}
+use Rattle.part_copy.specs.Found.{IsPartModel, IsPartRefuted, sets_only}
+use Rattle.part_formula.specs.Decisions.{Decision, IsDecision}
 use Rattle.lk_model.specs.declared.decided.Decided.TheVariants.{Model, Refuted, Stopped}
 use Rattle.kernel_solve.specs.KernelParts.{IsFilledPart, IsKernelPart, told, AreKernelParts, AreMatchingParts, AreKernelModels, IsJoinedModel}
-use Rattle.kernel_solve.specs.Answers.{Answer, AreAnswers, AreNotRefuted, IsFirstRefutation, IsFirstStop, IsAmongAnswers, models}
+use Rattle.kernel_solve.specs.Answers.{AreAnswers, AreNotRefuted, IsFirstRefutation, IsFirstStop, IsAmongAnswers, models}
 use Rattle.kernel_solve.specs.Solutions.{IsTotalModel, IsNotRefuted, IsRefutedWithin, IsUndecidedWithin, IsSolved}
 use Rattle.kernel_solve.proofs.EmptyClauses.{filled_at}
 use Rattle.kernel_solve.proofs.ModelLaws.{kernel_of, solve_model_law}
@@ -72,14 +71,8 @@ all_filled F r list h =
 
 -- THE PART THAT DECIDES
 
-decided_at : (F : Cnf) (part : List ℕ) (conflicts : ℕ) (d : Decision) → IfOk {E = OutOfMemory} (Ok d) (IsDecision F part conflicts) → IsDecision F part conflicts d
-decided_at F part conflicts d h = (let same : answered d ≡ answered d = refl in IfOk-at_ok (IsDecision F part conflicts) same h)
-  where
-    answered : Decision → Answer
-    answered v = Ok v
-
 -- the parts as their answers are divided at one of them
-record IsDivided (F : Cnf) (conflicts : ℕ) (d : Decision) (list : List (List ℕ)) (first rest : List Answer) : Type 0 where
+record IsDivided (F : Cnf) (conflicts : ℕ) (d : Decision) (list : List (List ℕ)) (first rest : List Decision) : Type 0 where
   before : List (List ℕ)
   part : List ℕ
   behind : List (List ℕ)
@@ -88,7 +81,7 @@ record IsDivided (F : Cnf) (conflicts : ℕ) (d : Decision) (list : List (List �
   first_are : AreAnswers F conflicts before first
   rest_are : AreAnswers F conflicts behind rest
 
-divided : (F : Cnf) (conflicts : ℕ) (d : Decision) (list : List (List ℕ)) (first rest : List Answer) → AreAnswers F conflicts list (first ++ Ok d ∷ rest)
+divided : (F : Cnf) (conflicts : ℕ) (d : Decision) (list : List (List ℕ)) (first rest : List Decision) → AreAnswers F conflicts list (first ++ d ∷ rest)
     → IsDivided F conflicts d list first rest
 divided F conflicts d [] [] rest all = absurd all
 divided F conflicts d [] (a ∷ first) rest all = absurd all
@@ -97,7 +90,7 @@ divided F conflicts d (part ∷ list) [] rest all = record {
   part = part;
   behind = list;
   list_is = refl;
-  decides = decided_at F part conflicts d all.0;
+  decides = all.0;
   first_are = tt;
   rest_are = all.1;
 }
@@ -114,9 +107,9 @@ divided F conflicts d (part ∷ list) (a ∷ first) rest all =
     }
 
 -- the answers, spelled so
-as_divided : (F : Cnf) (conflicts : ℕ) (list : List (List ℕ)) (answers spelled : List Answer) → answers ≡ spelled → AreAnswers F conflicts list answers
+as_divided : (F : Cnf) (conflicts : ℕ) (list : List (List ℕ)) (answers spelled : List Decision) → answers ≡ spelled → AreAnswers F conflicts list answers
     → AreAnswers F conflicts list spelled
-as_divided F conflicts list answers spelled same all = subst (λ (given : List Answer). AreAnswers F conflicts list given) same all
+as_divided F conflicts list answers spelled same all = subst (λ (given : List Decision). AreAnswers F conflicts list given) same all
 
 -- what a model of a part is, and what no refutation is
 satisfied_by : (F : Cnf) (part : List ℕ) (lits : List ℤ) → IsPartModel F part lits → IsSatisfiable F (among part)
@@ -129,15 +122,14 @@ with_models F conflicts [] (set ∷ sets) all = absurd all
 with_models F conflicts (part ∷ list) [] all = absurd all
 with_models F conflicts (part ∷ list) (set ∷ sets) all = (satisfied_by F part set all.0, with_models F conflicts list sets all.1)
 
-not_refuted : (F : Cnf) (conflicts : ℕ) (list : List (List ℕ)) (answers : List Answer) → AreAnswers F conflicts list answers → AreNotRefuted answers
+not_refuted : (F : Cnf) (conflicts : ℕ) (list : List (List ℕ)) (answers : List Decision) → AreAnswers F conflicts list answers → AreNotRefuted answers
     → AllByRecursion (IsNotRefuted F conflicts) list
 not_refuted F conflicts [] [] all h = tt
 not_refuted F conflicts [] (a ∷ answers) all h = absurd all
 not_refuted F conflicts (part ∷ list) [] all h = absurd all
-not_refuted F conflicts (part ∷ list) (Ok (Model lits) ∷ answers) all h = (inl (satisfied_by F part lits all.0), not_refuted F conflicts list answers all.1 h)
-not_refuted F conflicts (part ∷ list) (Ok (Stopped r) ∷ answers) all h = (inr (r, all.0), not_refuted F conflicts list answers all.1 h)
-not_refuted F conflicts (part ∷ list) (Ok (Refuted r) ∷ answers) all h = absurd h
-not_refuted F conflicts (part ∷ list) (Err e ∷ answers) all h = absurd h
+not_refuted F conflicts (part ∷ list) (Model lits ∷ answers) all h = (inl (satisfied_by F part lits all.0), not_refuted F conflicts list answers all.1 h)
+not_refuted F conflicts (part ∷ list) (Stopped r ∷ answers) all h = (inr (r, all.0), not_refuted F conflicts list answers all.1 h)
+not_refuted F conflicts (part ∷ list) (Refuted r ∷ answers) all h = absurd h
 
 -- the places of a part in the list of kept positions
 record HasPlaces (F : Cnf) (kept part : List ℕ) : Type 0 where
@@ -172,7 +164,7 @@ matching_parts F r list spelled h same =
     subst (λ (ps : List (List ℕ)). AreMatchingParts F ps) same (record { kept = r.kept; kernel = kernel_of F r h.form h.matching; are = h.parts })
 
 -- a refuted part refutes the formula
-refuted : (F : Cnf) (r : MatchingResult) (list : List (List ℕ)) (conflicts : ℕ) (answers : List Answer) (round : Round) → IsSearched F r list
+refuted : (F : Cnf) (r : MatchingResult) (list : List (List ℕ)) (conflicts : ℕ) (answers : List Decision) (round : Round) → IsSearched F r list
     → AreAnswers F conflicts list answers → IsFirstRefutation answers round → IsRefutedWithin F conflicts round
 refuted F r list conflicts answers round h all c =
     let d = divided F conflicts (Refuted round) list c.before c.behind (as_divided F conflicts list answers _ c.answers_are all) in
@@ -199,7 +191,7 @@ refuted F r list conflicts answers round h all c =
     }
 
 -- what is learned over a part makes an unfinished round of the formula
-stopped : (F : Cnf) (r : MatchingResult) (list : List (List ℕ)) (conflicts : ℕ) (answers : List Answer) (round : Round) → conflicts < 2 ^ 63 → IsSearched F r list
+stopped : (F : Cnf) (r : MatchingResult) (list : List (List ℕ)) (conflicts : ℕ) (answers : List Decision) (round : Round) → conflicts < 2 ^ 63 → IsSearched F r list
     → AreAnswers F conflicts list answers → IsFirstStop answers round → IsUndecidedWithin F conflicts round
 stopped F r list conflicts answers round most h all c =
     let d = divided F conflicts (Stopped round) list (models c.before) c.behind (as_divided F conflicts list answers _ c.answers_are all) in
@@ -228,7 +220,7 @@ stopped F r list conflicts answers round most h all c =
       };
     }
 
-pub solved_by : (F : Cnf) (r : MatchingResult) (list : List (List ℕ)) (conflicts : ℕ) (answers : List Answer) (solved : Decision) → conflicts < 2 ^ 63 → IsSearched F r list
+pub solved_by : (F : Cnf) (r : MatchingResult) (list : List (List ℕ)) (conflicts : ℕ) (answers : List Decision) (solved : Decision) → conflicts < 2 ^ 63 → IsSearched F r list
     → AreAnswers F conflicts list answers → IsAmongAnswers answers solved → IsSolved F conflicts solved
 solved_by F r list conflicts answers (Model lits) most h all c = absurd c
 solved_by F r list conflicts answers (Refuted round) most h all c = refuted F r list conflicts answers round h all c
@@ -242,17 +234,17 @@ results_of F kept conflicts [] [] each all = tt
 results_of F kept conflicts [] (set ∷ sets) each all = absurd all
 results_of F kept conflicts (part ∷ parts) [] each all = absurd all
 results_of F kept conflicts (part ∷ parts) (set ∷ sets) each all = (
-  solve_model_law.part F kept part set (is_rising (clauses_at F kept) part each.0) (decided_at F (told kept part) conflicts (Model set) all.0),
+  solve_model_law.part F kept part set (is_rising (clauses_at F kept) part each.0) all.0,
   results_of F kept conflicts parts sets each.1 all.1,
 )
 
-pub kernel_models : (F : Cnf) (kept : List ℕ) (list : List (List ℕ)) (conflicts : ℕ) (answers : List Answer) (sets : List (List ℤ)) → AreKernelParts F kept list
+pub kernel_models : (F : Cnf) (kept : List ℕ) (list : List (List ℕ)) (conflicts : ℕ) (answers : List Decision) (sets : List (List ℤ)) → AreKernelParts F kept list
     → AreAnswers F conflicts list answers → answers ≡ models sets → AreKernelModels F kept sets
 kernel_models F kept list conflicts answers sets h all is = record {
   parts = h.parts;
   are = h.are;
   each = results_of F kept conflicts h.parts sets h.are.each
-      (subst (λ (ps : List (List ℕ)). AreAnswers F conflicts ps (models sets)) h.told_are (subst (λ (given : List Answer). AreAnswers F conflicts list given) is all));
+      (subst (λ (ps : List (List ℕ)). AreAnswers F conflicts ps (models sets)) h.told_are (subst (λ (given : List Decision). AreAnswers F conflicts list given) is all));
 }
 
 -- RESULTS THAT KEEP NOTHING
@@ -350,12 +342,12 @@ both_ok (Ok x) P Q S f p q = f x p q
 both_ok (Err e) P Q S f p q = tt
 
 -- no decision
-abbrev pub nothing : Answer
-nothing = Ok (Model [])
+abbrev pub nothing : Decision
+nothing = Model []
 
 -- answers that each are one for the part at their place
-pub answers_from : (F : Cnf) (conflicts : ℕ) (parts : List (List ℕ)) (answers : List Answer) → length answers ≡ length parts
-    → ((k : ℕ) → k < length parts → IfOk (get_or answers k nothing) (IsDecision F (get_or parts k []) conflicts)) → AreAnswers F conflicts parts answers
+pub answers_from : (F : Cnf) (conflicts : ℕ) (parts : List (List ℕ)) (answers : List Decision) → length answers ≡ length parts
+    → ((k : ℕ) → k < length parts → IsDecision F (get_or parts k []) conflicts (get_or answers k nothing)) → AreAnswers F conflicts parts answers
 answers_from F conflicts [] [] e each = tt
 answers_from F conflicts [] (a ∷ answers) e each = absurd (omega (arith, e))
 answers_from F conflicts (part ∷ parts) [] e each = absurd (omega (arith, e))

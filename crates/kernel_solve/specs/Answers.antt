@@ -1,52 +1,48 @@
 -- What is decided of all parts.
-use Rattle.std.specs.Prelude.{◌≡◌, ℕ, List, [], ◌∷◌, ◌++◌, ⊤, map, ℤ, Option, Some, None, Result, Ok, IfOk}
+use Rattle.std.specs.Prelude.{◌≡◌, ℕ, List, [], ◌∷◌, ◌++◌, ⊤, map, ℤ, Option, Some, None}
 use Rattle.lk_model.specs.Formulas.Formula.{Cnf}
 use Rattle.lk_model.specs.declared.document.Round.{Round}
-use Rattle.lk_model.specs.declared.list.OutOfMemory.{OutOfMemory}
 use Rattle.part_formula.specs.Decisions.{Decision, IsDecision}
 use Rattle.lk_model.specs.declared.decided.Decided.TheVariants.{Model, Refuted, Stopped}
 
-abbrev pub Answer : Type 0
-Answer = Result Decision OutOfMemory
-
 -- one answer for each of these parts
-abbrev pub AreAnswers : Cnf → ℕ → List (List ℕ) → List Answer → Type 0
+abbrev pub AreAnswers : Cnf → ℕ → List (List ℕ) → List Decision → Type 0
 AreAnswers F conflicts [] [] = ⊤
-AreAnswers F conflicts (part ∷ parts) (answer ∷ answers) = IfOk answer (IsDecision F part conflicts) × AreAnswers F conflicts parts answers
+AreAnswers F conflicts (part ∷ parts) (answer ∷ answers) = IsDecision F part conflicts answer × AreAnswers F conflicts parts answers
 AreAnswers F conflicts _ _ = ⊥
 
 -- the answers that these models are
-abbrev pub models : List (List ℤ) → List Answer
-models sets = map (λ (lits : List ℤ). Ok (Model lits)) sets
+abbrev pub models : List (List ℤ) → List Decision
+models sets = map (λ (lits : List ℤ). Model lits) sets
 
 -- each is a model, or a round that stopped
-abbrev pub AreNotRefuted : List Answer → Type 0
+abbrev pub AreNotRefuted : List Decision → Type 0
 AreNotRefuted [] = ⊤
-AreNotRefuted (Ok (Model lits) ∷ answers) = AreNotRefuted answers
-AreNotRefuted (Ok (Stopped r) ∷ answers) = AreNotRefuted answers
+AreNotRefuted (Model lits ∷ answers) = AreNotRefuted answers
+AreNotRefuted (Stopped r ∷ answers) = AreNotRefuted answers
 AreNotRefuted _ = ⊥
 
 -- the first refutation: before it stand models and rounds that stopped
-pub record IsFirstRefutation (answers : List Answer) (r : Round) : Type 0 where
-  pub before : List Answer
-  pub behind : List Answer
-  pub answers_are : answers ≡ before ++ Ok (Refuted r) ∷ behind
+pub record IsFirstRefutation (answers : List Decision) (r : Round) : Type 0 where
+  pub before : List Decision
+  pub behind : List Decision
+  pub answers_are : answers ≡ before ++ Refuted r ∷ behind
   pub others : AreNotRefuted before
 
 -- without a refutation, the first round that stopped: before it stand models
-pub record IsFirstStop (answers : List Answer) (r : Round) : Type 0 where
+pub record IsFirstStop (answers : List Decision) (r : Round) : Type 0 where
   pub before : List (List ℤ)
-  pub behind : List Answer
-  pub answers_are : answers ≡ models before ++ Ok (Stopped r) ∷ behind
+  pub behind : List Decision
+  pub answers_are : answers ≡ models before ++ Stopped r ∷ behind
   pub others : AreNotRefuted behind
 
 -- the first refutation, or where there is none the first round that stopped
-abbrev pub IsAmongAnswers : List Answer → Decision → Type 0
+abbrev pub IsAmongAnswers : List Decision → Decision → Type 0
 IsAmongAnswers answers (Model lits) = ⊥
 IsAmongAnswers answers (Refuted r) = IsFirstRefutation answers r
 IsAmongAnswers answers (Stopped r) = IsFirstStop answers r
 
 -- of some answers without a refutation: models as long as no round stopped, and then the first round that did
-abbrev pub IsGatheredSoFar : List Answer → List (List ℤ) → Option Round → Type 0
+abbrev pub IsGatheredSoFar : List Decision → List (List ℤ) → Option Round → Type 0
 IsGatheredSoFar answers sets None = answers ≡ models sets
 IsGatheredSoFar answers sets (Some r) = IsFirstStop answers r

@@ -8,7 +8,7 @@ use Rattle.lk_model.specs.declared.result.GeneralResult.{GeneralResult}
 use Rattle.general_laws.specs.GeneralResults.{AreGeneralResults}
 use Rattle.autarky_compose.specs.JoinedGeneral.{AreJoined}
 use Rattle.renaming_laws.specs.Renaming.{nth}
-use Rattle.part_formula.specs.Decisions.{are_filled, sets_only}
+use Rattle.part_copy.specs.Found.{are_filled, sets_only}
 
 -- what stands at the places of a part in the list of kept positions
 abbrev pub told : List ℕ → List ℕ → List ℕ

@@ -12,7 +12,7 @@ use Rattle.lk_model.specs.declared.result.MatchingResult.{MatchingResult}
 use Rattle.matching_laws.specs.MatchingResults.{IsMatchingResult, set_line}
 use Rattle.general_laws.specs.ForeignLaw.{IsAmongForeign}
 use Rattle.general_laws.specs.GeneralResults.{IsGeneralResult}
-use Rattle.part_formula.specs.Decisions.{IsPartModel, sets_only}
+use Rattle.part_copy.specs.Found.{IsPartModel, sets_only}
 use Rattle.kernel_solve.specs.KernelParts.{IsKernelPart, told}
 
 -- A part of the matching kernel has positions of the formula, and each other clause has a variable that the part does not

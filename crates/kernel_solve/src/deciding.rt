@@ -7,7 +7,7 @@ ghost use Rattle.kernel_solve.specs.KernelParts.{IsFilledPart};
 ghost use Rattle.kernel_solve.specs.Answers.{AreAnswers, IsAmongAnswers, models};
 
 use lk_model::{Budget, Decided, Formula, List, Lit, OutOfMemory, Round};
-use par_parts::{Gate, map_halves};
+use par_parts::{Gate, all_ok, map_halves};
 use part_formula::{Decision, decide_part};
 use std::alloc::Global;
 use std::marker::Sync;
@@ -23,19 +23,20 @@ pub(crate) fn decisions<R: Threads + Sync, G: Gate>(
     list: &[List<u32>],
     conflicts: Budget,
     workers: u32,
-) -> Result<List<Result<Decision, OutOfMemory>>, OutOfMemory>
+) -> Result<List<Decision>, OutOfMemory>
     requires parts { AllByRecursion (IsFilledPart f.now) list.now }
     requires workers { 1 ≤ workers }
     ensures { IfOk result (AreAnswers f.now conflicts list.now) }
 {
-    map_halves(
+    let answers = map_halves(
         rt,
         alloc,
         gate,
         list,
         workers,
         &|_, part| decision_of(alloc, f, part, conflicts),
-    )
+    )?;
+    all_ok(alloc, answers)
 }
 
 // What is decided of a part.
@@ -55,14 +56,14 @@ fn decision_of(
 /// all models.
 pub(crate) fn gather(
     alloc: Global,
-    answers: List<Result<Decision, OutOfMemory>>,
+    answers: List<Decision>,
 ) -> Result<ControlFlow<Decision, List<List<Lit>>>, OutOfMemory>
     ensures { IfOk result (λ flow. MatchControlFlow flow (λ sets. answers ≡ models sets) (IsAmongAnswers answers)) }
 {
     let mut models = List::new(alloc);
     let mut stopped = None;
     for answer in answers.into_vec() {
-        match answer? {
+        match answer {
             Decided::Model(model) => models.push(model)?,
             Decided::Refuted(round) => return Ok(ControlFlow::Break(Decided::Refuted(round))),
             Decided::Stopped(round) => stopped = Some(first_of(stopped, round)),

@@ -2,7 +2,7 @@
 ghost use Rattle.std.specs.Prelude.{map, IfOk};
 ghost use Rattle.lk_model.specs.Formulas.Formula.{positions_of};
 ghost use Rattle.matching_laws.specs.MatchingResults.{IsMatchingResult};
-ghost use Rattle.part_formula.specs.Decisions.{sets_only};
+ghost use Rattle.part_copy.specs.Found.{sets_only};
 ghost use Rattle.autarky_compose.specs.JoinedGeneral.{AreJoinable};
 ghost use Rattle.kernel_solve.specs.KernelParts.{AreKernelModels, IsJoinedModel};
 ghost use Rattle.kernel_solve.specs.Solutions.{IsTotalModel};

@@ -17,6 +17,4 @@ pub use gates::{FirstItem, Meeting};
 pub use given::{append, push, set_of};
 pub use lk_model::makes_clause;
 pub use told::{put_literals, put_round, put_rounds, put_steps};
-pub use written::{
-    formula_of_text, large_number_of, literals_of_text, number_of, numbers_of_text, part_of_text,
-};
+pub use written::{formula_of_text, literals_of_text, number_of, numbers_of_text, part_of_text};

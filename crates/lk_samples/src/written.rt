@@ -13,11 +13,6 @@ pub fn number_of(text: &str) -> u32 {
     text.trim().parse().unwrap_or(0)
 }
 
-/// The number of 64 bits that a text writes, and 0 if it writes none.
-pub fn large_number_of(text: &str) -> u64 {
-    text.trim().parse().unwrap_or(0)
-}
-
 /// The numbers that a text has, with blanks between them, and 0 for a word that is no number.
 pub fn numbers_of_text(alloc: Global, text: &str) -> Result<Vec<u32>, AllocError> {
     let mut numbers = Vec::new(alloc);

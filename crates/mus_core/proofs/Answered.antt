@@ -14,7 +14,7 @@ use Rattle.lk_model.proofs.Founds.{up_to_bounds}
 use Rattle.lk_model.proofs.Ranks.{literal_bounds}
 use Rattle.kernel_laws.proofs.Assignments.{satisfying, satisfied_at}
 use Rattle.general_laws.proofs.Flips.{by_value, true_set, value_true, still_true}
-use Rattle.part_formula.specs.Decisions.{are_filled, IsPartModel}
+use Rattle.part_copy.specs.Found.{are_filled, IsPartModel}
 use Rattle.lk_model.specs.Chains.Rounds.{empty_round, is_trimmed, reached}
 use Rattle.lk_model.specs.Checks.RoundChecks.{learned_steps}
 use Rattle.lk_model.specs.declared.document.Round.{Round}

@@ -1,6 +1,4 @@
-pub mod Naming
-pub mod Narrowing
-pub mod Copying
+pub mod Flagging
 pub mod Telling
 pub mod Rotated
 pub mod ShrunkCores

@@ -1,12 +1,11 @@
 -- What is decided of parts, told of the formula.
-use Rattle.std.proofs.Common.{◌≡◌, true, ℕ, zero, suc, ◌+◌, ◌<◌, ◌≤◌, List, [], ◌∷◌, ◌++◌, take, length, map, get_or, refl, sym, ◌∙◌, ap, subst, arith, ℤ, Option, Some, None, Contains, inl, inr}
+use Rattle.std.proofs.Common.{◌≡◌, ℕ, zero, suc, ◌+◌, ◌<◌, ◌≤◌, List, [], ◌∷◌, ◌++◌, take, length, get_or, refl, sym, ◌∙◌, ap, subst, arith, ℤ, Option, Some, None, Contains, inl, inr}
 use Rattle.std.specs.Prelude.{IfSome, unwrap_or}
 use Rattle.std.specs.List.{AllByRecursion}
 use Rattle.std.proofs.lemmas.List.{append-nil, append_assoc}
 use Rattle.lk_model.specs.Lists.{among}
 use Rattle.lk_model.specs.Formulas.Assignment.{assignment_of}
 use Rattle.lk_model.specs.Formulas.Formula.{Cnf, positions_of}
-use Rattle.lk_model.specs.Formulas.Lean.{are_positions}
 use Rattle.lk_model.specs.Formulas.Minimal.{IsSatisfiable}
 use Rattle.lk_model.specs.Formulas.Parts.{AreParts}
 use Rattle.lk_model.specs.declared.document.Round.{Round}
@@ -15,31 +14,13 @@ use Rattle.general_laws.specs.Found.{IsUnfinished}
 use Rattle.general_laws.specs.GeneralResults.{IsGeneralResult, AreGeneralResults}
 use Rattle.autarky_compose.specs.JoinedGeneral.{AreJoinable, AreJoined, all_kept, rounds_behind}
 use Rattle.autarky_compose.proofs.GeneralLaws.{joined_general_law}
-use Rattle.part_formula.specs.Decisions.{IsPartModel, IsPartRefuted, sets_only}
-use Rattle.renaming_laws.specs.Renaming.{nth}
-use Rattle.renaming_laws.proofs.Copies.{part_length}
-use Rattle.mus_core.specs.declared.deciding.Copied.{Copied}
-use Rattle.mus_core.specs.declared.deciding.Refutation.{Refutation}
+use Rattle.part_copy.specs.Found.{IsPartModel, IsPartRefuted, sets_only}
 use Rattle.mus_core.specs.declared.by_parts.Stop.{Stop}
 use Rattle.mus_core.specs.declared.mus.Mus.TheVariants.{Unfinished}
-use Rattle.mus_core.specs.Copies.{IsCopy, IsRefutedWithin}
 use Rattle.mus_core.specs.Found.{IsMus, IsNotRefuted}
-use Rattle.mus_core.specs.ByParts.{AreModels, IsFirstStop, IsRefutedPart, IsStop}
-use Rattle.mus_core.proofs.Copying.{rising_told}
+use Rattle.mus_core.specs.ByParts.{AreModels, IsFirstStop, IsStop}
 
 -- REFUTATIONS
-
--- what refutes a copy's clauses at some places refutes those at the positions there
-pub refuted_there : (c : Copied) (conflicts : ℕ) (r : Refutation) (positions : List ℕ) → IsCopy c → positions ≡ map (nth c.part.now) r.places → IsRefutedWithin c conflicts r
-    → IsRefutedPart c.formula.now conflicts (record { positions = positions; round = r.round })
-refuted_there c conflicts r positions copy is h =
-    let F = c.formula.now in
-    let G = c.clauses.now in
-    record {
-      positions = subst (λ (ps : List ℕ). are_positions F ps ≡ true) (sym is)
-          (rising_told c.part.now (length F.clauses) (length G.clauses) r.places copy.part (part_length F G c.part.now c.names.now copy.dense) h.places);
-      refuted = subst (λ (ps : List ℕ). IsPartRefuted F ps conflicts r.round) (sym is) h.refuted;
-    }
 
 -- a greater budget allows it too
 pub more_allowed : {F : Cnf} {part : List ℕ} {less conflicts : ℕ} {r : Round} → less ≤ conflicts → IsPartRefuted F part less r → IsPartRefuted F part conflicts r

@@ -19,10 +19,10 @@ use Rattle.lk_model.proofs.Rising.{bounded}
 use Rattle.general_laws.proofs.WitnessLaws.{witness_law}
 use Rattle.occurrence_lists.specs.Occurrences.{AreOccurrences}
 use Rattle.mus_core.specs.declared.rotation.Rotating.{Rotating}
-use Rattle.mus_core.specs.Named.{flag_at}
+use Rattle.mus_core.specs.Flags.{flag_at}
 use Rattle.mus_core.specs.Rotations.{fails, IsOnly, IsRotating, IsWitnessOf, WentOn}
 use Rattle.mus_core.specs.WitnessValues.{witness_at, AreHeld, IsRotated}
-use Rattle.mus_core.proofs.Naming.{one_more}
+use Rattle.mus_core.proofs.Flagging.{one_more}
 
 -- A WITNESS IS PUT
 

@@ -14,19 +14,18 @@ use Rattle.lk_model.proofs.Counting.{Differ, Differ-filter, Differ-range, fewer,
 use Rattle.lk_model.proofs.Lists.{among_here, among_later, in_mapped, place_of}
 use Rattle.lk_model.proofs.Rising.{bounded, filter_rises}
 use Rattle.general_laws.proofs.WitnessLaws.{witness_law}
-use Rattle.part_formula.specs.Decisions.{IsPartModel, IsPartRefuted}
 use Rattle.renaming_laws.specs.Renaming.{nth}
 use Rattle.renaming_laws.proofs.Copies.{part_length}
 use Rattle.renaming_laws.proofs.Mapped.{rising_same}
 use Rattle.renaming_laws.proofs.Told.{told, told_rise, nth_told}
-use Rattle.mus_core.specs.declared.deciding.Copied.{Copied}
-use Rattle.mus_core.specs.declared.deciding.Refutation.{Refutation}
-use Rattle.mus_core.specs.Copies.{IsCopy, IsRefutedWithin}
+use Rattle.part_copy.specs.Copies.{Copy, IsCopy}
+use Rattle.part_copy.specs.Found.{IsPartModel, IsPartRefuted}
+use Rattle.part_copy.proofs.SubCopies.{rising_told, told_twice, told_there}
+use Rattle.part_formula.specs.declared.deciding.Refuted.{Refuted}
 use Rattle.mus_core.specs.Found.{LeavesOneOut}
 use Rattle.lk_model.specs.Formulas.Minimal.{all_but}
 use Rattle.mus_core.specs.WitnessValues.{witness_at, is_open, IsRotated}
-use Rattle.mus_core.specs.Shrinking.{IsShrunk, left_open, IsNext}
-use Rattle.mus_core.proofs.Copying.{rising_told, told_twice, told_there}
+use Rattle.mus_core.specs.Shrinking.{IsRefutedWithin, IsShrunk, left_open, IsNext}
 
 -- LISTS
 
@@ -64,33 +63,33 @@ none_at zero k = refl
 none_at (suc m) zero = refl
 none_at (suc m) (suc k) = none_at m k
 
-pub begins : (c : Copied) (conflicts : ℕ) (r : Refutation) (ws : List (Option (List (Option Bool)))) → IsRefutedWithin c conflicts r → ws ≡ replicate (length c.clauses.now.clauses) None
-    → length ws ≡ length c.clauses.now.clauses → IsShrunk c conflicts r ws
+pub begins : (c : Copy) (conflicts : ℕ) (r : Refuted) (ws : List (Option (List (Option Bool)))) → IsRefutedWithin c conflicts r → ws ≡ replicate (length c.clauses.clauses) None
+    → length ws ≡ length c.clauses.clauses → IsShrunk c conflicts r ws
 begins c conflicts r ws refuted is size = record {
   refuted = refuted;
   held = record {
     size = size;
-    vars = λ p. subst (λ (o : Option (List (Option Bool))). IfSome o (λ values. length values ≡ c.clauses.now.vars)) (sym (none p)) tt;
+    vars = λ p. subst (λ (o : Option (List (Option Bool))). IfSome o (λ values. length values ≡ c.clauses.vars)) (sym (none p)) tt;
     witnesses = λ p values m e. absurd (let n = none p in let f : ⊥ = cc in f);
   };
 }
   where
     none : (p : ℕ) → witness_at ws p ≡ None
-    none p = ap (λ (us : List (Option (List (Option Bool)))). witness_at us p) is ∙ none_at (length c.clauses.now.clauses) (p - 1)
+    none p = ap (λ (us : List (Option (List (Option Bool)))). witness_at us p) is ∙ none_at (length c.clauses.clauses) (p - 1)
 
-pub next : (c : Copied) (conflicts : ℕ) (r : Refutation) (ws : List (Option (List (Option Bool)))) (p : ℕ) → IsShrunk c conflicts r ws
-    → find (λ p. not (is_some (witness_at ws p))) r.places ≡ Some p → IsNext c r ws p
+pub next : (c : Copy) (conflicts : ℕ) (r : Refuted) (ws : List (Option (List (Option Bool)))) (p : ℕ) → IsShrunk c conflicts r ws
+    → find (λ p. not (is_some (witness_at ws p))) r.used ≡ Some p → IsNext c r ws p
 next c conflicts r ws p h e =
-    let w = found_at (λ p. not (is_some (witness_at ws p))) r.places p e in
-    let b = bounded 0 (length c.clauses.now.clauses) r.places p h.refuted.places w.0 in
+    let w = found_at (λ p. not (is_some (witness_at ws p))) r.used p e in
+    let b = bounded 0 (length c.clauses.clauses) r.used p h.refuted.places w.0 in
     record { there = w.0; none = not-true (is_some (witness_at ws p)) w.1; first = b.0; last = b.1 }
 
 -- THE OTHER PLACES
 
-pub others_rise : (c : Copied) (conflicts : ℕ) (r : Refutation) (others : List ℕ) (p : ℕ) → IsRefutedWithin c conflicts r → others ≡ filter (λ q. not (q == p)) r.places
-    → are_positions c.clauses.now others ≡ true
-others_rise c conflicts r others p h is = subst (λ (ps : List ℕ). are_positions c.clauses.now ps ≡ true) (sym is)
-    (filter_rises 0 (length c.clauses.now.clauses) (λ q. not (q == p)) r.places h.places)
+pub others_rise : (c : Copy) (conflicts : ℕ) (r : Refuted) (others : List ℕ) (p : ℕ) → IsRefutedWithin c conflicts r → others ≡ filter (λ q. not (q == p)) r.used
+    → are_positions c.clauses others ≡ true
+others_rise c conflicts r others p h is = subst (λ (ps : List ℕ). are_positions c.clauses ps ≡ true) (sym is)
+    (filter_rises 0 (length c.clauses.clauses) (λ q. not (q == p)) r.used h.places)
 
 -- A WITNESS MORE
 
@@ -110,76 +109,76 @@ is_witness G T others places p lits values is rest model by q m =
     (subst (λ (c : List ℤ). satisfies (assignment_of lits) c ≡ true) same (model.satisfied (suc w.0) inside refl))
 
 -- a place that has a witness is no longer open
-pub fewer_open : (c : Copied) (r : Refutation) (ws us : List (Option (List (Option Bool)))) (p : ℕ) → IsNext c r ws p
-    → IsRotated c.clauses.now (among r.places) ws us → is_some (witness_at us p) ≡ true → left_open c.clauses.now r.places us < left_open c.clauses.now r.places ws
+pub fewer_open : (c : Copy) (r : Refuted) (ws us : List (Option (List (Option Bool)))) (p : ℕ) → IsNext c r ws p
+    → IsRotated c.clauses (among r.used) ws us → is_some (witness_at us p) ≡ true → left_open c.clauses r.used us < left_open c.clauses r.used ws
 fewer_open c r ws us p n rotated given =
-    fewer_left (is_open r.places ws) (is_open r.places us) (positions_of G) p (Differ-range 1 (length G.clauses)) still
+    fewer_left (is_open r.used ws) (is_open r.used us) (positions_of G) p (Differ-range 1 (length G.clauses)) still
     (among-range 1 (length G.clauses) p n.first (let l = n.last in omega (arith, l)))
-    (and_from (among r.places p) (not (is_some (witness_at ws p))) n.there (not_from_false (is_some (witness_at ws p)) n.none))
-    (closed (among r.places p) (is_some (witness_at us p)) given)
+    (and_from (among r.used p) (not (is_some (witness_at ws p))) n.there (not_from_false (is_some (witness_at ws p)) n.none))
+    (closed (among r.used p) (is_some (witness_at us p)) given)
   where
     G : Cnf
-    G = c.clauses.now
+    G = c.clauses
 
     closed : (a b : Bool) → b ≡ true → (a && not b) ≡ false
     closed true true e = refl
     closed true false e = absurd (let f : ⊥ = cc in f)
     closed false b e = refl
 
-    still : (q : ℕ) → is_open r.places us q ≡ true → is_open r.places ws q ≡ true
+    still : (q : ℕ) → is_open r.used us q ≡ true → is_open r.used ws q ≡ true
     still q e =
-        let both = and_true (among r.places q) (not (is_some (witness_at us q))) e in
-        and_from (among r.places q) (not (is_some (witness_at ws q))) both.0
+        let both = and_true (among r.used q) (not (is_some (witness_at us q))) e in
+        and_from (among r.used q) (not (is_some (witness_at ws q))) both.0
         (not_from_false (is_some (witness_at ws q)) (false_from_ne_true (is_some (witness_at ws q)) (λ had.
         both_ways (is_some (witness_at us q)) (not-true (is_some (witness_at us q)) both.1) (rotated.kept q had))))
 
 -- A SMALLER SET
 
-pub smaller : (c s : Copied) (conflicts : ℕ) (r q : Refutation) (ws : List (Option (List (Option Bool)))) (others places : List ℕ) (p : ℕ) → IsShrunk c conflicts r ws → IsNext c r ws p
-    → others ≡ filter (λ q. not (q == p)) r.places → s.formula.now ≡ c.formula.now → s.part.now ≡ map (nth c.part.now) others
-    → s.clauses.now ≡ clauses_at c.clauses.now others → IsRefutedWithin s conflicts q → places ≡ map (nth others) q.places
-    → IsShrunk c conflicts (record { places = places; round = q.round }) ws × (left_open c.clauses.now places ws < left_open c.clauses.now r.places ws)
+pub smaller : (c s : Copy) (conflicts : ℕ) (r q : Refuted) (ws : List (Option (List (Option Bool)))) (others places : List ℕ) (p : ℕ) → IsShrunk c conflicts r ws → IsNext c r ws p
+    → others ≡ filter (λ q. not (q == p)) r.used → s.formula ≡ c.formula → s.part ≡ map (nth c.part) others
+    → s.clauses ≡ clauses_at c.clauses others → IsRefutedWithin s conflicts q → places ≡ map (nth others) q.used
+    → IsShrunk c conflicts (record { round = q.round; used = places }) ws × (left_open c.clauses places ws < left_open c.clauses r.used ws)
 smaller c s conflicts r q ws others places p h n rest formula part clauses refuted is = (
   record {
     refuted = record {
-      places = subst (λ (ps : List ℕ). are_positions G ps ≡ true) (sym is) (rising_told others m (length others) q.places rise refl more);
-      refuted = subst (λ (ps : List ℕ). IsPartRefuted c.formula.now ps conflicts q.round) (sym told)
-          (subst (λ (F : Cnf). IsPartRefuted F (map (nth s.part.now) q.places) conflicts q.round) formula refuted.refuted);
+      places = subst (λ (ps : List ℕ). are_positions G ps ≡ true) (sym is) (rising_told others m (length others) q.used rise refl more);
+      refuted = subst (λ (ps : List ℕ). IsPartRefuted c.formula ps conflicts q.round) (sym told)
+          (subst (λ (F : Cnf). IsPartRefuted F (map (nth s.part) q.used) conflicts q.round) formula refuted.refuted);
     };
     held = record {
       size = h.held.size;
       vars = h.held.vars;
       witnesses = λ k values there e.
-          witness_law.stays G (among r.places) (among places) k (assignment_by values) inside (h.held.witnesses k values (inside k there) e);
+          witness_law.stays G (among r.used) (among places) k (assignment_by values) inside (h.held.witnesses k values (inside k there) e);
     };
   },
-  fewer_left (is_open r.places ws) (is_open places ws) (positions_of G) p (Differ-range 1 m)
-      (λ k e. let both = and_true (among places k) (not (is_some (witness_at ws k))) e in and_from (among r.places k) (not (is_some (witness_at ws k))) (inside k both.0) both.1)
+  fewer_left (is_open r.used ws) (is_open places ws) (positions_of G) p (Differ-range 1 m)
+      (λ k e. let both = and_true (among places k) (not (is_some (witness_at ws k))) e in and_from (among r.used k) (not (is_some (witness_at ws k))) (inside k both.0) both.1)
       (among-range 1 m p n.first (let l = n.last in omega (arith, l)))
-      (and_from (among r.places p) (not (is_some (witness_at ws p))) n.there (not_from_false (is_some (witness_at ws p)) n.none))
+      (and_from (among r.used p) (not (is_some (witness_at ws p))) n.there (not_from_false (is_some (witness_at ws p)) n.none))
       (ap (λ (b : Bool). b && not (is_some (witness_at ws p))) gone),
 )
   where
     G : Cnf
-    G = c.clauses.now
+    G = c.clauses
 
     m : ℕ
-    m = length c.clauses.now.clauses
+    m = length c.clauses.clauses
 
-    rise : are_positions c.clauses.now others ≡ true
+    rise : are_positions c.clauses others ≡ true
     rise = others_rise c conflicts r others p h.refuted rest
 
-    more : rises_within 0 (length others) q.places ≡ true
-    more = subst (λ (k : ℕ). rises_within 0 k q.places ≡ true) (ap (λ (H : Cnf). length H.clauses) clauses ∙ length-map others (clause_at c.clauses.now)) refuted.places
+    more : rises_within 0 (length others) q.used ≡ true
+    more = subst (λ (k : ℕ). rises_within 0 k q.used ≡ true) (ap (λ (H : Cnf). length H.clauses) clauses ∙ length-map others (clause_at c.clauses)) refuted.places
 
-    told : map (nth c.part.now) places ≡ map (nth s.part.now) q.places
-    told = ap (map (nth c.part.now)) is ∙ told_twice c.part.now others q.places more ∙ ap (λ (ps : List ℕ). map (nth ps) q.places) (sym part)
+    told : map (nth c.part) places ≡ map (nth s.part) q.used
+    told = ap (map (nth c.part)) is ∙ told_twice c.part others q.used more ∙ ap (λ (ps : List ℕ). map (nth ps) q.used) (sym part)
 
-    kept : (k : ℕ) → among places k ≡ true → (not (k == p) ≡ true) × (among r.places k ≡ true)
-    kept k there = from_filter (λ q. not (q == p)) r.places k (subst (λ (ps : List ℕ). among ps k ≡ true) rest
-        (told_there others q.places k more (subst (λ (ps : List ℕ). among ps k ≡ true) is there)))
+    kept : (k : ℕ) → among places k ≡ true → (not (k == p) ≡ true) × (among r.used k ≡ true)
+    kept k there = from_filter (λ q. not (q == p)) r.used k (subst (λ (ps : List ℕ). among ps k ≡ true) rest
+        (told_there others q.used k more (subst (λ (ps : List ℕ). among ps k ≡ true) is there)))
 
-    inside : (k : ℕ) → among places k ≡ true → among r.places k ≡ true
+    inside : (k : ℕ) → among places k ≡ true → among r.used k ≡ true
     inside k there = (kept k there).1
 
     gone : among places p ≡ false
@@ -206,22 +205,22 @@ others_told f p (q ∷ ps) same =
     ]
 
 -- a search without the clause at the place of a refuted set
-pub one_left_out : (c : Copied) (conflicts : ℕ) (r : Refutation) (ws : List (Option (List (Option Bool)))) (others part : List ℕ) (p : ℕ) → IsCopy c → IsShrunk c conflicts r ws → IsNext c r ws p
-    → others ≡ filter (λ q. not (q == p)) r.places → part ≡ map (nth c.part.now) others → LeavesOneOut c.formula.now conflicts part
+pub one_left_out : (c : Copy) (conflicts : ℕ) (r : Refuted) (ws : List (Option (List (Option Bool)))) (others part : List ℕ) (p : ℕ) → IsCopy c → IsShrunk c conflicts r ws → IsNext c r ws p
+    → others ≡ filter (λ q. not (q == p)) r.used → part ≡ map (nth c.part) others → LeavesOneOut c.formula conflicts part
 one_left_out c conflicts r ws others part p copy h n rest is =
-    let F = c.formula.now in
-    let G = c.clauses.now in
-    let whole = map (nth c.part.now) r.places in
-    let len = part_length F G c.part.now c.names.now copy.dense in
+    let F = c.formula in
+    let G = c.clauses in
+    let whole = map (nth c.part) r.used in
+    let len = part_length F G c.part c.names copy.dense in
     record {
       whole = whole;
-      positions = rising_told c.part.now (length F.clauses) (length G.clauses) r.places copy.part len h.refuted.places;
+      positions = rising_told c.part (length F.clauses) (length G.clauses) r.used copy.part len h.refuted.places;
       round = r.round;
       refuted = h.refuted.refuted;
-      left_out = nth c.part.now p;
-      there = in_mapped (nth c.part.now) r.places p n.there;
-      others = is ∙ ap (map (nth c.part.now)) rest ∙ others_told (nth c.part.now) p r.places (λ q there.
-          let b = bounded 0 (length G.clauses) r.places q h.refuted.places there in
+      left_out = nth c.part p;
+      there = in_mapped (nth c.part) r.used p n.there;
+      others = is ∙ ap (map (nth c.part)) rest ∙ others_told (nth c.part) p r.used (λ q there.
+          let b = bounded 0 (length G.clauses) r.used q h.refuted.places there in
           let low = b.0 in let high = b.1 in let first = n.first in let last = n.last in
-          same_place c.part.now (length F.clauses) p q copy.part (omega (arith, first)) (omega (arith, last, len)) (omega (arith, low)) (omega (arith, high, len)));
+          same_place c.part (length F.clauses) p q copy.part (omega (arith, first)) (omega (arith, last, len)) (omega (arith, low)) (omega (arith, high, len)));
     }

@@ -14,7 +14,7 @@ use Rattle.lk_model.specs.declared.document.Round.{Round}
 use Rattle.lk_model.specs.declared.result.MusResult.{MusResult}
 use Rattle.general_laws.specs.Found.{IsUnfinished}
 use Rattle.general_laws.specs.CoreLaw.{IsCore}
-use Rattle.part_formula.specs.Decisions.{IsPartRefuted}
+use Rattle.part_copy.specs.Found.{IsPartRefuted}
 use Rattle.mus_core.specs.declared.mus.Mus.{Mus}
 use Rattle.mus_core.specs.declared.mus.Mus.TheVariants.{Core, Model, Unfinished}
 

@@ -1,6 +1,5 @@
 pub mod Found
-pub mod Named
-pub mod Copies
+pub mod Flags
 pub mod WitnessValues
 pub mod Rotations
 pub mod Shrinking

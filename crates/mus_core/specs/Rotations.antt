@@ -8,7 +8,7 @@ use Rattle.lk_model.specs.Formulas.Minimal.{all_but, with_made_true}
 use Rattle.lk_model.specs.Held.PartialValues.{assignment_by}
 use Rattle.occurrence_lists.specs.Occurrences.{AreOccurrences}
 use Rattle.mus_core.specs.declared.rotation.Rotating.{Rotating}
-use Rattle.mus_core.specs.Named.{flag_at}
+use Rattle.mus_core.specs.Flags.{flag_at}
 use Rattle.mus_core.specs.WitnessValues.{IsRotated}
 
 -- the lists are those of the clauses, and what is flagged are places of them

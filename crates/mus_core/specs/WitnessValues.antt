@@ -1,8 +1,8 @@
 -- Witnesses for places of a refuted set.
-use Rattle.std.specs.Prelude.{length, ◌≡◌, ℕ, ◌-◌, Bool, not, ◌&&◌, List, [], map, ℤ, Option, Some, None, is_some, slice_index_or, IfSome, IsTrue}
+use Rattle.std.specs.Prelude.{length, ◌≡◌, ℕ, ◌-◌, Bool, not, ◌&&◌, List, [], ◌∷◌, ⊤, ℤ, Option, Some, None, is_some, slice_index_or, IfSome, IsTrue}
 use Rattle.std.specs.Option.{option_map_or}
 use Rattle.lk_model.specs.Lists.{among}
-use Rattle.lk_model.specs.Formulas.Formula.{Cnf, variable_occurs}
+use Rattle.lk_model.specs.Formulas.Formula.{Cnf}
 use Rattle.lk_model.specs.Formulas.Crossed.{Variables}
 use Rattle.lk_model.specs.Formulas.Autarky.{Positions}
 use Rattle.lk_model.specs.Formulas.Minimal.{all_but}
@@ -10,8 +10,8 @@ use Rattle.lk_model.specs.Held.PartialValues.{assignment_by}
 use Rattle.lk_model.specs.Formulas.Assignment.{IsModel}
 use Rattle.lk_model.specs.declared.document.Without.{Without}
 use Rattle.general_kernel.specs.SetLiterals.{literals_on}
-use Rattle.renaming_laws.specs.Renaming.{named, nth}
-use Rattle.mus_core.specs.declared.deciding.Copied.{Copied}
+use Rattle.renaming_laws.specs.Renaming.{nth}
+use Rattle.part_copy.specs.Copies.{Copy, AreTold}
 
 -- the values for a place, where there are some
 abbrev pub witness_at : List (Option (List (Option Bool))) → ℕ → Option (List (Option Bool))
@@ -25,16 +25,16 @@ literals_of n on values = literals_on on (assignment_by values) n
 abbrev pub literals_at : ℕ → Variables → List (Option (List (Option Bool))) → ℕ → List ℤ
 literals_at n on ws p = option_map_or (literals_of n on) (witness_at ws p) []
 
--- told of the formula
-abbrev pub line_on : Copied → Variables → List (Option (List (Option Bool))) → ℕ → Without
-line_on c on ws p = record {
-  pos = nth c.part.now p;
-  lits = map (named c.names.now) (literals_at c.clauses.now.vars on ws p);
-}
+-- The line of a place: its position, and those literals, in the formula's numbers.
+pub record IsLine (c : Copy) (on : Variables) (ws : List (Option (List (Option Bool)))) (p : ℕ) (w : Without) : Type 0 where
+  pub pos : w.pos ≡ nth c.part p
+  pub lits : AreTold c (literals_at c.clauses.vars on ws p) w.lits
 
--- on variables of the clauses at some places
-abbrev pub line_at : Copied → List ℕ → List (Option (List (Option Bool))) → ℕ → Without
-line_at c places = line_on c (variable_occurs c.clauses.now places)
+-- one for each of these places
+abbrev pub AreLines : Copy → Variables → List (Option (List (Option Bool))) → List ℕ → List Without → Type 0
+AreLines c on ws [] [] = ⊤
+AreLines c on ws (p ∷ places) (w ∷ lines) = IsLine c on ws p w × AreLines c on ws places lines
+AreLines c on ws _ _ = ⊥
 
 -- values for places, of all variables; those for a place of the set satisfy the clauses at all others of it
 pub record AreHeld (F : Cnf) (S : Positions) (ws : List (Option (List (Option Bool)))) : Type 0 where

@@ -6,19 +6,16 @@ ghost use Rattle.std.specs.Prelude.{◌≡◌, unwrap_or, IfOk, IsTrue};
 ghost use Rattle.lk_model.specs.Formulas.Formula.{positions_of};
 ghost use Rattle.lk_model.specs.Formulas.Lean.{are_positions};
 ghost use Rattle.lk_model.specs.Formulas.Parts.{AreParts};
-ghost use Rattle.part_formula.specs.Decisions.{are_filled, sets_only};
-ghost use Rattle.mus_core.specs.Copies.{IsCopy};
+ghost use Rattle.part_copy.specs.Found.{are_filled, sets_only};
 ghost use Rattle.mus_core.specs.ByParts.{IsDecidedByParts, IsPartDecided};
 
-use crate::deciding::{Copied, Open, decide_copy};
 use crate::mus::Mus;
-use crate::shrinking::told_places;
 use autarky_compose::join_general;
 use cdcl_core::Schedule;
-use lk_model::{Budget, Decided, Formula, GeneralResult, List, Lit, OutOfMemory, Round};
+use lk_model::{Budget, Decided, Formula, GeneralResult, List, Lit, OutOfMemory};
 use par_parts::parts;
-use part_formula::{dense_formula, names_of};
-use result_renaming::Renaming;
+use part_copy::{OpenRound, PartCopy};
+use part_formula::{Refuted, decide_clauses};
 use std::alloc::Global;
 
 /// How many clauses each order may learn of a part when all parts are searched for the first time.
@@ -29,7 +26,7 @@ pub(crate) fn decide_by_parts(
     alloc: Global,
     f: &Formula,
     conflicts: Budget,
-) -> Result<Decided<List<Lit>, RefutedPart, Mus>, OutOfMemory>
+) -> Result<Decided<List<Lit>, Refuted, Mus>, OutOfMemory>
     requires { IsTrue (are_filled f.now (positions_of f.now)) }
     ensures { IfOk result (IsDecidedByParts f.now conflicts) }
 {
@@ -52,7 +49,7 @@ fn decide_each(
     f: &Formula,
     list: &[List<u32>],
     conflicts: Budget,
-) -> Result<Decided<List<Lit>, RefutedPart, Mus>, OutOfMemory>
+) -> Result<Decided<List<Lit>, Refuted, Mus>, OutOfMemory>
     requires parts { AreParts f.now list.now }
     requires filled { IsTrue (are_filled f.now (positions_of f.now)) }
     ensures { IfOk result (IsDecidedByParts f.now conflicts) }
@@ -76,18 +73,11 @@ fn decide_each(
     }
 }
 
-/// A refutation, and the positions of the clauses that its chains name, ascending.
-#[derive(Drop)]
-pub(crate) struct RefutedPart {
-    pub positions: List<u32>,
-    pub round: Round,
-}
-
 /// A search over a part that stopped.
 #[derive(Drop)]
 pub(crate) struct Stop {
     pub part: List<u32>,
-    pub open: Open,
+    pub open: OpenRound,
 }
 
 // What is decided of a part, in a copy of its own, by all orders of variables, which alternate.
@@ -96,51 +86,23 @@ fn decide_part(
     f: &Formula,
     part: &[u32],
     conflicts: Budget,
-) -> Result<Decided<List<Lit>, RefutedPart, Stop>, OutOfMemory>
+) -> Result<Decided<List<Lit>, Refuted, Stop>, OutOfMemory>
     requires part { IsTrue (are_positions f.now part.now) }
     requires filled { IsTrue (are_filled f.now (positions_of f.now)) }
     ensures { IfOk result (IsPartDecided f.now conflicts part.now) }
 {
-    // (by it contracts see that the formula is one)
-    let _vars = f.vars();
-    let names = names_of(alloc, f, part)?;
-    let clauses = dense_formula(alloc, f, part, &names)?;
-    let copied = Copied {
-        formula: f,
-        part,
-        names: &names,
-        clauses: &clauses,
-    };
-    tell_decided(alloc, &copied, conflicts)
-}
-
-// What is decided of a copy, told of the formula.
-fn tell_decided(
-    alloc: Global,
-    of: &Copied,
-    conflicts: Budget,
-) -> Result<Decided<List<Lit>, RefutedPart, Stop>, OutOfMemory>
-    requires { IsCopy of.now }
-    ensures { IfOk result (IsPartDecided of.now.formula.now conflicts of.now.part.now) }
-{
-    match decide_copy(alloc, of, &mut Schedule::for_cores(), conflicts)? {
-        Decided::Model(set) => {
-            let renaming = Renaming {
-                positions: of.part.len() as u64,
-                last: u64::from(of.formula.len()),
-                part: of.part,
-                names: of.names,
-            };
-            Ok(Decided::Model(renaming.literals(set)))
+    let copy = PartCopy::of(alloc, f, part)?;
+    match decide_clauses(alloc, copy.clauses(), &mut Schedule::for_cores(), conflicts)? {
+        Decided::Model(set) => Ok(Decided::Model(copy.literals(set))),
+        Decided::Refuted(found) => Ok(Decided::Refuted(Refuted {
+            round: copy.refutation(alloc, found.round)?,
+            used: copy.positions(found.used),
+        })),
+        Decided::Stopped(round) => {
+            let open = copy.open_alone(alloc, round)?;
+            let part = copy.into_part();
+            Ok(Decided::Stopped(Stop { part, open }))
         }
-        Decided::Refuted(refutation) => Ok(Decided::Refuted(RefutedPart {
-            positions: told_places(alloc, of.part, refutation.places.as_slice())?,
-            round: refutation.round,
-        })),
-        Decided::Stopped(open) => Ok(Decided::Stopped(Stop {
-            part: List::from_vec(Vec::from_slice(alloc, of.part)?),
-            open,
-        })),
     }
 }
 

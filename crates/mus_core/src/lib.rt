@@ -2,9 +2,8 @@
 #![tactic(auto)]
 
 mod by_parts;
-mod deciding;
+mod flags;
 mod mus;
-mod named;
 mod rotation;
 mod search;
 mod shrinking;

@@ -19,11 +19,11 @@ ghost use Rattle.lk_model.specs.Formulas.Minimal.{all_but, with_made_true};
 ghost use Rattle.lk_model.specs.Formulas.Assignment.{makes_true, satisfies, IsModel};
 ghost use Rattle.lk_model.specs.Held.PartialValues.{assignment_by};
 ghost use Rattle.occurrence_lists.specs.Occurrences.{AreOccurrences};
-ghost use Rattle.mus_core.specs.Named.{flag_at};
+ghost use Rattle.mus_core.specs.Flags.{flag_at};
 ghost use Rattle.mus_core.specs.WitnessValues.{AreHeld, IsRotated, witness_at};
 ghost use Rattle.mus_core.specs.Rotations.{fails, IsOnly, IsRotating, IsWitnessOf, WentOn};
 
-use crate::named::{flag_at, flags_of};
+use crate::flags::{flag_at, flags_of};
 use crate::witnesses::Witnesses;
 use lk_model::{Formula, Lit, OutOfMemory};
 use occurrence_lists::OccurrenceLists;

@@ -1,19 +1,17 @@
 //! A minimally unsatisfiable core of a formula, or a model of it.
-ghost use Rattle.std.specs.Prelude.{◌≡◌, IfOk, IsTrue};
+ghost use Rattle.std.specs.Prelude.{IfOk, IsTrue};
 ghost use Rattle.lk_model.specs.Formulas.Formula.{positions_of};
-ghost use Rattle.lk_model.specs.Formulas.Lean.{are_positions};
-ghost use Rattle.part_formula.specs.Decisions.{are_filled, IsPartModel};
-ghost use Rattle.renaming_laws.specs.Renaming.{IsDense};
-ghost use Rattle.mus_core.specs.ByParts.{IsRefutedPart};
+ghost use Rattle.part_copy.specs.Found.{are_filled, IsPartModel};
+ghost use Rattle.mus_core.specs.ByParts.{IsRefutedSet};
 ghost use Rattle.mus_core.specs.Found.{IsMus, IsWholeModel, TakesEmpty};
 
-use crate::by_parts::{RefutedPart, decide_by_parts};
-use crate::deciding::{Copied, Refutation};
+use crate::by_parts::decide_by_parts;
 use crate::mus::Mus;
 use crate::shrinking::shrink;
 use empty_clauses::{empty_core, first_empty};
 use lk_model::{Budget, Decided, Formula, List, Lit, OutOfMemory};
-use part_formula::{dense_formula, names_of};
+use part_copy::PartCopy;
+use part_formula::Refuted;
 use partial_assign::{Partial, assignment_of, extend_total};
 use std::alloc::Global;
 
@@ -58,51 +56,15 @@ fn whole_model(alloc: Global, f: &Formula, set: &[Lit]) -> Result<List<Lit>, Out
 fn minimal_of_refuted(
     alloc: Global,
     f: &Formula,
-    found: RefutedPart,
+    found: Refuted,
     conflicts: Budget,
 ) -> Result<Mus, OutOfMemory>
     requires filled { IsTrue (are_filled f.now (positions_of f.now)) }
-    requires refuted { IsRefutedPart f.now conflicts found }
+    requires refuted { IsRefutedSet f.now conflicts found }
     ensures { IfOk result (IsMus f.now conflicts) }
 {
-    let RefutedPart { positions, round } = found;
-    let part = positions.as_slice();
-    let first = FirstCore::of(alloc, f, part)?;
-    let places = first.places;
-    let core = Copied {
-        formula: f,
-        part,
-        names: &first.names,
-        clauses: &first.clauses,
-    };
-    shrink(alloc, &core, Refutation { places, round }, conflicts)
-}
-
-/// The clauses that a refutation names: their variables and a copy of them.
-#[derive(Drop)]
-pub(crate) struct FirstCore {
-    pub names: Vec<u32>,
-    pub clauses: Formula,
-    /// All places in the copy.
-    pub places: List<u32>,
-}
-
-impl FirstCore {
-    // Those at some positions.
-    fn of(alloc: Global, f: &Formula, part: &[u32]) -> Result<FirstCore, OutOfMemory>
-        requires { IsTrue (are_positions f.now part.now) }
-        ensures dense { IfOk result (λ core. IsDense f.now part.now core.names.items core.clauses) }
-        ensures places { IfOk result (λ core. core.places ≡ positions_of core.clauses) }
-    {
-        // (by it contracts see that the formula is one)
-        let _vars = f.vars();
-        let names = names_of(alloc, f, part)?;
-        let clauses = dense_formula(alloc, f, part, &names)?;
-        let places = clauses.positions(alloc)?;
-        Ok(FirstCore {
-            names,
-            clauses,
-            places,
-        })
-    }
+    let core = PartCopy::of(alloc, f, found.used.as_slice())?;
+    let used = core.clauses().positions(alloc)?;
+    let round = found.round;
+    shrink(alloc, &core, Refuted { round, used }, conflicts)
 }

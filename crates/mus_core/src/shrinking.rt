@@ -8,14 +8,12 @@
 //! Here the clauses of the first set are copied once under numbers of their own, so that no decision costs the
 //! formula. The last refutation is kept, in the formula's numbers, and its chains name positions of the core alone,
 //! since all later answers are models.
-ghost use Rattle.std.specs.Prelude.{◌≡◌, ◌==◌, None, filter, not, map, length, replicate, IfOk};
+ghost use Rattle.std.specs.Prelude.{◌≡◌, ◌==◌, None, filter, not, length, replicate, IfOk, IsTrue};
 ghost use Rattle.occurrence_lists.specs.Occurrences.{AreOccurrences};
-ghost use Rattle.renaming_laws.specs.Renaming.{nth};
-ghost use Rattle.mus_core.specs.Copies.{IsCopy, IsRefutedWithin};
+ghost use Rattle.part_copy.specs.Found.{are_filled};
 ghost use Rattle.mus_core.specs.Found.{IsMus};
-ghost use Rattle.mus_core.specs.Shrinking.{IsNext, IsShrunk, IsLeftOut};
+ghost use Rattle.mus_core.specs.Shrinking.{IsNext, IsRefutedWithin, IsShrunk, IsLeftOut};
 
-use crate::deciding::{Copied, Refutation, decide_copy};
 use crate::mus::Mus;
 use crate::rotation::give;
 use crate::told_core::told_core;
@@ -23,8 +21,10 @@ use crate::witnesses::{Witnesses, first_open};
 use cdcl_core::Schedule;
 use lk_model::{Budget, Decided, Formula, List, OutOfMemory};
 use occurrence_lists::OccurrenceLists;
+use part_copy::{OpenRound, PartCopy};
+use part_formula::{Refuted, decide_clauses};
 use partial_assign::assignment_of;
-use result_renaming::nth;
+use result_renaming::positions_at;
 use std::alloc::Global;
 
 /// How many clauses each order of variables learns in a slice of a decision.
@@ -33,15 +33,15 @@ const SLICE: u64 = 300;
 /// Leaves out clauses of a refuted set until each has a witness.
 pub(crate) fn shrink(
     alloc: Global,
-    core: &Copied,
-    refutation: Refutation,
+    core: &PartCopy,
+    refutation: Refuted,
     conflicts: Budget,
 ) -> Result<Mus, OutOfMemory>
-    requires copy { IsCopy core.now }
+    requires filled { IsTrue (are_filled core.now.formula core.now.part) }
     requires refuted { IsRefutedWithin core.now conflicts refutation }
-    ensures { IfOk result (IsMus core.now.formula.now conflicts) }
+    ensures { IfOk result (IsMus core.now.formula conflicts) }
 {
-    let mut tables = Tables::new(alloc, core.clauses)?;
+    let mut tables = Tables::new(alloc, core.clauses())?;
     shrink_by(
         alloc,
         core,
@@ -81,21 +81,21 @@ impl Tables {
 // One place after another.
 fn shrink_by(
     alloc: Global,
-    core: &Copied,
+    core: &PartCopy,
     lists: &OccurrenceLists,
-    refutation: Refutation,
+    refutation: Refuted,
     witnesses: &mut Witnesses,
     schedule: &mut Schedule,
     conflicts: Budget,
 ) -> Result<Mus, OutOfMemory>
-    requires copy { IsCopy core.now }
-    requires lists { AreOccurrences core.now.clauses.now lists.now }
+    requires filled { IsTrue (are_filled core.now.formula core.now.part) }
+    requires lists { AreOccurrences core.now.clauses lists.now }
     requires shrunk { IsShrunk core.now conflicts refutation witnesses.old }
-    ensures { IfOk result (IsMus core.now.formula.now conflicts) }
+    ensures { IfOk result (IsMus core.now.formula conflicts) }
 {
     let mut refutation = refutation;
     'clauses: loop {
-        match first_open(refutation.places.as_slice(), witnesses) {
+        match first_open(refutation.used.as_slice(), witnesses) {
             None => {
                 let found = told_core(alloc, core, refutation, witnesses)?;
                 return Ok(Mus::Core(found));
@@ -126,7 +126,7 @@ pub(crate) enum LeftOut {
     /// With the same refutation.
     Kept,
     /// With this refutation.
-    On(Refutation),
+    On(Refuted),
     /// Not at all.
     Ended(Mus),
 }
@@ -134,45 +134,38 @@ pub(crate) enum LeftOut {
 // Leaves out the clause at a place without a witness.
 fn leave_out(
     alloc: Global,
-    core: &Copied,
+    core: &PartCopy,
     lists: &OccurrenceLists,
-    refutation: &Refutation,
+    refutation: &Refuted,
     witnesses: &mut Witnesses,
     schedule: &mut Schedule,
     p: u32,
     conflicts: Budget,
 ) -> Result<LeftOut, OutOfMemory>
-    requires copy { IsCopy core.now }
-    requires lists { AreOccurrences core.now.clauses.now lists.now }
+    requires filled { IsTrue (are_filled core.now.formula core.now.part) }
+    requires lists { AreOccurrences core.now.clauses lists.now }
     requires shrunk { IsShrunk core.now conflicts refutation.now witnesses.old }
     requires next { IsNext core.now refutation.now witnesses.old p }
     ensures { IfOk result (IsLeftOut core.now conflicts refutation.now witnesses.old witnesses.new) }
 {
-    let others = others(alloc, refutation.places.as_slice(), p)?;
-    let part = told_places(alloc, core.part, others.as_slice())?;
-    let clauses = core.clauses.clauses_at(alloc, others.as_slice())?;
-    let rest = Copied {
-        formula: core.formula,
-        part: part.as_slice(),
-        names: core.names,
-        clauses: &clauses,
-    };
-    match decide_copy(alloc, &rest, schedule, conflicts)? {
+    let others = others(alloc, refutation.used.as_slice(), p)?;
+    let rest = core.at(alloc, others.as_slice())?;
+    match decide_clauses(alloc, rest.clauses(), schedule, conflicts)? {
         Decided::Model(set) => {
-            let values = assignment_of(alloc, clauses.vars(), set.as_slice())?;
-            let places = refutation.places.as_slice();
-            give(alloc, core.clauses, lists, places, witnesses, p, values)?;
+            let values = assignment_of(alloc, core.clauses().vars(), set.as_slice())?;
+            let places = refutation.used.as_slice();
+            give(alloc, core.clauses(), lists, places, witnesses, p, values)?;
             Ok(LeftOut::Kept)
         }
-        Decided::Refuted(smaller) => Ok(LeftOut::On(Refutation {
-            places: told_places(alloc, others.as_slice(), smaller.places.as_slice())?,
-            round: smaller.round,
+        Decided::Refuted(smaller) => Ok(LeftOut::On(Refuted {
+            round: rest.refutation(alloc, smaller.round)?,
+            used: positions_at(others.as_slice(), smaller.used),
         })),
-        Decided::Stopped(open) => Ok(LeftOut::Ended(Mus::Unfinished {
-            part,
-            texts: open.texts,
-            round: open.round,
-        })),
+        Decided::Stopped(round) => {
+            let OpenRound { texts, round } = rest.open_alone(alloc, round)?;
+            let part = rest.into_part();
+            Ok(LeftOut::Ended(Mus::Unfinished { part, texts, round }))
+        }
     }
 }
 
@@ -187,19 +180,4 @@ fn others(alloc: Global, places: &[u32], p: u32) -> Result<List<u32>, OutOfMemor
         }
     }
     Ok(others)
-}
-
-/// What stands at the places.
-pub(crate) fn told_places(
-    alloc: Global,
-    part: &[u32],
-    places: &[u32],
-) -> Result<List<u32>, OutOfMemory>
-    ensures { IfOk result (λ ps. ps ≡ map (nth part.now) places.now) }
-{
-    let mut positions = List::new(alloc);
-    for place in places {
-        positions.push(nth(part, u64::from(*place)))?;
-    }
-    Ok(positions)
 }

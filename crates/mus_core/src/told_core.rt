@@ -1,42 +1,35 @@
-//! A core, translated to the numbers of the formula.
-ghost use Rattle.std.specs.Prelude.{◌≡◌, ℕ, None, find, not, is_some, map, length, IfOk, IfSome, IsTrue};
+//! A core, told in the numbers of the formula.
+ghost use Rattle.std.specs.Prelude.{◌≡◌, ℕ, None, find, not, is_some, length, IfOk, IfSome, IsTrue};
+ghost use Rattle.lk_model.specs.Formulas.Formula.{variable_occurs};
 ghost use Rattle.lk_model.specs.Formulas.Lean.{are_positions};
-ghost use Rattle.mus_core.specs.Copies.{IsCopy};
+ghost use Rattle.lk_model.specs.Held.VariableSets.{is_in};
 ghost use Rattle.mus_core.specs.Found.{IsCoreWithin};
 ghost use Rattle.mus_core.specs.Shrinking.{IsShrunk};
-ghost use Rattle.lk_model.specs.Held.VariableSets.{is_in};
-ghost use Rattle.mus_core.specs.WitnessValues.{witness_at, line_at, line_on};
+ghost use Rattle.mus_core.specs.WitnessValues.{witness_at, AreLines, IsLine};
 
-use crate::deciding::{Copied, Refutation};
 use crate::witnesses::Witnesses;
 use lk_model::{List, MusResult, OutOfMemory, VarSet, Without};
-use result_renaming::{Renaming, nth};
+use part_copy::PartCopy;
+use part_formula::Refuted;
 use std::alloc::Global;
 
 /// The core at the places of a refutation, each of which has a witness.
 pub(crate) fn told_core(
     alloc: Global,
-    core: &Copied,
-    refutation: Refutation,
+    core: &PartCopy,
+    refutation: Refuted,
     witnesses: &Witnesses,
 ) -> Result<MusResult, OutOfMemory>
-    requires copy { IsCopy core.now }
-    requires places { IsTrue (are_positions core.now.clauses.now refutation.places) }
+    requires places { IsTrue (are_positions core.now.clauses refutation.used) }
     requires vars { (q : ℕ) →
-        IfSome (witness_at witnesses.now q) (λ values. length values ≡ core.now.clauses.now.vars) }
-    requires each { find (λ p. not (is_some (witness_at witnesses.now p))) refutation.places ≡ None }
+        IfSome (witness_at witnesses.now q) (λ values. length values ≡ core.now.clauses.vars) }
+    requires each { find (λ p. not (is_some (witness_at witnesses.now p))) refutation.used ≡ None }
     ensures { (conflicts : ℕ) → IsShrunk core.now conflicts refutation witnesses.now
-        → IfOk result (IsCoreWithin core.now.formula.now conflicts) }
+        → IfOk result (IsCoreWithin core.now.formula conflicts) }
 {
-    let without = lines(alloc, core, refutation.places.as_slice(), witnesses)?;
-    let renaming = Renaming {
-        positions: core.part.len() as u64,
-        last: u64::from(core.formula.len()),
-        part: core.part,
-        names: core.names,
-    };
+    let without = lines(alloc, core, refutation.used.as_slice(), witnesses)?;
     Ok(MusResult {
-        core: renaming.positions(refutation.places),
+        core: core.positions(refutation.used),
         round: refutation.round,
         without,
     })
@@ -45,18 +38,18 @@ pub(crate) fn told_core(
 // The line for each place.
 fn lines(
     alloc: Global,
-    core: &Copied,
+    core: &PartCopy,
     places: &[u32],
     witnesses: &Witnesses,
 ) -> Result<List<Without>, OutOfMemory>
-    requires copy { IsCopy core.now }
-    requires places { IsTrue (are_positions core.now.clauses.now places.now) }
+    requires places { IsTrue (are_positions core.now.clauses places.now) }
     requires vars { (q : ℕ) →
-        IfSome (witness_at witnesses.now q) (λ values. length values ≡ core.now.clauses.now.vars) }
-    ensures { IfOk result (λ ws. ws ≡ map (line_at core.now places.now witnesses.now) places.now) }
+        IfSome (witness_at witnesses.now q) (λ values. length values ≡ core.now.clauses.vars) }
+    ensures { IfOk result
+        (AreLines core.now (variable_occurs core.now.clauses places.now) witnesses.now places.now) }
 {
-    let mut vars = VarSet::new(alloc, core.clauses.vars())?;
-    vars.add_clauses(core.clauses, places);
+    let mut vars = VarSet::new(alloc, core.clauses().vars())?;
+    vars.add_clauses(core.clauses(), places);
     let mut lines = List::new(alloc);
     for p in places {
         lines.push(line(alloc, core, &vars, witnesses, *p)?)?;
@@ -67,26 +60,18 @@ fn lines(
 // That for one place: literals of its witness on the variables of a set.
 fn line(
     alloc: Global,
-    core: &Copied,
+    core: &PartCopy,
     vars: &VarSet,
     witnesses: &Witnesses,
     p: u32,
 ) -> Result<Without, OutOfMemory>
-    requires copy { IsCopy core.now }
-    requires size { length vars.now ≡ core.now.clauses.now.vars }
+    requires size { length vars.now ≡ core.now.clauses.vars }
     requires vars { (q : ℕ) →
-        IfSome (witness_at witnesses.now q) (λ values. length values ≡ core.now.clauses.now.vars) }
-    ensures { IfOk result (λ w. w ≡ line_on core.now (is_in vars.now) witnesses.now p) }
+        IfSome (witness_at witnesses.now q) (λ values. length values ≡ core.now.clauses.vars) }
+    ensures { IfOk result (IsLine core.now (is_in vars.now) witnesses.now p) }
 {
     let literals = witnesses.literals(alloc, vars, p)?;
-    let renaming = Renaming {
-        positions: core.part.len() as u64,
-        last: u64::from(core.formula.len()),
-        part: core.part,
-        names: core.names,
-    };
-    Ok(Without {
-        pos: nth(core.part, u64::from(p)),
-        lits: renaming.literals(literals),
-    })
+    let lits = core.literals(literals);
+    let pos = core.position(p);
+    Ok(Without { pos, lits })
 }

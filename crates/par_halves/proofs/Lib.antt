@@ -1,1 +1,2 @@
+pub mod AllOk
 pub mod HalfResults

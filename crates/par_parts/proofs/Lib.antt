@@ -1,3 +1,4 @@
+pub mod AllOk
 pub mod OneMore
 pub mod Occurring
 pub mod Labelling

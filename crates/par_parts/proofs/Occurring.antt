@@ -2,7 +2,7 @@
 use Rattle.std.proofs.Common.{◌≡◌, ℕ, zero, suc, ◌+◌, ◌*◌, ◌<◌, ◌≤◌, ◌==◌, ◌∙◌, ◌++◌, [], ◌∷◌, true, List, ℤ, pos, negsuc, nat_le, nat_lt, get_or, length, refl, sym, ap, subst, arith, inl, inr}
 use Rattle.std.specs.List.{list_all}
 use Rattle.std.specs.Prelude.{filter}
-use Rattle.std.proofs.lemmas.Bool.{and_from, eqb-true, le-leb, leb-true, lt-ltb, cases_lt}
+use Rattle.std.proofs.lemmas.Bool.{and_from, eqb-true, leb-true, lt-ltb, cases_lt}
 use Rattle.std.proofs.lemmas.List.{get_or_past}
 use Rattle.std.proofs.lemmas.List.Folds.{list_any-append}
 use Rattle.lk_model.specs.Lists.{among}

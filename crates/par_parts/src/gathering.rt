@@ -2,10 +2,12 @@
 ghost use Rattle.std.specs.Prelude.{◌≡◌, ◌≢◌, ◌+◌, ◌<◌, ◌≤◌, ℕ, [], length, replicate, slice_index, IfOk};
 ghost use Rattle.lk_model.specs.Formulas.Parts.{AreParts};
 ghost use Rattle.lk_model.specs.Limits.{max_clauses};
+ghost use Rattle.occurrence_lists.specs.Occurrences.{AreOccurrences};
 ghost use Rattle.par_parts.specs.Numbering.{gathered};
 
 use crate::search::number_parts;
 use lk_model::{Formula, List, OutOfMemory};
+use occurrence_lists::OccurrenceLists;
 use std::alloc::Global;
 
 /// The parts of a formula: two positions are in one part where a chain of positions leads from one to the
@@ -14,7 +16,19 @@ use std::alloc::Global;
 pub fn parts(alloc: Global, f: &Formula) -> Result<List<List<u32>>, OutOfMemory>
     ensures { IfOk result (λ parts. AreParts f.now parts) }
 {
-    let found = number_parts(alloc, f)?;
+    parts_by_lists(alloc, f, &OccurrenceLists::new(alloc, f)?)
+}
+
+/// The same, where the lists of the formula are there.
+pub fn parts_by_lists(
+    alloc: Global,
+    f: &Formula,
+    lists: &OccurrenceLists,
+) -> Result<List<List<u32>>, OutOfMemory>
+    requires { AreOccurrences f.now lists.now }
+    ensures { IfOk result (λ parts. AreParts f.now parts) }
+{
+    let found = number_parts(alloc, f, lists)?;
     let lists = gather(alloc, &found.labels, found.roots.len())?;
     Ok(List::from_vec(lists))
 }

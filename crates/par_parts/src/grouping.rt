@@ -9,6 +9,7 @@ ghost use Rattle.par_parts.specs.Groups.{AreGroupNumbers, IsDisjointCover, IsPar
 use crate::gathering::gather;
 use crate::search::number_parts;
 use lk_model::{Formula, List, OutOfMemory};
+use occurrence_lists::OccurrenceLists;
 use std::alloc::Global;
 
 /// The parts of a formula, whole, in at most so many groups. Each group is ascending, and each position
@@ -40,7 +41,7 @@ fn number_groups(alloc: Global, f: &Formula, most: u32) -> Result<Numbers, OutOf
     ensures long { IfOk result (λ g. length g.numbers.items ≤ max_clauses + 1) }
     ensures numbers { IfOk result (λ g. AreGroupNumbers f.now g.numbers.items g.last) }
 {
-    let found = number_parts(alloc, f)?;
+    let found = number_parts(alloc, f, &OccurrenceLists::new(alloc, f)?)?;
     let sizes = sizes(alloc, f, &found.labels, found.roots.len())?;
     let groups = fill(alloc, &sizes, most)?;
     let numbers = renumbered(alloc, &found.labels, &groups.numbers)?;

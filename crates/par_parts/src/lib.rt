@@ -5,6 +5,6 @@ mod gathering;
 mod grouping;
 mod search;
 
-pub use gathering::parts;
+pub use gathering::{parts, parts_by_lists};
 pub use grouping::part_groups;
-pub use par_halves::{Gate, map_halves};
+pub use par_halves::{Gate, all_ok, map_halves};

@@ -4,6 +4,7 @@ ghost use Rattle.std.specs.Prelude.{nat_lt, IfOk, OnOk, IsTrue};
 ghost use Rattle.std.specs.List.{list_all, All};
 ghost use Rattle.lk_model.specs.Limits.{max_clauses};
 ghost use Rattle.lk_model.specs.Formulas.Literal.{variable};
+ghost use Rattle.occurrence_lists.specs.Occurrences.{AreOccurrences};
 ghost use Rattle.par_parts.specs.Positions.{HavePositions, positions_of_variable};
 ghost use Rattle.par_parts.specs.Numbering.{found_of, none_found, labelled, all_labelled, variable_passed};
 ghost use Rattle.par_parts.specs.Numbering.{clause_passed, part_begun, AreLabels, IsSearching, IsSpread, IsUpTo};
@@ -149,14 +150,18 @@ impl Search {
 }
 
 /// The numbers of the parts for all positions, and the least position of each part.
-pub(crate) fn number_parts(alloc: Global, f: &Formula) -> Result<Search, OutOfMemory>
+pub(crate) fn number_parts(
+    alloc: Global,
+    f: &Formula,
+    lists: &OccurrenceLists,
+) -> Result<Search, OutOfMemory>
+    requires { AreOccurrences f.now lists.now }
     ensures labels { IfOk result (λ s. AreLabels f.now s.labels.items s.roots.items) }
     ensures few { IfOk result (λ s. length s.labels.items ≤ max_clauses + 1) }
 {
-    let lists = OccurrenceLists::new(alloc, f)?;
     let mut search = Search::new(alloc, f)?;
     for p in 1..f.len() + 1 {
-        search.pass_position(f, &lists, p)?;
+        search.pass_position(f, lists, p)?;
     }
     Ok(search)
 }

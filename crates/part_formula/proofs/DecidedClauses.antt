@@ -7,7 +7,9 @@ use Rattle.lk_model.specs.Formulas.Formula.{Cnf, IsWithinLimits, is_formula, cla
 use Rattle.lk_model.specs.Formulas.Lean.{are_positions}
 use Rattle.lk_model.specs.Held.PartialValues.{assignment_by}
 use Rattle.lk_model.specs.Held.VariableSets.{IsCrossed, premises_of, is_in}
+use Rattle.lk_model.specs.Formulas.Crossed.{no_variable}
 use Rattle.lk_model.specs.Chains.Chain.{names_of, states_its_clause}
+use Rattle.lk_model.specs.Chains.Rounds.{used_positions, names_within}
 use Rattle.lk_model.specs.Documents.Form.{are_steps, is_whole}
 use Rattle.lk_model.specs.declared.crossed.Crossed.{Crossed}
 use Rattle.lk_model.specs.declared.document.Step.{Step}
@@ -33,7 +35,8 @@ use Rattle.general_kernel.proofs.Needed.{round_of}
 use Rattle.general_kernel.proofs.States.{AreWhole, AreTrimmed, GoesOn, no_trimmed, no_whole, steps_go_on, stated_go_on, learned_go_on, trimmed_more, learned_more, count_whole}
 use Rattle.general_kernel.proofs.NextRounds.{IsNextRound, refuted}
 use Rattle.general_laws.proofs.PartResults.{no_rounds}
-use Rattle.part_formula.specs.Decisions.{are_filled, IsPartModel, IsPartRefuted}
+use Rattle.general_laws.proofs.JoinLaws.{join_law}
+use Rattle.part_copy.specs.Found.{are_filled, IsPartModel, IsPartRefuted}
 
 -- A MODEL
 
@@ -96,9 +99,27 @@ names_low F part conflicts d log h is =
     let m = ap (λ (G : Cnf). length G.clauses) h.next.formula in
     names_below h.next.over (length F.clauses + 1) log.first log.steps (omega (arith, m)) r.round.form.numbers r.round.chains
 
+-- a refutation of the part, and of what the log uses of it
+pub record AreRefuted (F : Cnf) (part : List ℕ) (conflicts : ℕ) (steps : List Step) (r : Round) : Type 0 where
+  pub part_is : IsPartRefuted F part conflicts r
+  pub used_are : IsPartRefuted F (used_positions F (round_of steps)) conflicts r
+
+-- a needed refutation whose chains name positions of another part alone
+named_alone : (F : Cnf) (part other : List ℕ) (conflicts : ℕ) (r : Round) → IsPartRefuted F part conflicts r → names_within F other (r ∷ []) ≡ true → IsPartRefuted F other conflicts r
+named_alone F part other conflicts r h names = record {
+  refutation = record {
+    steps = h.refutation.steps;
+    whole = h.refutation.whole;
+    stated = join_law.positions F no_variable part other (r ∷ []) (subst (λ (us : List Step). are_steps F.vars (length F.clauses) us ≡ true) (sym (append-nil r.steps)) h.refutation.steps)
+        h.refutation.stated names;
+  };
+  needed = h.needed;
+  most = h.most;
+}
+
 refutation_over : (over : Crossed) (next budget : ℕ) (log : Derivation) → IsCrossed over → is_formula over.formula.now ≡ true
     → over.blocked.now ≡ replicate over.formula.now.vars false → next ≡ length over.formula.now.clauses + 1 → next + budget < 2 ^ 64 - 1
-    → IsRefutedOver over next budget log → IsPartRefuted over.formula.now over.part.now budget (round_of (trimmed next log.steps))
+    → IsRefutedOver over next budget log → AreRefuted over.formula.now over.part.now budget log.steps (round_of (trimmed next log.steps))
 refutation_over over next budget log crossed form blocked is room h =
     let F = over.formula.now in
     let part = over.part.now in
@@ -118,7 +139,7 @@ refutation_over over next budget log crossed form blocked is room h =
     let t = trimmed_more over [] log next budget next after g h trims (subst (λ (bs : List Bool). AreTrimmed F part (is_in bs) []) (sym blocked) (no_trimmed F part)) in
     let learned = learned_more [] (round_of after) in
     let fewer = trims.fewer in
-    record {
+    let whole : IsPartRefuted F part budget (round_of after) = record {
       refutation = record {
         steps = subst (λ (us : List Step). are_steps F.vars (length F.clauses) us ≡ true) (append-nil after) t.steps;
         whole = (and_true (is_whole (round_of after)) true t.whole).0;
@@ -126,12 +147,13 @@ refutation_over over next budget log crossed form blocked is room h =
       };
       needed = t.needed;
       most = omega (arith, learned, fewer, count_whole log.steps h.refutes h.filled, most);
-    }
+    } in
+    record { part_is = whole; used_are = named_alone F part (used_positions F (round_of log.steps)) budget (round_of after) whole (trims.names crossed) }
 
 pub refutation_found : (F : Cnf) (part : List ℕ) (conflicts : ℕ) (d : Outcome) (log : Derivation) (r : Round) → IsFirst F part conflicts d → d ≡ Refuted log
-    → r.steps ≡ trimmed (length F.clauses + 1) log.steps → IsPartRefuted F part conflicts r
+    → r.steps ≡ trimmed (length F.clauses + 1) log.steps → AreRefuted F part conflicts log.steps r
 refutation_found F part conflicts d log r h is steps =
-    subst (λ (us : List Step). IsPartRefuted F part conflicts (record { steps = us })) (sym steps)
+    subst (λ (us : List Step). AreRefuted F part conflicts log.steps (record { steps = us })) (sym steps)
     (at F part h.next.formula h.next.positions h.form h.limits h.positions h.next.blocked)
   where
     over : Crossed
@@ -144,12 +166,12 @@ refutation_found F part conflicts d log r h is steps =
     same = h.next.formula
 
     at : (G : Cnf) (ps : List ℕ) → h.next.over.formula.now ≡ G → h.next.over.part.now ≡ ps → is_formula G ≡ true → IsWithinLimits G → are_positions G ps ≡ true
-        → h.next.over.blocked.now ≡ replicate G.vars false → IsPartRefuted G ps conflicts (record { steps = trimmed (length F.clauses + 1) log.steps })
+        → h.next.over.blocked.now ≡ replicate G.vars false → AreRefuted G ps conflicts log.steps (record { steps = trimmed (length F.clauses + 1) log.steps })
     at G ps e f = subst (λ (H : Cnf). is_formula H ≡ true → IsWithinLimits H → are_positions H ps ≡ true → h.next.over.blocked.now ≡ replicate H.vars false
-        → IsPartRefuted H ps conflicts (record { steps = trimmed (length F.clauses + 1) log.steps })) e
+        → AreRefuted H ps conflicts log.steps (record { steps = trimmed (length F.clauses + 1) log.steps })) e
         (subst (λ (qs : List ℕ). is_formula h.next.over.formula.now ≡ true → IsWithinLimits h.next.over.formula.now → are_positions h.next.over.formula.now qs ≡ true
         → h.next.over.blocked.now ≡ replicate h.next.over.formula.now.vars false
-        → IsPartRefuted h.next.over.formula.now qs conflicts (record { steps = trimmed (length F.clauses + 1) log.steps })) f
+        → AreRefuted h.next.over.formula.now qs conflicts log.steps (record { steps = trimmed (length F.clauses + 1) log.steps })) f
         (λ form limits rise blocked.
         let m = ap (λ (H : Cnf). length H.clauses) same in
         let most = h.most in
@@ -157,6 +179,13 @@ refutation_found F part conflicts d log r h is steps =
         refutation_over h.next.over (length F.clauses + 1) conflicts log
         (record { part = rise; blocked = ap (λ (bs : List Bool). length bs) blocked ∙ length-replicate h.next.over.formula.now.vars false }) form blocked
         (omega (arith, m)) (omega (arith, m, most, clauses)) found))
+
+-- where the log begins
+pub numbers_past : (F : Cnf) (part : List ℕ) (conflicts : ℕ) (d : Outcome) (log : Derivation) → IsFirst F part conflicts d → d ≡ Refuted log → length F.clauses < log.first
+numbers_past F part conflicts d log h is =
+    let r = refuted F part (replicate F.vars false) (length F.clauses + 1) conflicts d log h.next is in
+    let numbered = r.numbered in
+    omega (arith, numbered)
 
 -- LEARNED CLAUSES
 

@@ -1,4 +1,1 @@
-pub mod Naming
-pub mod Copying
 pub mod DecidedClauses
-pub mod ToldDecisions

@@ -1,35 +1,13 @@
 -- Whether the clauses of a part have a model.
-use Rattle.std.specs.Prelude.{ℕ, Bool, not, ◌≤◌, List, [], ◌∷◌, length, ℤ}
-use Rattle.std.specs.List.{list_all}
-use Rattle.lk_model.specs.Lists.{is_empty}
-use Rattle.lk_model.specs.Formulas.Formula.{Cnf, clause_at}
-use Rattle.lk_model.specs.Formulas.Crossed.{no_variable}
-use Rattle.lk_model.specs.Chains.Rounds.{AreNeeded}
-use Rattle.lk_model.specs.Checks.RoundChecks.{learned_steps, IsRefutation}
+use Rattle.std.specs.Prelude.{ℕ, List, [], ◌∷◌, ℤ, IsTrue}
+use Rattle.lk_model.specs.Formulas.Formula.{Cnf, positions_of}
+use Rattle.lk_model.specs.Formulas.Lean.{are_positions}
 use Rattle.lk_model.specs.declared.decided.Decided.{Decided}
 use Rattle.lk_model.specs.declared.decided.Decided.TheVariants.{Model, Refuted, Stopped}
 use Rattle.lk_model.specs.declared.document.Round.{Round}
-use Rattle.lk_model.specs.declared.result.GeneralResult.{GeneralResult}
 use Rattle.general_laws.specs.Found.{IsUnfinished}
-use Rattle.general_laws.specs.GeneralResults.{IsGeneralResult}
-
--- no clause at these positions is empty
-abbrev pub are_filled : Cnf → List ℕ → Bool
-are_filled F part = list_all (λ p. not (is_empty (clause_at F p))) part
-
--- what the general reducer finds where it keeps nothing
-abbrev pub sets_only : List ℤ → GeneralResult
-sets_only lits = record { kept = []; set = lits; rounds = [] }
-
--- Literals on variables of the part, ascending by variable, that satisfy each of its clauses.
-abbrev pub IsPartModel : Cnf → List ℕ → List ℤ → Type 0
-IsPartModel F part lits = IsGeneralResult F part (sets_only lits)
-
--- A refutation of the part's clauses, with at most so many learned clauses. No step is needless.
-pub record IsPartRefuted (F : Cnf) (part : List ℕ) (conflicts : ℕ) (r : Round) : Type 0 where
-  pub refutation : IsRefutation F part r
-  pub needed : AreNeeded F no_variable (r ∷ [])
-  pub most : length (learned_steps (r ∷ [])) ≤ conflicts
+use Rattle.part_copy.specs.Found.{IsPartModel, IsPartRefuted}
+use Rattle.part_formula.specs.declared.deciding.Refuted.{Refuted as Refutation}
 
 -- a `Decision`
 abbrev pub Decision : Type 0
@@ -40,3 +18,15 @@ abbrev pub IsDecision : Cnf → List ℕ → ℕ → Decision → Type 0
 IsDecision F part conflicts (Model lits) = IsPartModel F part lits
 IsDecision F part conflicts (Refuted r) = IsPartRefuted F part conflicts r
 IsDecision F part conflicts (Stopped r) = IsUnfinished F part conflicts (r ∷ [])
+
+-- a refutation of all clauses, which refutes those at the used positions alone
+pub record IsRefuted (F : Cnf) (conflicts : ℕ) (r : Refutation) : Type 0 where
+  pub whole : IsPartRefuted F (positions_of F) conflicts r.round
+  pub used : IsTrue (are_positions F r.used)
+  pub refuted : IsPartRefuted F r.used conflicts r.round
+
+-- likewise of all clauses
+abbrev pub IsDecided : Cnf → ℕ → Decided (List ℤ) Refutation Round → Type 0
+IsDecided F conflicts (Model lits) = IsPartModel F (positions_of F) lits
+IsDecided F conflicts (Refuted r) = IsRefuted F conflicts r
+IsDecided F conflicts (Stopped r) = IsUnfinished F (positions_of F) conflicts (r ∷ [])

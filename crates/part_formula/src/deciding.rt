@@ -5,20 +5,26 @@
 ghost use Rattle.std.specs.Prelude.{◌+◌, ◌<◌, IfOk, IsTrue};
 ghost use Rattle.lk_model.specs.Formulas.Formula.{positions_of};
 ghost use Rattle.lk_model.specs.Formulas.Lean.{are_positions};
-ghost use Rattle.part_formula.specs.Decisions.{are_filled, IsDecision};
+ghost use Rattle.part_copy.specs.Found.{are_filled};
+ghost use Rattle.part_formula.specs.Decisions.{IsDecided, IsDecision};
 
-use crate::dense::dense_formula;
-use crate::names::names_of;
 use cdcl_core::{Schedule, decide_by_schedule};
 use general_kernel::set_of;
 use lk_model::{Budget, Crossed, Decided, Formula, List, Lit, OutOfMemory, Round, VarSet};
-use result_renaming::Renaming;
+use part_copy::PartCopy;
 use std::alloc::Global;
 
 /// What is decided of the clauses of a part of a formula: literals on variables of the part, ascending by variable, that
 /// satisfy each clause; or a refutation, of which no step is needless; or an open round of as many learned clauses as
 /// were allowed, which is not at its end.
 pub type Decision = Decided<List<Lit>, Round, Round>;
+
+/// A refutation of clauses of a formula, and the positions that its chains name, ascending.
+#[derive(Drop)]
+pub struct Refuted {
+    pub round: Round,
+    pub used: List<u32>,
+}
 
 /// Looks for a model of the clauses of a formula at some positions, which ascend and count from 1, by at most
 /// so many learned clauses. None of the clauses is empty. Variables, positions and steps have the formula's
@@ -34,46 +40,24 @@ pub fn decide_part(
     requires filled { IsTrue (are_filled f.now part.now) }
     ensures { IfOk result (IsDecision f.now part.now conflicts) }
 {
-    decide_part_by(alloc, f, part, &mut Schedule::new(), conflicts)
-}
-
-/// The same by the schedule that is handed in.
-pub fn decide_part_by(
-    alloc: Global,
-    f: &Formula,
-    part: &[u32],
-    schedule: &mut Schedule,
-    conflicts: Budget,
-) -> Result<Decision, OutOfMemory>
-    requires part { IsTrue (are_positions f.now part.now) }
-    requires filled { IsTrue (are_filled f.now part.now) }
-    ensures { IfOk result (IsDecision f.now part.now conflicts) }
-{
-    let clauses = u64::from(f.len());
-    let names = names_of(alloc, f, part)?;
-    let dense = dense_formula(alloc, f, part, &names)?;
-    let renaming = Renaming {
-        positions: part.len() as u64,
-        last: clauses,
-        part,
-        names: &names,
-    };
-    match decide_clauses(alloc, &dense, schedule, conflicts)? {
-        Decided::Model(set) => Ok(Decided::Model(renaming.literals(set))),
-        Decided::Refuted(round) => Ok(Decided::Refuted(renaming.only(alloc, round)?)),
-        Decided::Stopped(round) => Ok(Decided::Stopped(renaming.only(alloc, round)?)),
+    let copy = PartCopy::of(alloc, f, part)?;
+    match decide_clauses(alloc, copy.clauses(), &mut Schedule::new(), conflicts)? {
+        Decided::Model(set) => Ok(Decided::Model(copy.literals(set))),
+        Decided::Refuted(found) => Ok(Decided::Refuted(copy.refutation(alloc, found.round)?)),
+        Decided::Stopped(round) => Ok(Decided::Stopped(copy.open(alloc, round)?)),
     }
 }
 
-/// The same of all clauses of a formula, in tables as long as it is.
+/// The same of all clauses of a formula, in tables as long as it is, and by the schedule that is handed in. A
+/// refutation comes with the positions that it uses.
 pub fn decide_clauses(
     alloc: Global,
     f: &Formula,
     schedule: &mut Schedule,
     conflicts: Budget,
-) -> Result<Decision, OutOfMemory>
+) -> Result<Decided<List<Lit>, Refuted, Round>, OutOfMemory>
     requires { IsTrue (are_filled f.now (positions_of f.now)) }
-    ensures { IfOk result (IsDecision f.now (positions_of f.now) conflicts) }
+    ensures { IfOk result (IsDecided f.now conflicts) }
 {
     let all = f.positions(alloc)?;
     let blocked = VarSet::new(alloc, f.vars())?;
@@ -85,7 +69,13 @@ pub fn decide_clauses(
     };
     match decide_by_schedule(alloc, &over, schedule, next, conflicts.get())? {
         Decided::Model(values) => Ok(Decided::Model(set_of(alloc, f, all.as_slice(), &values)?)),
-        Decided::Refuted(log) => Ok(Decided::Refuted(log.trim(next)?)),
+        Decided::Refuted(log) => {
+            let needed = log.trim_used(&over, next)?;
+            Ok(Decided::Refuted(Refuted {
+                round: needed.round,
+                used: needed.used,
+            }))
+        }
         Decided::Stopped(log) => Ok(Decided::Stopped(log.into_round()?)),
     }
 }

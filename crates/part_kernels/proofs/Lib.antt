@@ -1,4 +1,2 @@
 pub mod Founds
 pub mod Made
-pub mod CopiedMatchings
-pub mod RenamedMatchings

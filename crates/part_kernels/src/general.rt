@@ -2,17 +2,19 @@
 //!
 //! Parts share no variable, so each has its kernel by itself, and what rounds over one part show they show
 //! over the whole formula.
-ghost use Rattle.std.specs.Prelude.{◌≡◌, ◌<◌, ◌≤◌, map, Ok, IfOk};
+ghost use Rattle.std.specs.Prelude.{◌≡◌, ◌<◌, ◌≤◌, IfOk};
 ghost use Rattle.std.specs.ControlFlow.{MatchControlFlow};
 ghost use Rattle.std.specs.List.{AllByRecursion};
 ghost use Rattle.lk_model.specs.Formulas.Parts.{IsPart};
+ghost use Rattle.occurrence_lists.specs.Occurrences.{AreOccurrences};
 ghost use Rattle.general_laws.specs.Found.{IsFound};
 ghost use Rattle.part_kernels.specs.ByParts.{AreFound, done, IsFirstOf, IsFoundByParts};
 
 use autarky_compose::join_general;
 use lk_model::{Budget, Formula, General, GeneralResult, List, OutOfMemory, Round};
-use par_parts::{Gate, map_halves, parts};
-use part_formula::kernel_of_part;
+use occurrence_lists::OccurrenceLists;
+use par_parts::{Gate, all_ok, map_halves, parts_by_lists};
+use part_formula::{kernel_of_only_part, kernel_of_part};
 use std::alloc::Global;
 use std::marker::Sync;
 use std::ops::ControlFlow;
@@ -40,28 +42,39 @@ pub fn general_by_parts<R: Threads + Sync, G: Gate>(
     requires workers { 1 ≤ workers }
     ensures { IfOk result (IsFoundByParts f.now conflicts) }
 {
-    let list = parts(alloc, f)?;
-    let answers = answers(rt, alloc, gate, f, list.as_slice(), conflicts, workers)?;
+    let lists = OccurrenceLists::new(alloc, f)?;
+    let list = parts_by_lists(alloc, f, &lists)?;
+    let parts = list.as_slice();
+    let answers = answers(rt, alloc, gate, f, parts, lists, conflicts, workers)?;
     match gather(alloc, answers)? {
         ControlFlow::Continue(found) => Ok(General::Done(join_general(alloc, f.len(), found)?)),
         ControlFlow::Break(rounds) => Ok(General::Unfinished(rounds)),
     }
 }
 
-// What is found in each part, in their order.
+// What is found in each part, in their order. Where there is one part, its search has the lists that it was found by;
+// where there are more, each has its own, and the formula's are gone before.
 fn answers<R: Threads + Sync, G: Gate>(
     rt: &R,
     alloc: Global,
     gate: &G,
     f: &Formula,
     list: &[List<u32>],
+    lists: OccurrenceLists,
     conflicts: Budget,
     workers: u32,
 ) -> Result<List<General>, OutOfMemory>
     requires parts { AllByRecursion (IsPart f.now) list.now }
+    requires lists { AreOccurrences f.now lists }
     requires workers { 1 ≤ workers }
     ensures { IfOk result (AreFound f.now conflicts list.now) }
 {
+    if list.len() == 1 {
+        let mut answers = List::new(alloc);
+        answers.push(kernel_of_only_part(alloc, f, list[0].as_slice(), lists, conflicts)?)?;
+        return Ok(answers);
+    }
+    drop(lists);
     let answers = map_halves(
         rt,
         alloc,
@@ -70,7 +83,7 @@ fn answers<R: Threads + Sync, G: Gate>(
         workers,
         &|_, part| kernel_of(alloc, f, part, conflicts),
     )?;
-    all_answered(alloc, answers)
+    all_ok(alloc, answers)
 }
 
 // What is found in a part.
@@ -84,20 +97,6 @@ fn kernel_of(
     ensures { IfOk result (IsFound f.now part.now conflicts) }
 {
     kernel_of_part(alloc, f, part.as_slice(), conflicts)
-}
-
-// What all answers found, where none wants memory.
-fn all_answered(
-    alloc: Global,
-    answers: List<Result<General, OutOfMemory>>,
-) -> Result<List<General>, OutOfMemory>
-    ensures { IfOk result (λ found. answers ≡ map Ok found) }
-{
-    let mut found = List::new(alloc);
-    for answer in answers.into_vec() {
-        found.push(answer?)?;
-    }
-    Ok(found)
 }
 
 // The kernels, or the first rounds that are not finished.

@@ -5,10 +5,8 @@ mod copied;
 mod general;
 mod laws;
 mod matching;
-mod renaming;
 
 pub use copied::matching_of_part;
 pub use general::general_by_parts;
-pub use laws::{made_law, renamed_matching_law};
+pub use laws::made_law;
 pub use matching::matching_by_parts;
-pub use par_parts::Gate;

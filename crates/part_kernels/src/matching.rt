@@ -3,7 +3,7 @@
 //! Parts share no variable, so each has its kernel by itself. They are handed over in groups, at most one for
 //! each worker, and each group has tables of its own size, so that many workers need little more memory than
 //! one.
-ghost use Rattle.std.specs.Prelude.{◌≡◌, ◌≤◌, List, ℕ, map, Ok, IfOk, IsTrue};
+ghost use Rattle.std.specs.Prelude.{◌≤◌, List, ℕ, IfOk, IsTrue};
 ghost use Rattle.std.specs.List.{AllByRecursion};
 ghost use Rattle.lk_model.specs.Formulas.Formula.{positions_of};
 ghost use Rattle.lk_model.specs.Formulas.Lean.{are_positions};
@@ -14,7 +14,7 @@ use crate::copied::matching_of_part;
 use autarky_compose::join_matching;
 use lk_model::{Formula, List, MatchingResult, OutOfMemory};
 use matching_kernel::matching_kernel;
-use par_parts::{Gate, map_halves, part_groups};
+use par_parts::{Gate, all_ok, map_halves, part_groups};
 use std::alloc::Global;
 use std::marker::Sync;
 use std::thread::Threads;
@@ -69,7 +69,7 @@ fn kernels<R: Threads + Sync, G: Gate>(
         workers,
         &|_, group| kernel_of(alloc, f, group),
     )?;
-    all_found(alloc, answers)
+    all_ok(alloc, answers)
 }
 
 // The matching kernel of a group, in tables of the group's size. One with more than a quarter of the clauses is not
@@ -84,18 +84,4 @@ fn kernel_of(alloc: Global, f: &Formula, group: &List<u32>) -> Result<MatchingRe
     } else {
         matching_of_part(alloc, f, group)
     }
-}
-
-// What all answers found, where none wants memory.
-fn all_found(
-    alloc: Global,
-    answers: List<Result<MatchingResult, OutOfMemory>>,
-) -> Result<List<MatchingResult>, OutOfMemory>
-    ensures { IfOk result (λ found. answers ≡ map Ok found) }
-{
-    let mut found = List::new(alloc);
-    for answer in answers.into_vec() {
-        found.push(answer?)?;
-    }
-    Ok(found)
 }

@@ -3,7 +3,6 @@ use Rattle.std.specs.Prelude.{◌≡◌, ℕ, ◌+◌, ◌-◌, ◌<◌, Bool, i
 use Rattle.std.specs.List.{list_any}
 use Rattle.lk_model.specs.Lists.{among}
 use Rattle.lk_model.specs.Chains.Chain.{names_of}
-use Rattle.lk_model.specs.Chains.Rounds.{reached}
 use Rattle.lk_model.specs.declared.document.Step.{Step}
 
 -- the new number of a number, by a table for the steps from `first` on
@@ -18,12 +17,6 @@ is_marked first marks s = slice_index_or marks (s.number - first) false
 pub record AreNewNumbers (kept : List Bool) (next : ℕ) (numbers : List ℕ) : Type 0 where
   pub count : length numbers ≡ length kept
   pub each : (i : ℕ) → i < length kept → slice_index numbers i ≡ next + count_by (λ b. b) (take i kept)
-
--- a mark for each step that is reached, and new numbers for those with a mark
-pub record IsTrimming (first next : ℕ) (steps : List Step) (marks : List Bool) (numbers : List ℕ) : Type 0 where
-  pub count : length marks ≡ length steps
-  pub each : (k : ℕ) → k < length marks → slice_index_or marks k false ≡ among (reached steps) (first + k)
-  pub new : AreNewNumbers marks next numbers
 
 -- the chain of one of the steps names the number
 abbrev pub is_named : List Step → ℕ → Bool

@@ -13,5 +13,5 @@ mod work;
 
 pub use axioms::axioms_of;
 pub use laws::{form_law, other_premises_law, pushed_law, trimmed_law};
-pub use log::Log;
+pub use log::{Log, Trimmed};
 pub use work::{Work, resolve_into};

@@ -19,10 +19,11 @@ ghost use Rattle.refutation_log.specs.Derivation.{IsLog};
 ghost use Rattle.refutation_log.specs.Trimmed.{trimmed, names_positions_below};
 ghost use Rattle.refutation_log.specs.SameClause.{IsSameClause};
 
-use crate::axioms::positions_used;
+use crate::axioms::{marked_positions, marks_over, positions_used};
 use crate::chain_clause::FlaggedClause;
 use crate::logged_step::{LoggedStep, logged, unlogged};
-use crate::numbers::{kept_steps, trimming};
+use crate::numbers::renumbered;
+use crate::reach::marks_of;
 use crate::work::Work;
 use lk_model::{Crossed, List, Lit, OutOfMemory, Round, Turn};
 use std::alloc::Global;
@@ -47,6 +48,13 @@ impl Model for Log {
     ghost view = { λ l. record { first = l.first; steps = l.steps.items } };
 
     ghost invariant = { λ l. IsLog l.first l.steps.items };
+}
+
+/// What a refutation needs: its steps, and the positions that they use, ascending.
+#[derive(Drop)]
+pub struct Trimmed {
+    pub round: Round,
+    pub used: List<u32>,
 }
 
 impl Log {
@@ -149,6 +157,19 @@ impl Log {
         self.steps[(k - self.first) as usize].clause()
     }
 
+    /// The same log without the memory that served its last chain: a table as long as its greatest
+    /// variable. A log that gets no more steps needs none.
+    pub fn rest(self) -> Log
+        ensures { result ≡ self }
+    {
+        let alloc = *self.steps.allocator();
+        Log {
+            first: self.first,
+            steps: self.steps,
+            flagged: FlaggedClause::new(alloc),
+        }
+    }
+
     /// The positions that the steps use, ascending: those that are reached backwards from the last one.
     /// The log's numbers must be above those of the formula's clauses.
     pub fn used(&self, over: &Crossed) -> Result<List<u32>, OutOfMemory>
@@ -183,10 +204,32 @@ impl Log {
         let first = self.first();
         let steps = self.into_steps();
         let alloc = *steps.allocator();
-        let (marks, numbers) = trimming(alloc, first, &steps, next)?;
+        let marks = marks_of(alloc, 0, first, &steps)?;
         Ok(Round {
-            steps: kept_steps(alloc, steps, first, &marks, &numbers)?,
+            steps: renumbered(alloc, steps, &marks, next)?,
         })
+    }
+
+    /// What `trim` gives, and what `used` gives, by one search backwards from the last step.
+    pub fn trim_used(self, over: &Crossed, next: u64) -> Result<Trimmed, OutOfMemory>
+        requires past { length over.now.formula.now.clauses < self.first }
+        requires whole { IsTrue (is_refutation self.steps) }
+        requires least { next ≤ self.first }
+        requires positions { IsTrue (names_positions_below next self.first self.steps) }
+        ensures steps { IfOk result (λ t. t.round.steps ≡ trimmed next self.steps) }
+        ensures used { IfOk result
+            (λ t. t.used ≡ used_positions over.now.formula.now (record { steps = self.steps })) }
+        ensures log { IsLog self.first self.steps }
+    {
+        let first = self.first();
+        let steps = self.into_steps();
+        let alloc = *steps.allocator();
+        let marks = marks_over(alloc, over, first, &steps)?;
+        let used = marked_positions(alloc, over, &marks)?;
+        let round = Round {
+            steps: renumbered(alloc, steps, &marks, next)?,
+        };
+        Ok(Trimmed { round, used })
     }
 
     // Its steps.

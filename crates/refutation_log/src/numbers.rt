@@ -2,32 +2,34 @@
 ghost use Rattle.std.specs.Prelude.{◌≡◌, ◌+◌, ◌<◌, ◌^◌, ◌∷◌, nat_lt, length, map, filter, IfOk, IsTrue};
 ghost use Rattle.std.specs.List.{list_all};
 ghost use Rattle.lk_model.specs.Chains.Chain.{names_of};
+ghost use Rattle.lk_model.specs.Chains.Rounds.{reached};
 ghost use Rattle.lk_model.specs.declared.document.Turn.{Turn as ATurn};
-ghost use Rattle.refutation_log.specs.Trimmed.{with_numbers};
-ghost use Rattle.refutation_log.specs.Numbers.{number_by_table, is_marked, AreNewNumbers, IsTrimming};
-ghost use Rattle.refutation_log.specs.Derivation.{are_numbered, names_lower};
+ghost use Rattle.refutation_log.specs.Trimmed.{trimmed, with_numbers};
+ghost use Rattle.refutation_log.specs.Numbers.{number_by_table, is_marked, AreNewNumbers};
+ghost use Rattle.refutation_log.specs.Marks.{AreMarks};
+ghost use Rattle.refutation_log.specs.Derivation.{are_numbered, names_lower, IsDerivation};
 
 use crate::logged_step::LoggedStep;
-use crate::reach::marks_of;
+use crate::reach::Marks;
 use lk_model::{List, OutOfMemory, Step, Turn};
 use std::alloc::Global;
 
-/// A mark for each step that is reached backwards from the last one, and for each step its number where those with a
-/// mark are numbered from `next`.
-pub(crate) fn trimming(
+/// The steps with a mark, in their order, and numbered from `next`. Marked must be what is reached
+/// backwards from the last step.
+pub(crate) fn renumbered(
     alloc: Global,
-    first: u64,
-    steps: &Vec<LoggedStep>,
+    steps: Vec<LoggedStep>,
+    marks: &Marks,
     next: u64,
-) -> Result<(Vec<bool>, Vec<u64>), OutOfMemory>
-    requires numbered { IsTrue (are_numbered first steps.now.items) }
-    requires names { IsTrue (list_all names_lower steps.now.items) }
-    requires room { next + length steps.now.items < 2 ^ 64 }
-    ensures { IfOk result (λ t. IsTrimming first next steps.now.items t.0.items t.1.items) }
+) -> Result<List<Step>, OutOfMemory>
+    requires derivation { IsDerivation marks.now.first steps.items }
+    requires reached { AreMarks (reached steps.items) marks.now }
+    requires count { length marks.now.steps.items ≡ length steps.items }
+    requires room { next + length steps.items < 2 ^ 64 }
+    ensures { IfOk result (λ kept. kept ≡ trimmed next steps.items) }
 {
-    let marks = marks_of(alloc, 0, first, steps)?;
     let numbers = new_numbers(alloc, &marks.steps, next)?;
-    Ok((marks.steps, numbers))
+    kept_steps(alloc, steps, marks.first, &marks.steps, &numbers)
 }
 
 // For each step the number at which it stands if it is kept: `next`, and one more for each kept step
@@ -47,8 +49,8 @@ fn new_numbers(alloc: Global, kept: &[bool], next: u64) -> Result<Vec<u64>, OutO
     Ok(numbers)
 }
 
-/// The steps with a mark, with new numbers.
-pub(crate) fn kept_steps(
+// The steps with a mark, with new numbers.
+fn kept_steps(
     alloc: Global,
     steps: Vec<LoggedStep>,
     first: u64,

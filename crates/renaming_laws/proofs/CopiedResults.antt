@@ -82,14 +82,22 @@ abbrev pub result_under : (ℕ → ℕ) → (ℕ → ℕ) → GeneralResult → 
 result_under ν f r = record { kept = map f r.kept; set = map (literal_on ν) r.set; rounds = rounds_under ν f r.rounds }
 
 -- the new numbers of the variables of a set line rise
-set_copied : (F G : Cnf) (ν f : ℕ → ℕ) → IsCopy F G ν f → (ls : List ℤ) → rises_within 0 G.vars (map variable ls) ≡ true
+pub set_copied : (F G : Cnf) (ν f : ℕ → ℕ) → IsCopy F G ν f → (ls : List ℤ) → rises_within 0 G.vars (map variable ls) ≡ true
     → rises_within 0 F.vars (map variable (map (literal_on ν) ls)) ≡ true
 set_copied F G ν f copy ls e =
-    subst (λ (vs : List ℕ). rises_within 0 F.vars vs ≡ true) (sym (map_twice (literal_on ν) variable (λ l. ν (variable l)) copy.copied.renames.on ls))
+    subst (λ (vs : List ℕ). rises_within 0 F.vars vs ≡ true) (sym (map_twice (literal_on ν) variable (λ l. ν (variable l)) copy.copied.numbers.renames.on ls))
     (rises_by variable (λ l. ν (variable l)) G.vars F.vars (λ l k. copy.order.variables (variable l) (variable k)) (λ l. copy.order.most (variable l)) 0 0 above ls e)
   where
     above : (l : ℤ) → 0 < variable l → 0 < ν (variable l)
     above l lt = let up = copy.order.variables 0 (variable l) lt in omega (arith, up)
+
+-- literals satisfy under the new numbers what they satisfied
+pub satisfies_copied : (F G : Cnf) (ν f : ℕ → ℕ) → IsCopy F G ν f → (ls : List ℤ) (p : ℕ)
+    → satisfies (assignment_of (map (literal_on ν) ls)) (clause_at F (f p)) ≡ satisfies (assignment_of ls) (clause_at G p)
+satisfies_copied F G ν f copy ls p =
+    ap (satisfies (assignment_of (map (literal_on ν) ls))) (copy.copied.clauses p)
+    ∙ satisfies_renamed ν (λ k. let up = copy.order.variables 0 (suc k) (omega arith) in omega (arith, up))
+    (assignment_of ls) (assignment_of (map (literal_on ν) ls)) (assignment_renamed ν copy.copied.numbers.renames ls) (clause_at G p)
 
 -- a position that is not kept has a clause that the set line satisfies
 satisfied_copied : (F G : Cnf) (ν f : ℕ → ℕ) → IsCopy F G ν f → (r : GeneralResult) → IsGeneralResult G (positions_of G) r → (p : ℕ)
@@ -97,31 +105,28 @@ satisfied_copied : (F G : Cnf) (ν f : ℕ → ℕ) → IsCopy F G ν f → (r :
 satisfied_copied F G ν f copy r h p inside out =
     let w = from_mapped f (positions_of G) p inside in
     let not_kept : among r.kept w.0 ≡ false =
-    sym (among_renumbered f copy.copied.same r.kept w.0) ∙ ap (among (map f r.kept)) w.2 ∙ out in
-    let old = h.satisfied w.0 w.1 not_kept in
+    sym (among_renumbered f copy.copied.numbers.same r.kept w.0) ∙ ap (among (map f r.kept)) w.2 ∙ out in
     subst (λ (q : ℕ). satisfies (assignment_of (map (literal_on ν) r.set)) (clause_at F q) ≡ true) w.2
-    (ap (satisfies (assignment_of (map (literal_on ν) r.set))) (copy.copied.clauses w.0)
-    ∙ satisfies_renamed ν (λ k. let up = copy.order.variables 0 (suc k) (omega arith) in omega (arith, up))
-    (assignment_of r.set) (assignment_of (map (literal_on ν) r.set)) (assignment_renamed ν copy.copied.renames r.set) (clause_at G w.0) ∙ old)
+    (satisfies_copied F G ν f copy r.set w.0 ∙ h.satisfied w.0 w.1 not_kept)
 
-result_copied : (F G : Cnf) (ν f : ℕ → ℕ) → IsCopy F G ν f → (r : GeneralResult) → length F.clauses + length (steps_of r.rounds) < 2 ^ 64
+pub result_copied : (F G : Cnf) (ν f : ℕ → ℕ) → IsCopy F G ν f → (r : GeneralResult) → length F.clauses + length (steps_of r.rounds) < 2 ^ 64
     → IsGeneralResult G (positions_of G) r → IsGeneralResult F (map f (positions_of G)) (result_under ν f r)
 result_copied F G ν f copy r fits h =
     let g = literal_on ν in
     record {
-      positions = rises_mapped f 0 (length G.clauses) 0 (length F.clauses) r.kept copy.copied.rise copy.copied.low
-          (λ k lt. let up = copy.copied.rise 0 k lt in omega (arith, up)) h.positions;
+      positions = rises_mapped f 0 (length G.clauses) 0 (length F.clauses) r.kept copy.copied.numbers.rise copy.copied.numbers.low
+          (λ k lt. let up = copy.copied.numbers.rise 0 k lt in omega (arith, up)) h.positions;
       within = λ p e.
           let w = from_mapped f r.kept p e in
-          subst (λ (q : ℕ). among (map f (positions_of G)) q ≡ true) w.2 (among_renumbered f copy.copied.same (positions_of G) w.0 ∙ h.within w.0 w.1);
+          subst (λ (q : ℕ). among (map f (positions_of G)) q ≡ true) w.2 (among_renumbered f copy.copied.numbers.same (positions_of G) w.0 ∙ h.within w.0 w.1);
       rounds = certified_copied F G ν f copy r.kept r.rounds fits h.rounds;
       set = set_copied F G ν f copy r.set h.set;
       on_part = λ v m.
-          let w = from_mentioned ν g copy.copied.renames r.set v m in
+          let w = from_mentioned ν g copy.copied.numbers.renames r.set v m in
           subst (λ (u : ℕ). variable_occurs F (map f (positions_of G)) u ≡ true) w.2
           (occurs_renamed F G ν g f copy.copied (positions_of G) w.0 ∙ h.on_part w.0 w.1);
       unkept = λ v m.
-          let w = from_mentioned ν g copy.copied.renames r.set v m in
+          let w = from_mentioned ν g copy.copied.numbers.renames r.set v m in
           subst (λ (u : ℕ). variable_occurs F (map f r.kept) u ≡ false) w.2
           (occurs_renamed F G ν g f copy.copied r.kept w.0 ∙ h.unkept w.0 w.1);
       satisfied = satisfied_copied F G ν f copy r h;
@@ -136,7 +141,7 @@ done_copied F G ν f copy conflicts r fits h =
       kept = ap (map f) h.kept
           ∙ sym (covered_renamed F G ν g f copy.copied (blocked_after G no_variable r.rounds) (blocked_after F no_variable (rounds_under ν f r.rounds)) (blocks_copied F G ν f copy r.rounds) (positions_of G));
       unblocked = λ v m.
-          let w = from_mentioned ν g copy.copied.renames r.set v m in
+          let w = from_mentioned ν g copy.copied.numbers.renames r.set v m in
           subst (λ (u : ℕ). blocked_after F no_variable (rounds_under ν f r.rounds) u ≡ false) w.2
           (blocks_copied F G ν f copy r.rounds w.0 ∙ h.unblocked w.0 w.1);
       most = let e = learned_count g f r.rounds in let few = h.most in omega (arith, e, few);

@@ -11,3 +11,4 @@ pub mod RenamedAssignments
 pub mod RenamedSearches
 pub mod CopiedResults
 pub mod RenamingLaws
+pub mod CrossedCopies

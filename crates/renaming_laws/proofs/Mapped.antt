@@ -58,13 +58,14 @@ map_agrees f g t h [] e = refl
 map_agrees f g t h (x ∷ xs) e = let both = and_true (t x) (list_all t xs) e in rw (h x both.0, map_agrees f g t h xs both.1) refl
 
 -- numbers in a row, told by what stands in a list
-pub row_mapped : (f : ℕ → ℕ) (ns : List ℕ) (a : ℕ) → ((i : ℕ) → i < length ns → f (a + i) ≡ get_or ns i 0) → map f (range_with_len a (length ns)) ≡ ns
-row_mapped f [] a h = refl
-row_mapped f (n ∷ ns) a h =
+pub row_mapped : {X : Type 0} (f : ℕ → X) (xs : List X) (d : X) (a : ℕ) → ((i : ℕ) → i < length xs → f (a + i) ≡ get_or xs i d)
+    → map f (range_with_len a (length xs)) ≡ xs
+row_mapped f [] d a h = refl
+row_mapped {X} f (x ∷ xs) d a h =
     let zero_more : a + 0 ≡ a = omega arith in
-    let first : f a ≡ n = ap f (sym zero_more) ∙ h 0 (omega arith) in
-    ap (λ (k : ℕ). k ∷ map f (range_with_len (a + 1) (length ns))) first
-    ∙ ap (λ (ks : List ℕ). n ∷ ks) (row_mapped f ns (a + 1) (λ i lt. let one_more : a + 1 + i ≡ a + suc i = omega arith in ap f one_more ∙ h (suc i) (omega (arith, lt))))
+    let first : f a ≡ x = ap f (sym zero_more) ∙ h 0 (omega arith) in
+    ap (λ (y : X). y ∷ map f (range_with_len (a + 1) (length xs))) first
+    ∙ ap (λ (ys : List X). x ∷ ys) (row_mapped f xs d (a + 1) (λ i lt. let one_more : a + 1 + i ≡ a + suc i = omega arith in ap f one_more ∙ h (suc i) (omega (arith, lt))))
 
 -- the lists of new numbers, put together
 pub flat_mapped : (f ν : ℕ → ℕ) (h k : ℕ → List ℕ) → ((p : ℕ) → k (f p) ≡ map ν (h p)) → (ps : List ℕ) → flat_map k (map f ps) ≡ map ν (flat_map h ps)

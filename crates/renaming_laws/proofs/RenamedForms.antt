@@ -24,7 +24,7 @@ steps_renamed g f (r ∷ rounds) =
     ap (λ (us : List Step). map (step_under g f) r.steps ++ us) (steps_renamed g f rounds) ∙ sym (map-append (step_under g f) r.steps (steps_of rounds))
 
 -- a round is whole where the old one is
-whole_renamed : (g : ℤ → ℤ) (f : ℕ → ℕ) (steps : List Step) → ends_at_empty (map (step_under g f) steps) ≡ ends_at_empty steps
+pub whole_renamed : (g : ℤ → ℤ) (f : ℕ → ℕ) (steps : List Step) → ends_at_empty (map (step_under g f) steps) ≡ ends_at_empty steps
 whole_renamed g f [] = refl
 whole_renamed g f (s ∷ steps) = rw (empty_mapped g s.clause, empty_mapped (step_under g f) steps, whole_renamed g f steps) refl
 
@@ -163,10 +163,14 @@ forms_renamed n top k m ν g f order (s ∷ steps) next past fits e h =
     and_from _ _ (step_renamed n top k m ν g f order s (omega (arith, shift, is, fits)) forms.0)
     (forms_renamed n top k m ν g f order steps (next + 1) (omega (arith, past)) (omega (arith, fits)) both.1 forms.1)
 
+pub all_steps_renamed : (n top k m : ℕ) (ν : ℕ → ℕ) (g : ℤ → ℤ) (f : ℕ → ℕ) → AreInOrder n top k m ν g f → (steps : List Step) → m + length steps < 2 ^ 64
+    → are_steps n k steps ≡ true → are_steps top m (map (step_under g f) steps) ≡ true
+all_steps_renamed n top k m ν g f order steps fits e =
+    let both = and_true (counts_from (k + 1) (map (λ (s : Step). s.number) steps)) (list_all (is_step n) steps) e in
+    and_from _ _ (counts_renamed n top k m ν g f order steps (k + 1) (m + 1) (omega arith) (omega arith) both.0)
+    (forms_renamed n top k m ν g f order steps (k + 1) (omega arith) (omega (arith, fits)) both.0 both.1)
+
 pub are_steps_renamed : (n top k m : ℕ) (ν : ℕ → ℕ) (g : ℤ → ℤ) (f : ℕ → ℕ) → AreInOrder n top k m ν g f → (rounds : List Round) → m + length (steps_of rounds) < 2 ^ 64
     → are_steps n k (steps_of rounds) ≡ true → are_steps top m (steps_of (map (round_under g f) rounds)) ≡ true
 are_steps_renamed n top k m ν g f order rounds fits e =
-    let both = and_true (counts_from (k + 1) (map (λ (s : Step). s.number) (steps_of rounds))) (list_all (is_step n) (steps_of rounds)) e in
-    subst (λ (us : List Step). are_steps top m us ≡ true) (sym (steps_renamed g f rounds))
-    (and_from _ _ (counts_renamed n top k m ν g f order (steps_of rounds) (k + 1) (m + 1) (omega arith) (omega arith) both.0)
-    (forms_renamed n top k m ν g f order (steps_of rounds) (k + 1) (omega arith) (omega (arith, fits)) both.0 both.1))
+    subst (λ (us : List Step). are_steps top m us ≡ true) (sym (steps_renamed g f rounds)) (all_steps_renamed n top k m ν g f order (steps_of rounds) fits e)

@@ -20,12 +20,12 @@ use Rattle.general_laws.proofs.Renumbering.{among_renumbered}
 use Rattle.renaming_laws.proofs.Mapped.{filter_mapped, empty_mapped, map_twice, flat_mapped, rises_mapped, only_these}
 use Rattle.renaming_laws.proofs.RenamedClauses.{variables_renamed}
 use Rattle.renaming_laws.specs.Renaming.{turn_under, step_under, round_under}
-use Rattle.renaming_laws.proofs.RenamedChains.{IsCopied, Agrees, crossed_copied, none_renamed}
+use Rattle.renaming_laws.proofs.RenamedChains.{Translates, IsCopied, Agrees, crossed_copied, none_renamed}
 
 -- WHAT IS REACHED
 
 -- what a step names
-names_renamed : (g : ℤ → ℤ) (f : ℕ → ℕ) (s : Step) → names_of (step_under g f s) ≡ map f (names_of s)
+pub names_renamed : (g : ℤ → ℤ) (f : ℕ → ℕ) (s : Step) → names_of (step_under g f s) ≡ map f (names_of s)
 names_renamed g f s =
     ap (λ (ks : List ℕ). f s.first ∷ ks)
     (map_twice (turn_under g f) (λ (t : Turn). t.with) (λ (t : Turn). f t.with) (λ t. refl) s.turns ∙ sym (map_twice (λ (t : Turn). t.with) f (λ (t : Turn). f t.with) (λ t. refl) s.turns))
@@ -56,7 +56,7 @@ refutation_renamed g f (s ∷ t ∷ later) = refutation_renamed g f (t ∷ later
 -- WHAT IS USED
 
 -- a position that a new round reaches is one that stands for a position of G
-reached_position : (F G : Cnf) (ν : ℕ → ℕ) (g : ℤ → ℤ) (f : ℕ → ℕ) → IsCopied F G ν g f → (ks : List ℕ) (k : ℕ) → 0 < k → k ≤ length F.clauses
+reached_position : (F G : Cnf) (ν : ℕ → ℕ) (g : ℤ → ℤ) (f : ℕ → ℕ) → Translates F G ν g f → (ks : List ℕ) (k : ℕ) → 0 < k → k ≤ length F.clauses
     → among (map f ks) k ≡ true → among (map f (positions_of G)) k ≡ true
 reached_position F G ν g f new ks k least most m =
     let w = from_mapped f ks k m in
@@ -78,12 +78,12 @@ reached_position F G ν g f new ks k least most m =
     above_zero (suc j) n = omega arith
 
 -- the positions of G, told anew, rise
-positions_rise : (F G : Cnf) (ν : ℕ → ℕ) (g : ℤ → ℤ) (f : ℕ → ℕ) → IsCopied F G ν g f → rises_within 0 (length F.clauses) (map f (positions_of G)) ≡ true
+positions_rise : (F G : Cnf) (ν : ℕ → ℕ) (g : ℤ → ℤ) (f : ℕ → ℕ) → Translates F G ν g f → rises_within 0 (length F.clauses) (map f (positions_of G)) ≡ true
 positions_rise F G ν g f new =
     rises_mapped f 0 (length G.clauses) 0 (length F.clauses) (positions_of G) new.rise new.low (λ k lt. let above = new.rise 0 k lt in let none = new.none in omega (arith, above, none))
     (range_rises 0 (length G.clauses) 1 (length G.clauses) (omega arith) (omega arith))
 
-used_renamed : (F G : Cnf) (ν : ℕ → ℕ) (g : ℤ → ℤ) (f : ℕ → ℕ) → IsCopied F G ν g f → (r : Round) → used_positions F (round_under g f r) ≡ map f (used_positions G r)
+pub used_renamed : (F G : Cnf) (ν : ℕ → ℕ) (g : ℤ → ℤ) (f : ℕ → ℕ) → Translates F G ν g f → (r : Round) → used_positions F (round_under g f r) ≡ map f (used_positions G r)
 used_renamed F G ν g f new r =
     ap (λ (ks : List ℕ). filter (among ks) (positions_of F)) (reached_renamed g f new.same r.steps)
     ∙ only_these (among (map f (reached r.steps))) 0 (length F.clauses) (length F.clauses) (map f (positions_of G)) (omega arith) (positions_rise F G ν g f new)
@@ -93,9 +93,9 @@ used_renamed F G ν g f new r =
 pub variables_used_renamed : (F G : Cnf) (ν : ℕ → ℕ) (g : ℤ → ℤ) (f : ℕ → ℕ) → IsCopied F G ν g f → (b d : Variables) → Agrees ν b d → (r : Round)
     → variables_used F d (round_under g f r) ≡ map ν (variables_used G b r)
 variables_used_renamed F G ν g f new b d agree r =
-    ap (flat_map (λ p. map variable (crossed_out d (clause_at F p)))) (used_renamed F G ν g f new r)
+    ap (flat_map (λ p. map variable (crossed_out d (clause_at F p)))) (used_renamed F G ν g f new.numbers r)
     ∙ flat_mapped f ν (λ p. map variable (crossed_out b (clause_at G p))) (λ p. map variable (crossed_out d (clause_at F p)))
-    (λ p. ap (map variable) (crossed_copied F G ν g f new b d agree p) ∙ variables_renamed ν g new.renames (crossed_out b (clause_at G p))) (used_positions G r)
+    (λ p. ap (map variable) (crossed_copied F G ν g f new b d agree p) ∙ variables_renamed ν g new.numbers.renames (crossed_out b (clause_at G p))) (used_positions G r)
 
 -- WHAT IS BLOCKED
 
@@ -106,7 +106,7 @@ agrees_after_round F G ν g f new b d agree r v =
     ap (λ (x : Bool). x || (is_refutation (map (step_under g f) r.steps) && among (variables_used F d (round_under g f r)) (ν v))) (agree v)
     ∙ ap (λ (x : Bool). b v || (x && among (variables_used F d (round_under g f r)) (ν v))) (refutation_renamed g f r.steps)
     ∙ ap (λ (vs : List ℕ). b v || (is_refutation r.steps && among vs (ν v))) (variables_used_renamed F G ν g f new b d agree r)
-    ∙ ap (λ (x : Bool). b v || (is_refutation r.steps && x)) (among_renumbered ν new.renames.variables (variables_used G b r) v)
+    ∙ ap (λ (x : Bool). b v || (is_refutation r.steps && x)) (among_renumbered ν new.numbers.renames.variables (variables_used G b r) v)
 
 -- and after all rounds
 pub agrees_after : (F G : Cnf) (ν : ℕ → ℕ) (g : ℤ → ℤ) (f : ℕ → ℕ) → IsCopied F G ν g f → (b d : Variables) → Agrees ν b d → (rounds : List Round)

@@ -34,7 +34,7 @@ pub needed_renamed : (F G : Cnf) (ν : ℕ → ℕ) (g : ℤ → ℤ) (f : ℕ �
     → Agrees ν b d → (rounds : List Round)
     → AreNeeded G b rounds → AreNeeded F d (map (round_under g f) rounds)
 needed_renamed F G ν g f new b d agree rounds h = record {
-  trimmed = all_mapped (round_under g f) is_trimmed is_trimmed (trimmed_renamed g f new.same) rounds ∙ h.trimmed;
+  trimmed = all_mapped (round_under g f) is_trimmed is_trimmed (trimmed_renamed g f new.numbers.same) rounds ∙ h.trimmed;
   progress = progress_renamed F G ν g f new b d agree rounds ∙ h.progress;
 }
 
@@ -78,7 +78,7 @@ last_renamed : (F G : Cnf) (ν f : ℕ → ℕ) → IsCopied F G ν (literal_on 
 last_renamed F G ν f new rise b d agree P r (inl none) = inl (ap (map (step_under (literal_on ν) f)) none)
 last_renamed F G ν f new rise b d agree P r (inr open_search) = inr (
     subst IsUndecided (sym (searched_renamed F G ν (literal_on ν) f new b d agree P r))
-    (undecided_renamed ν new.renames rise (searched G b P r) open_search))
+    (undecided_renamed ν new.numbers.renames rise (searched G b P r) open_search))
 
 -- so new rounds want more where the old ones do
 pub wants_renamed : (F G : Cnf) (ν f : ℕ → ℕ) → IsCopied F G ν (literal_on ν) f → ((a c : ℕ) → a < c → ν a < ν c)

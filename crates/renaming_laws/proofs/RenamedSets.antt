@@ -27,7 +27,7 @@ from_mentioned ν g new (l ∷ c) v e = elim (or_true (variable (g l) == v) (men
 pub occurs_renamed : (F G : Cnf) (ν : ℕ → ℕ) (g : ℤ → ℤ) (f : ℕ → ℕ) → IsCopied F G ν g f → (P : List ℕ) (v : ℕ) → variable_occurs F (map f P) (ν v) ≡ variable_occurs G P v
 occurs_renamed F G ν g f new P v =
     any_mapped f (λ p. mentions (clause_at F p) (ν v)) (λ p. mentions (clause_at G p) v)
-    (λ p. ap (λ (c : List ℤ). mentions c (ν v)) (new.clauses p) ∙ mentions_renamed ν g new.renames (clause_at G p) v) P
+    (λ p. ap (λ (c : List ℤ). mentions c (ν v)) (new.clauses p) ∙ mentions_renamed ν g new.numbers.renames (clause_at G p) v) P
 
 -- and no other one does
 pub from_occurring : (F G : Cnf) (ν : ℕ → ℕ) (g : ℤ → ℤ) (f : ℕ → ℕ) → IsCopied F G ν g f → (P : List ℕ) (v : ℕ) → variable_occurs F (map f P) v ≡ true
@@ -37,7 +37,7 @@ from_occurring F G ν g f new P v e =
     let p = from_mapped f P at.0 at.1 in
     let there : mentions (clause_at F (f p.0)) v ≡ true = subst (λ (q : ℕ). mentions (clause_at F q) v ≡ true) (sym p.2) at.2 in
     let here : mentions (map g (clause_at G p.0)) v ≡ true = subst (λ (c : List ℤ). mentions c v ≡ true) (new.clauses p.0) there in
-    let w = from_mentioned ν g new.renames (clause_at G p.0) v here in
+    let w = from_mentioned ν g new.numbers.renames (clause_at G p.0) v here in
     (w.0, occurs G P p.0 w.0 p.1 w.1, w.2)
 
 -- the positions whose clauses have only variables of the set
@@ -45,4 +45,4 @@ pub covered_renamed : (F G : Cnf) (ν : ℕ → ℕ) (g : ℤ → ℤ) (f : ℕ 
     → covered F d (map f P) ≡ map f (covered G b P)
 covered_renamed F G ν g f new b d agree P =
     filter_mapped f (λ p. has_only d (clause_at F p)) (λ p. has_only b (clause_at G p))
-    (λ p. ap (has_only d) (new.clauses p) ∙ all_mapped g (λ l. d (variable l)) (λ l. b (variable l)) (λ l. ap d (new.renames.on l) ∙ agree (variable l)) (clause_at G p)) P
+    (λ p. ap (has_only d) (new.clauses p) ∙ all_mapped g (λ l. d (variable l)) (λ l. b (variable l)) (λ l. ap d (new.numbers.renames.on l) ∙ agree (variable l)) (clause_at G p)) P

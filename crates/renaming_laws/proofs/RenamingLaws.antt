@@ -21,15 +21,15 @@ use Rattle.lk_model.proofs.Rising.{rising_count}
 use Rattle.general_laws.specs.Found.{IsDone, IsUnfinished}
 use Rattle.renaming_laws.specs.Renaming.{nth, named, renamed_round, renamed_result, IsDense, RenamingLaw}
 use Rattle.renaming_laws.proofs.RenamedClauses.{literal_on}
-use Rattle.renaming_laws.proofs.Copies.{variable_in, place_in, part_length, copied, in_order, part_copied}
+use Rattle.renaming_laws.proofs.Copies.{variable_in, place_in, in_order, part_placed, part_length, dense_numbers, copied}
 use Rattle.renaming_laws.proofs.Telling.{set_told, kept_told, rounds_told}
 use Rattle.renaming_laws.proofs.RenamedForms.{are_steps_renamed, wholes_renamed, learned_count}
 use Rattle.renaming_laws.proofs.CopiedResults.{IsCopy, rounds_under, result_under, stated_copied, done_copied, unfinished_copied}
 use Rattle.renaming_laws.proofs.RenamedSearches.{needed_renamed}
 
 -- the part has a copy
-copy : (F G : Cnf) (part names : List ℕ) → are_positions F part ≡ true → IsDense F part names G → IsCopy F G (variable_in F names) (place_in F part)
-copy F G part names rise dense = record { copied = copied F G part names rise dense; order = in_order F G part names rise dense }
+pub copy : (F G : Cnf) (part names : List ℕ) → are_positions F part ≡ true → IsDense F part names G → IsCopy F G (variable_in F names) (place_in F part)
+copy F G part names rise dense = record { copied = copied F G part names rise dense; order = in_order (dense_numbers F G part names rise dense) }
 
 -- with no more variables
 fewer_variables : (F G : Cnf) (part names : List ℕ) → IsDense F part names G → G.vars ≤ F.vars
@@ -60,7 +60,7 @@ done : (F G : Cnf) (part names : List ℕ) (conflicts : ℕ) (r : GeneralResult)
 done F G part names conflicts r rise dense fits h =
     let found = done_copied F G (variable_in F names) (place_in F part) (copy F G part names rise dense) conflicts r fits h in
     subst (λ (q : GeneralResult). IsDone F part conflicts q) (sym (result_in F G part names dense conflicts r h))
-    (subst (λ (ps : List ℕ). IsDone F ps conflicts (result_under (variable_in F names) (place_in F part) r)) (part_copied F G part names dense) found)
+    (subst (λ (ps : List ℕ). IsDone F ps conflicts (result_under (variable_in F names) (place_in F part) r)) (part_placed (dense_numbers F G part names rise dense)) found)
 
 -- and rounds that stopped
 unfinished : (F G : Cnf) (part names : List ℕ) (conflicts : ℕ) (rounds : List Round) → are_positions F part ≡ true → IsDense F part names G
@@ -69,14 +69,14 @@ unfinished : (F G : Cnf) (part names : List ℕ) (conflicts : ℕ) (rounds : Lis
 unfinished F G part names conflicts rounds rise dense fits h =
     let found = unfinished_copied F G (variable_in F names) (place_in F part) (copy F G part names rise dense) (fewer_variables F G part names dense) conflicts rounds fits h in
     subst (λ (qs : List Round). IsUnfinished F part conflicts qs) (sym (rounds_in F G part names dense rounds h.result.steps))
-    (subst (λ (ps : List ℕ). IsUnfinished F ps conflicts (rounds_under (variable_in F names) (place_in F part) rounds)) (part_copied F G part names dense) found)
+    (subst (λ (ps : List ℕ). IsUnfinished F ps conflicts (rounds_under (variable_in F names) (place_in F part) rounds)) (part_placed (dense_numbers F G part names rise dense)) found)
 
 -- ROUNDS BY THEMSELVES
 
--- a refutation of all of it
-refuted : (F G : Cnf) (part names : List ℕ) (r : Round) → are_positions F part ≡ true → IsDense F part names G
-    → length F.clauses + length r.steps < 2 ^ 64 → IsRefutation G (positions_of G) r → IsRefutation F part (renamed_round (length F.clauses) part names r)
-refuted F G part names r rise dense fits h =
+-- a refutation of some of it
+refuted : (F G : Cnf) (part names places : List ℕ) (r : Round) → are_positions F part ≡ true → IsDense F part names G → are_positions G places ≡ true
+    → length F.clauses + length r.steps < 2 ^ 64 → IsRefutation G places r → IsRefutation F (map (nth part) places) (renamed_round (length F.clauses) part names r)
+refuted F G part names places r rise dense inside fits h =
     let ν = variable_in F names in
     let f = place_in F part in
     let m = length F.clauses in
@@ -84,15 +84,17 @@ refuted F G part names r rise dense fits h =
     let one = sym (append-nil r.steps) in
     let steps = subst (λ (us : List Step). are_steps G.vars (length G.clauses) us ≡ true) one h.steps in
     let is : rounds_under ν f (r ∷ []) ≡ renamed_round m part names r ∷ [] = sym (rounds_in F G part names dense (r ∷ []) steps) in
+    let there : map (nth part) places ≡ map f places =
+    kept_told part m places (subst (λ (n : ℕ). rises_within 0 n places ≡ true) (sym (part_length F G part names dense)) inside) in
     record {
       steps = subst (λ (us : List Step). are_steps F.vars m us ≡ true) (append-nil (renamed_round m part names r).steps)
           (subst (λ (qs : List Round). are_steps F.vars m (steps_of qs) ≡ true) is
           (are_steps_renamed G.vars F.vars (length G.clauses) m ν (literal_on ν) f both.order (r ∷ []) (subst (λ (us : List Step). m + length us < 2 ^ 64) one fits) steps));
       whole = (and_true (is_whole (renamed_round m part names r)) true
           (subst (λ (qs : List Round). list_all is_whole qs ≡ true) is (wholes_renamed (literal_on ν) f (r ∷ []) ∙ and_from (is_whole r) true h.whole refl))).0;
-      stated = subst (λ (qs : List Round). (bad_step no_variable F part qs).place ≡ None) is
-          (subst (λ (ps : List ℕ). (bad_step no_variable F ps (rounds_under ν f (r ∷ []))).place ≡ None) (part_copied F G part names dense)
-          (stated_copied F G ν f both (positions_of G) (r ∷ []) h.stated));
+      stated = subst (λ (qs : List Round). (bad_step no_variable F (map (nth part) places) qs).place ≡ None) is
+          (subst (λ (ps : List ℕ). (bad_step no_variable F ps (rounds_under ν f (r ∷ []))).place ≡ None) (sym there)
+          (stated_copied F G ν f both places (r ∷ []) h.stated));
     }
 
 needed : (F G : Cnf) (part names : List ℕ) (rounds : List Round) → are_positions F part ≡ true → IsDense F part names G

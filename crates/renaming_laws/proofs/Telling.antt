@@ -73,6 +73,12 @@ step_told part names top m s e =
     let turns = map_agrees (turn_under (named names) (number_in_whole part m)) (turn_under (literal_on (told names top)) (told part m)) (is_turn n s.number) (turn_told part names top m s.number) s.turns a.1 in
     λ j. record { number = number j; clause = clause j; first = first j; turns = turns j }
 
+pub steps_told : (part names : List ℕ) (top m : ℕ) (steps : List Step) → list_all (is_step (length names)) steps ≡ true
+    → map (step_under (named names) (number_in_whole part m)) steps ≡ map (step_under (literal_on (told names top)) (told part m)) steps
+steps_told part names top m steps e =
+    map_agrees (step_under (named names) (number_in_whole part m)) (step_under (literal_on (told names top)) (told part m)) (is_step (length names))
+    (step_told part names top m) steps e
+
 -- ROUNDS
 
 pub rounds_told : (part names : List ℕ) (top m : ℕ) (rounds : List Round) → list_all (is_step (length names)) (steps_of rounds) ≡ true
@@ -81,6 +87,6 @@ rounds_told part names top m [] e = refl
 rounds_told part names top m (r ∷ rounds) e =
     let both = and_true (list_all (is_step (length names)) r.steps) (list_all (is_step (length names)) (steps_of rounds))
     (sym (list_all-append (is_step (length names)) r.steps (steps_of rounds)) ∙ e) in
-    let here = map_agrees (step_under (named names) (number_in_whole part m)) (step_under (literal_on (told names top)) (told part m)) (is_step (length names)) (step_told part names top m) r.steps both.0 in
+    let here = steps_told part names top m r.steps both.0 in
     let later = rounds_told part names top m rounds both.1 in
     λ j. (record { steps = here j }) ∷ later j

@@ -34,12 +34,12 @@ rising_at low high (n ∷ ns) zero (suc j) r lt inside =
 rising_at low high (n ∷ ns) (suc i) (suc j) r lt inside =
     let s = rises low high n ns r in rising_at n high ns i j s.more (omega (arith, lt)) (omega (arith, inside))
 
--- numbers up to the length of the list go no further than m
-pub told_low : (ns : List ℕ) (m k : ℕ) → rises_within 0 m ns ≡ true → k ≤ length ns → told ns m k ≤ m
-told_low ns m zero r le = let e = told_zero ns m in omega (arith, e)
-told_low ns m (suc k) r le =
+-- numbers up to the length of the list go no further than its elements
+pub told_low : (ns : List ℕ) (m high k : ℕ) → rises_within 0 high ns ≡ true → k ≤ length ns → told ns m k ≤ high
+told_low ns m high zero r le = let e = told_zero ns m in omega (arith, e)
+told_low ns m high (suc k) r le =
     let inside : k < length ns = omega (arith, le) in
-    let e = told_within ns m k inside in let b = rising_bounds 0 m ns k r inside in let most = b.1 in omega (arith, e, most)
+    let e = told_within ns m k inside in let b = rising_bounds 0 high ns k r inside in let most = b.1 in omega (arith, e, most)
 
 -- new numbers rise with the old ones
 pub told_rise : (ns : List ℕ) (m : ℕ) → rises_within 0 m ns ≡ true → (a b : ℕ) → a < b → told ns m a < told ns m b
@@ -58,7 +58,7 @@ told_rise ns m r (suc i) (suc j) lt = elim (cases_Bool (nat_lt j (length ns))) [
   | inr o ↦
       (let out = ltb-false j (length ns) o in let e = told_past ns m (suc j) (omega (arith, out)) in
       elim (cases_Bool (nat_lt i (length ns))) [
-        | inl y ↦ (let inside = ltb-true i (length ns) y in let low = told_low ns m (suc i) r (omega (arith, inside)) in omega (arith, e, low, out))
+        | inl y ↦ (let inside = ltb-true i (length ns) y in let low = told_low ns m m (suc i) r (omega (arith, inside)) in omega (arith, e, low, out))
         | inr n ↦ (let past = ltb-false i (length ns) n in let d = told_past ns m (suc i) (omega (arith, past)) in omega (arith, d, e, lt))
       ])
 ]

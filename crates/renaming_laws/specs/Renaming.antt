@@ -65,8 +65,8 @@ renamed_result m part names r = record {
 }
 
 -- What is found in all of G is, translated to the numbers of F, what is found in the part. The numbers of the steps
--- have 64 bits. So it is with a refutation of all of G, with rounds of which nothing is needless, and with the number
--- of learned clauses.
+-- have 64 bits. So it is with a refutation of some clauses of G, with rounds of which nothing is needless, and with the
+-- number of learned clauses.
 pub record RenamingLaw : Type 0 where
   pub done : (F G : Cnf) (part names : List ℕ) (conflicts : ℕ) (r : GeneralResult) → IsTrue (is_formula F) → IsTrue (are_positions F part)
       → IsDense F part names G → length F.clauses + length (steps_of r.rounds) < 2 ^ 64
@@ -74,9 +74,9 @@ pub record RenamingLaw : Type 0 where
   pub unfinished : (F G : Cnf) (part names : List ℕ) (conflicts : ℕ) (rounds : List Round) → IsTrue (is_formula F) → IsTrue (are_positions F part)
       → IsDense F part names G → length F.clauses + length (steps_of rounds) < 2 ^ 64
       → IsUnfinished G (positions_of G) conflicts rounds → IsUnfinished F part conflicts (map (renamed_round (length F.clauses) part names) rounds)
-  pub refuted : (F G : Cnf) (part names : List ℕ) (r : Round) → IsTrue (are_positions F part)
-      → IsDense F part names G → length F.clauses + length r.steps < 2 ^ 64
-      → IsRefutation G (positions_of G) r → IsRefutation F part (renamed_round (length F.clauses) part names r)
+  pub refuted : (F G : Cnf) (part names places : List ℕ) (r : Round) → IsTrue (are_positions F part)
+      → IsDense F part names G → IsTrue (are_positions G places) → length F.clauses + length r.steps < 2 ^ 64
+      → IsRefutation G places r → IsRefutation F (map (nth part) places) (renamed_round (length F.clauses) part names r)
   pub needed : (F G : Cnf) (part names : List ℕ) (rounds : List Round) → IsTrue (are_positions F part)
       → IsDense F part names G → IsTrue (are_steps G.vars (length G.clauses) (steps_of rounds))
       → AreNeeded G no_variable rounds → AreNeeded F no_variable (map (renamed_round (length F.clauses) part names) rounds)

@@ -3,4 +3,4 @@
 
 mod laws;
 
-pub use laws::renaming_law;
+pub use laws::{crossed_copy_law, renaming_law};

@@ -3,4 +3,4 @@
 
 mod renaming;
 
-pub use renaming::{Renaming, nth};
+pub use renaming::{Renaming, nth, positions_at};

@@ -33,6 +33,17 @@ pub fn nth(numbers: &[u32], place: u64) -> u32
     }
 }
 
+/// In the place of each number what stands at it in the part, counted from 1, and 0 where nothing does.
+pub fn positions_at(part: &[u32], places: List<u32>) -> List<u32>
+    ensures { result ≡ map (nth part.now) places }
+{
+    let mut places = places.into_vec();
+    for place in places.iter_mut() {
+        *place = nth(part, u64::from(*place));
+    }
+    List::from_vec(places)
+}
+
 impl<'a> Renaming<'a> {
     // The new number of a position or step. It is to fit in 64 bits, as no machine holds so many steps.
     fn number(&self, k: u64) -> Result<u64, OutOfMemory>
@@ -77,11 +88,7 @@ impl<'a> Renaming<'a> {
     pub fn positions(&self, kept: List<u32>) -> List<u32>
         ensures { result ≡ map (nth self.now.part.now) kept }
     {
-        let mut kept = kept.into_vec();
-        for position in kept.iter_mut() {
-            *position = nth(self.part, u64::from(*position));
-        }
-        List::from_vec(kept)
+        positions_at(self.part, kept)
     }
 
     // The turns, renamed.

@@ -1,7 +1,8 @@
 //! Whether the clauses of parts have a model.
 ghost use Rattle.std.specs.Prelude.{◌≡◌, IsTrue};
 ghost use Rattle.lk_model.specs.Formulas.Lean.{are_positions};
-ghost use Rattle.part_formula.specs.Decisions.{are_filled, IsDecision};
+ghost use Rattle.part_copy.specs.Found.{are_filled};
+ghost use Rattle.part_formula.specs.Decisions.{IsDecision};
 
 use crate::command::{Command, budget_of, formula};
 use crate::lines::put_model;

@@ -12,6 +12,7 @@ ghost use Rattle.lk_model.specs.Formulas.Literal.{complement, is_literal, mentio
 ghost use Rattle.lk_model.specs.Formulas.Formula.{clause_at, variable_occurs};
 ghost use Rattle.lk_model.specs.Formulas.Lean.{are_positions};
 ghost use Rattle.lk_model.specs.Held.VariableSets.{is_in, IsCrossed};
+ghost use Rattle.occurrence_lists.specs.Occurrences.{AreOccurrences};
 ghost use Rattle.unit_refutations.specs.Contained.{contains_none};
 ghost use Rattle.unit_refutations.specs.Standing.{AreRanges, IsKept, IsWithin, IsFalseAt, IsFoundAt, IsAnswer};
 ghost use Rattle.unit_refutations.specs.Standing.{are_between};
@@ -47,8 +48,23 @@ impl Units {
         ensures kept { IfOk result (IsKept f.now (replicate f.now.vars false)) }
         ensures within { IfOk result (IsWithin part.now) }
     {
+        Units::by_lists(alloc, f, part, OccurrenceLists::new(alloc, f)?)
+    }
+
+    /// The same, where the lists of the formula are there.
+    pub fn by_lists(
+        alloc: Global,
+        f: &Formula,
+        part: &[u32],
+        lists: OccurrenceLists,
+    ) -> Result<Units, OutOfMemory>
+        requires part { IsTrue (are_positions f.now part.now) }
+        requires lists { AreOccurrences f.now lists }
+        ensures kept { IfOk result (IsKept f.now (replicate f.now.vars false)) }
+        ensures within { IfOk result (IsWithin part.now) }
+    {
         Ok(Units {
-            lists: OccurrenceLists::new(alloc, f)?,
+            lists,
             agenda: Agenda::new(alloc, f, part)?,
             trail: Trail::new(alloc, f.vars())?,
         })

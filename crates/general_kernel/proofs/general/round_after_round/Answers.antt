@@ -4,10 +4,10 @@ use Rattle.lk_model.specs.Held.VariableSets.{is_in}
 use Rattle.lk_model.specs.declared.document.Step.{Step}
 use Rattle.unit_refutations.specs.Standing.{are_between}
 use Rattle.unit_refutations.specs.declared.units.UnitRefutation.{UnitRefutation}
-use Rattle.round_replay.specs.declared.replays.Replayed.{Replayed}
+use Rattle.crossed_copy.specs.declared.telling.CrossedRefutation.{CrossedRefutation}
 use Rattle.general_kernel.specs.TrimmedRounds.{rounds_of}
 use Rattle.general_kernel.proofs.States.{begins}
-use Rattle.general_kernel.proofs.NearRounds.{near_answered, near_log, near_between, near_round, covered_all, not_covered}
+use Rattle.general_kernel.proofs.NearRounds.{near_answered, near_log, near_round, covered_all, not_covered}
 use Rattle.general_kernel.proofs.NextRounds.{all_covered, model_ends, used_rise, next_round, none_left, stops}
 use Rattle.general_kernel.proofs.UnitRounds.{answered, unit_log, unit_between, rise_between, unit_round, within_same}
 use Rattle.general_kernel.proofs.general.round_after_round.Goals as goal
@@ -89,22 +89,23 @@ returns-then-rounds-eq0 c =
 
 pub push_round-requires-in-Some-2-clause-log : goal.push_round-requires-in-Some-2-clause-log
 push_round-requires-in-Some-2-clause-log c =
-    let r : Replayed = c.in-Some-2.field-0 in
+    let r : CrossedRefutation = c.in-Some-2.field-0 in
     near_log _ c.args.rounds.now.budget c.rounds.rounds r c.requires.most (near_answered _ _ _ _ r c.in_ok-near.ensures c.in-Some-2.is) c.rounds.invariant.at
 
 pub block-requires-in-Some-2-clause-positions : goal.block-requires-in-Some-2-clause-positions
 block-requires-in-Some-2-clause-positions c =
-    let r : Replayed = c.in-Some-2.field-0 in
-    subst (λ (ps : List ℕ). are_between c.args.f.now ps ≡ true) (sym c.as_slice-in-Some-2.ensures)
-    (near_between _ _ _ r (near_answered _ _ _ _ r c.in_ok-near.ensures c.in-Some-2.is))
+    let r : CrossedRefutation = c.in-Some-2.field-0 in
+    rise_between c.args.f.now c.as_slice-in-Some-2.result.now
+    (used_rise c.args.f.now r.round c.as_slice-in-Some-2.result.now (c.as_slice-in-Some-2.ensures ∙ (near_answered _ _ _ _ r c.in_ok-near.ensures c.in-Some-2.is).used))
 
 pub rounds-smaller-in-Some-2 : goal.rounds-smaller-in-Some-2
 rounds-smaller-in-Some-2 c =
     let e = c.in_ok-push_round-2.ensures in
     let b = c.in_ok-block-2.ensures in
-    let r : Replayed = c.in-Some-2.field-0 in
-    let after = near_round c.args.f.now c.args.part.now c.args.rounds.now.budget c.rounds.rounds (record c.push_round-in-Some-2.new.self { blocked = c.block-in-Some-2.new.blocked }) r
-    (record { over = _; refuted = near_answered _ _ _ _ r c.in_ok-near.ensures c.in-Some-2.is; formula = refl; positions = refl; blocked = refl }) c.requires.most c.requires.part c.rounds.invariant.at
+    let r : CrossedRefutation = c.in-Some-2.field-0 in
+    let near = near_answered _ _ _ _ r c.in_ok-near.ensures c.in-Some-2.is in
+    let after = next_round c.args.f.now c.args.part.now c.args.rounds.now.budget c.rounds.rounds (record c.push_round-in-Some-2.new.self { blocked = c.block-in-Some-2.new.blocked }) _ _
+    (near_round _ _ _ r near) refl c.requires.most c.requires.part c.rounds.invariant.at
     (record {
       first = e.first;
       logs = e.logs;
@@ -112,7 +113,7 @@ rounds-smaller-in-Some-2 c =
       budget = e.budget;
       size = b.size ∙ ap (λ (bs : List Bool). length bs) e.blocked;
       blocked = λ v. b.vars v ∙ ap (λ (bs : List Bool). is_in bs v || variable_occurs c.args.f.now c.as_slice-in-Some-2.result.now v) e.blocked
-          ∙ ap (λ (ps : List ℕ). is_in c.rounds.rounds.blocked v || variable_occurs c.args.f.now ps v) c.as_slice-in-Some-2.ensures;
+          ∙ ap (λ (ps : List ℕ). is_in c.rounds.rounds.blocked v || variable_occurs c.args.f.now ps v) (c.as_slice-in-Some-2.ensures ∙ near.used);
     }) in
     after.1
 
@@ -120,9 +121,10 @@ pub rounds-preserved-in-Some-2 : goal.rounds-preserved-in-Some-2
 rounds-preserved-in-Some-2 c =
     let e = c.in_ok-push_round-2.ensures in
     let b = c.in_ok-block-2.ensures in
-    let r : Replayed = c.in-Some-2.field-0 in
-    let after = near_round c.args.f.now c.args.part.now c.args.rounds.now.budget c.rounds.rounds _ r
-    (record { over = _; refuted = near_answered _ _ _ _ r c.in_ok-near.ensures c.in-Some-2.is; formula = refl; positions = refl; blocked = refl }) c.requires.most c.requires.part c.rounds.invariant.at
+    let r : CrossedRefutation = c.in-Some-2.field-0 in
+    let near = near_answered _ _ _ _ r c.in_ok-near.ensures c.in-Some-2.is in
+    let after = next_round c.args.f.now c.args.part.now c.args.rounds.now.budget c.rounds.rounds _ _ _
+    (near_round _ _ _ r near) refl c.requires.most c.requires.part c.rounds.invariant.at
     (record {
       first = e.first;
       logs = e.logs;
@@ -130,7 +132,7 @@ rounds-preserved-in-Some-2 c =
       budget = e.budget;
       size = b.size ∙ ap (λ (bs : List Bool). length bs) e.blocked;
       blocked = λ v. b.vars v ∙ ap (λ (bs : List Bool). is_in bs v || variable_occurs c.args.f.now c.as_slice-in-Some-2.result.now v) e.blocked
-          ∙ ap (λ (ps : List ℕ). is_in c.rounds.rounds.blocked v || variable_occurs c.args.f.now ps v) c.as_slice-in-Some-2.ensures;
+          ∙ ap (λ (ps : List ℕ). is_in c.rounds.rounds.blocked v || variable_occurs c.args.f.now ps v) (c.as_slice-in-Some-2.ensures ∙ near.used);
     }) in
     record {
       at = after.0;

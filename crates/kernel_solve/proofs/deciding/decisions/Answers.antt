@@ -1,17 +1,27 @@
-use Rattle.std.proofs.Common.{rules, []}
+use Rattle.std.proofs.Common.{rules, ◌≡◌, ◌∙◌, ℕ, ◌<◌, List, [], length, get_or, map, Ok, IfOk, sym, arith}
+use Rattle.std.proofs.lemmas.Result.{IfOk-weaker}
+use Rattle.par_parts.proofs.AllOk.{ok_count, ok_at}
+use Rattle.part_formula.specs.Decisions.{Decision, IsDecision}
 use Rattle.kernel_solve.specs.Answers.{AreAnswers}
-use Rattle.kernel_solve.proofs.SolveResults.{nothing, answers_from, both_ok}
+use Rattle.kernel_solve.proofs.SolveResults.{nothing, answers_from}
 use Rattle.kernel_solve.proofs.deciding.decisions.Goals as goal
+
+each_answer : (g : _) (c : goal.After-all_ok g) (k : ℕ) → k < length c.args.list.now
+    → IfOk (get_or c.in_ok-answers.answers k (Ok nothing)) (IsDecision c.args.f.now (get_or c.args.list.now k []) c.args.conflicts)
+each_answer g c k lt =
+    let w = (c.in_ok-answers.ensures.each k (Ok nothing) lt).1 in
+    let item = w.item_is [] in
+    let call = w.call in
+    search rules
 
 pub returns : goal.returns
 returns g c =
     let F = c.args.f.now in
     let conflicts = c.args.conflicts in
     let parts = c.args.list.now in
-    both_ok c.map_halves.result _ _ (AreAnswers F conflicts parts)
-    (λ answers long each. answers_from F conflicts parts answers long (λ k lt.
-    let w = (each k nothing lt).1 in
-    let item = w.item_is [] in
-    let call = w.call in
-    search rules))
-    c.map_halves.ensures.len c.map_halves.ensures.each
+    IfOk-weaker c.all_ok.result (λ (found : List Decision). c.in_ok-answers.answers ≡ map Ok found) (AreAnswers F conflicts parts)
+    (λ found are.
+    let count : length found ≡ length parts = sym (ok_count found are) ∙ c.in_ok-answers.ensures.len in
+    answers_from F conflicts parts found count (λ k lt.
+    ok_at found are (IsDecision F (get_or parts k []) conflicts) k nothing (omega (arith, lt, count)) (each_answer g c k lt)))
+    c.all_ok.ensures

@@ -1,25 +1,16 @@
-use Rattle.std.proofs.Common.{rules, arith, ◌≡◌, ◌∙◌, ℤ, List, [], ◌∷◌, ◌++◌, Some, Ok, ap, sym, subst}
+use Rattle.std.proofs.Common.{rules, arith, ◌≡◌, ℤ, List, [], ◌∷◌, ◌++◌, Some, sym, subst}
 use Rattle.std.specs.Vec.Iter.{into_iter_items, into_iter_len}
 use Rattle.std.proofs.lemmas.Grind.{common_steps}
 use Rattle.lk_model.specs.declared.document.Round.{Round}
-use Rattle.part_formula.specs.Decisions.{Decision}
-use Rattle.kernel_solve.specs.Answers.{Answer, IsGatheredSoFar}
+use Rattle.kernel_solve.specs.Answers.{IsGatheredSoFar}
 use Rattle.kernel_solve.proofs.Gathering.{model_more, stopped_more, first_refutation, all_come, first_stop, all_models}
 use Rattle.kernel_solve.proofs.deciding.gather.Goals as goal
 
--- an answer that is a decision
-decided : (a : Answer) (d e : Decision) → a ≡ Ok d → d ≡ e → a ≡ Ok e
-decided a d e was is = was ∙ ap (λ (x : Decision). answer x) is
-  where
-    answer : Decision → Answer
-    answer x = Ok x
-
-pub loop-answer-preserved-in-Continue-branch-3 : goal.loop-answer-preserved-in-Continue-branch-3
-loop-answer-preserved-in-Continue-branch-3 c = record {
+pub loop-answer-preserved-in-Continue-1 : goal.loop-answer-preserved-in-Continue-1
+loop-answer-preserved-in-Continue-1 c = record {
   so_far =
       subst (λ (sets : List (List ℤ)). IsGatheredSoFar (c.loop-answer.yielded ++ c.in-Some.answer ∷ []) sets c.loop-answer.stopped) (sym c.in_ok-push-in-Model.ensures.ok)
-      (model_more c.loop-answer.yielded c.loop-answer.models c.loop-answer.stopped c.in-Some.answer c.in-Model.model
-      (decided c.in-Some.answer c.in_ok-model.field-0 _ c.in_ok-model.was c.in-Model.is) c.loop-answer.invariant.so_far);
+      (model_more c.loop-answer.yielded c.loop-answer.models c.loop-answer.stopped c.in-Some.answer c.in-Model.model c.in-Model.is c.loop-answer.invariant.so_far);
   rest = grind (arith, common_steps);
   long = search rules;
 }
@@ -28,8 +19,7 @@ pub loop-answer-preserved : goal.loop-answer-preserved
 loop-answer-preserved c = record {
   so_far =
       subst (λ (r : Round). IsGatheredSoFar (c.loop-answer.yielded ++ c.in-Some.answer ∷ []) c.loop-answer.models (Some r)) (sym c.first_of.ensures)
-      (stopped_more c.loop-answer.yielded c.loop-answer.models c.loop-answer.stopped c.in-Some.answer c.in-Stopped.round
-      (decided c.in-Some.answer c.in_ok-model.field-0 _ c.in_ok-model.was c.in-Stopped.is) c.loop-answer.invariant.so_far);
+      (stopped_more c.loop-answer.yielded c.loop-answer.models c.loop-answer.stopped c.in-Some.answer c.in-Stopped.round c.in-Stopped.is c.loop-answer.invariant.so_far);
   rest = grind (arith, common_steps);
   long = search rules;
 }
@@ -38,7 +28,7 @@ pub returns-in-Refuted : goal.returns-in-Refuted
 returns-in-Refuted c =
     let all : c.loop-answer.yielded ++ c.in-Some.answer ∷ [] ++ into_iter_items c.next.new.self ≡ c.args.answers = grind (arith, common_steps) in
     first_refutation c.args.answers c.loop-answer.yielded (into_iter_items c.next.new.self) c.loop-answer.models c.loop-answer.stopped c.in-Some.answer c.in-Refuted.round
-    (decided c.in-Some.answer c.in_ok-model.field-0 _ c.in_ok-model.was c.in-Refuted.is) all c.loop-answer.invariant.so_far
+    c.in-Refuted.is all c.loop-answer.invariant.so_far
 
 pub returns-in-Some-stopped : goal.returns-in-Some-stopped
 returns-in-Some-stopped c =

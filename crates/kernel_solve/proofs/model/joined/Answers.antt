@@ -2,7 +2,7 @@ use Rattle.std.proofs.Common.{◌∙◌, ℤ, List, map, ap, sym, subst}
 use Rattle.std.specs.Vec.Iter.{into_iter_items, into_iter_len}
 use Rattle.lk_model.specs.declared.result.GeneralResult.{GeneralResult}
 use Rattle.autarky_compose.specs.JoinedGeneral.{AreJoinable}
-use Rattle.part_formula.specs.Decisions.{sets_only}
+use Rattle.part_copy.specs.Found.{sets_only}
 use Rattle.kernel_solve.proofs.Gathering.{all_come}
 use Rattle.kernel_solve.proofs.model.joined.Goals as goal
 

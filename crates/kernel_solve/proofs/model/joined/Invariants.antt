@@ -1,6 +1,6 @@
 use Rattle.std.proofs.Common.{◌≡◌, ◌++◌, length, map}
 use Rattle.std.specs.Vec.Iter.{into_iter_items, into_iter_len}
-use Rattle.part_formula.specs.Decisions.{sets_only}
+use Rattle.part_copy.specs.Found.{sets_only}
 use Rattle.kernel_solve.proofs.model.joined.Given as goal
 
 abbrev pub invariant-loop-set : goal.invariant-loop-set

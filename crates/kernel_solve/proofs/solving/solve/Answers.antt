@@ -6,7 +6,7 @@ use Rattle.lk_model.specs.Formulas.Formula.{Cnf}
 use Rattle.lk_model.specs.declared.document.Round.{Round}
 use Rattle.part_formula.specs.Decisions.{Decision}
 use Rattle.kernel_solve.specs.KernelParts.{IsFilledPart}
-use Rattle.kernel_solve.specs.Answers.{Answer, AreAnswers, IsAmongAnswers, models}
+use Rattle.kernel_solve.specs.Answers.{AreAnswers, IsAmongAnswers, models}
 use Rattle.kernel_solve.specs.Solutions.{IsRefutedWithin}
 use Rattle.kernel_solve.proofs.EmptyClauses.{by_empty}
 use Rattle.kernel_solve.proofs.SolveResults.{searched, all_filled, kernel_models, solved_by}
@@ -19,7 +19,7 @@ returns-in-Some g c =
     (by_empty F c.in-Some.position c.args.conflicts c.in-Some.ensures.limits (sym c.in-Some.ensures.first))
 
 -- the answers on the list that was read
-on_list : (F : Cnf) (conflicts : ℕ) (list given : List (List ℕ)) (answers : List Answer) → given ≡ list → AreAnswers F conflicts given answers
+on_list : (F : Cnf) (conflicts : ℕ) (list given : List (List ℕ)) (answers : List Decision) → given ≡ list → AreAnswers F conflicts given answers
     → AreAnswers F conflicts list answers
 on_list F conflicts list given answers same are = subst (λ (parts : List (List ℕ)). AreAnswers F conflicts parts answers) same are
 
@@ -27,10 +27,10 @@ on_list F conflicts list given answers same are = subst (λ (parts : List (List 
 abbrev Gathered : Type 0
 Gathered = ControlFlow Decision (List (List ℤ))
 
-abbrev IsGathered : List Answer → Gathered → Type 0
+abbrev IsGathered : List Decision → Gathered → Type 0
 IsGathered answers flow = MatchControlFlow flow (λ (sets : List (List ℤ)). answers ≡ models sets) (IsAmongAnswers answers)
 
-gathered_as : (answers : List Answer) (found value : Gathered) → found ≡ value → IsGathered answers found → IsGathered answers value
+gathered_as : (answers : List Decision) (found value : Gathered) → found ≡ value → IsGathered answers found → IsGathered answers value
 gathered_as answers found value same is = subst (λ (v : Gathered). IsGathered answers v) same is
 
 pub decisions-requires-clause-parts : goal.decisions-requires-clause-parts

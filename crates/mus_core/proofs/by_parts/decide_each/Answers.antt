@@ -4,9 +4,9 @@ use Rattle.std.proofs.lemmas.List.{take_more}
 use Rattle.lk_model.specs.declared.decided.Decided.{Decided}
 use Rattle.lk_model.specs.declared.result.GeneralResult.{GeneralResult}
 use Rattle.autarky_compose.specs.JoinedGeneral.{AreJoinable, AreJoined}
-use Rattle.part_formula.specs.Decisions.{IsPartModel, sets_only}
+use Rattle.part_copy.specs.Found.{IsPartModel, sets_only}
 use Rattle.mus_core.specs.ByParts.{AreModels, IsFirstStop, IsPartDecided}
-use Rattle.mus_core.specs.declared.by_parts.RefutedPart.{RefutedPart}
+use Rattle.part_formula.specs.declared.deciding.Refuted.{Refuted as Refutation}
 use Rattle.mus_core.specs.declared.by_parts.Stop.{Stop}
 use Rattle.mus_core.proofs.PartModels.{behind_model, first_stop, joinable, model_more, stop_answer, taken, whole_model}
 use Rattle.mus_core.proofs.by_parts.decide_each.Goals.{in-Model+in_ok-push-in-Model, in-Stopped}
@@ -23,7 +23,7 @@ loop-part-preserved c =
     elim c.match-branch-2.branch [
       | in-Model+in_ok-push-in-Model w ↦
           (let model = subst (λ (ps : List ℕ). IsPartModel F ps w.in-Model.set) c.as_slice.ensures
-          (subst (λ (d : Decided (List ℤ) RefutedPart Stop). IsPartDecided F c.args.conflicts c.as_slice.result.now d) w.in-Model.is c.in_ok-set.ensures) in
+          (subst (λ (d : Decided (List ℤ) Refutation Stop). IsPartDecided F c.args.conflicts c.as_slice.result.now d) w.in-Model.is c.in_ok-set.ensures) in
           record {
             models = λ none.
                 subst (λ (rs : List GeneralResult). AreModels F (take (i + 1) list) rs)
@@ -35,7 +35,7 @@ loop-part-preserved c =
                 (behind_model F c.args.conflicts (take i list) part w.in-Model.set c.loop-part.stopped model c.loop-part.invariant.stopped));
           })
       | in-Stopped w ↦
-          (let stop = subst (λ (d : Decided (List ℤ) RefutedPart Stop). IsPartDecided F c.args.conflicts c.as_slice.result.now d) w.in-Stopped.is c.in_ok-set.ensures in
+          (let stop = subst (λ (d : Decided (List ℤ) Refutation Stop). IsPartDecided F c.args.conflicts c.as_slice.result.now d) w.in-Stopped.is c.in_ok-set.ensures in
           let own : w.in-Stopped.stop.part ≡ part = stop.1 ∙ c.as_slice.ensures in
           record {
             models = λ none. absurd (let stopped = w.stopped-is in let f : ⊥ = cc (stopped, none) in f);

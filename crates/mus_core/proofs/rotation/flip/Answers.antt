@@ -1,5 +1,5 @@
 use Rattle.std.proofs.Common.{◌∙◌, Bool, List, Option, ap, length}
-use Rattle.mus_core.specs.Named.{flag_at}
+use Rattle.mus_core.specs.Flags.{flag_at}
 use Rattle.mus_core.proofs.Rotated.{put_held, flipped}
 use Rattle.mus_core.proofs.rotation.flip.Goals as goal
 use Rattle.lk_model.proofs.ListTests.{real_literal as nonzero}

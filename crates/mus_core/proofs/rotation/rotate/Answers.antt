@@ -1,7 +1,7 @@
 use Rattle.std.proofs.Common.{◌≡◌, ◌∙◌, true, refl, ℕ, List, Bool, sym, ap, subst}
 use Rattle.std.specs.List.{list_all}
 use Rattle.lk_model.specs.Formulas.Autarky.{Positions}
-use Rattle.mus_core.specs.Named.{flag_at}
+use Rattle.mus_core.specs.Flags.{flag_at}
 use Rattle.mus_core.specs.WitnessValues.{AreHeld}
 use Rattle.mus_core.proofs.Rotated.{same_set, is_rotating, rotation_ends}
 use Rattle.mus_core.proofs.rotation.rotate.Goals as goal

@@ -7,4 +7,4 @@ invariant-clauses l = IsShrunk l.core l.conflicts l.refutation l.witnesses
 
 -- each clause that is left out leaves fewer places without a witness
 abbrev pub decreases-clauses : goal.decreases-clauses
-decreases-clauses l = left_open l.core.clauses.now l.refutation.places l.witnesses
+decreases-clauses l = left_open l.core.clauses l.refutation.used l.witnesses

@@ -5,7 +5,7 @@ use Rattle.par_parts.proofs.Occurring.{have_positions}
 use Rattle.par_parts.proofs.search.number_parts.Goals as goal
 
 pub pass_position-requires-clause-lists : goal.pass_position-requires-clause-lists
-pass_position-requires-clause-lists c = have_positions c.args.f.now c.in_ok-lists.lists c.len-p-end.ensures.formula c.in_ok-lists.ensures
+pass_position-requires-clause-lists c = have_positions c.args.f.now c.args.lists.now c.len-p-end.ensures.formula c.requires
 
 pub returns-clause-labels : goal.returns-clause-labels
 returns-clause-labels c =

@@ -34,7 +34,7 @@ join_general-requires g c =
     let answers = c.in_ok-answers.answers in
     let found = c.in-Continue.found in
     let all : answers ≡ done found = gathered_as answers c.in_ok-found.field-0 _ c.in-Continue.is c.in_ok-found.ensures in
-    let each = on_list F c.args.conflicts list c.as_slice.result.now answers c.as_slice.ensures c.in_ok-answers.ensures in
+    let each = on_list F c.args.conflicts list c.as_slice-parts.result.now answers c.as_slice-parts.ensures c.in_ok-answers.ensures in
     let kernels = results F c.args.conflicts list found
     (subst (λ (given : List General). AreFound F c.args.conflicts list given) all each) in
     subst (λ (m : ℕ). AreJoinable m found) (sym c.len.ensures.value)
@@ -49,7 +49,7 @@ returns-in-Continue g c =
     let t = c.in_ok-join_general-in-Continue.field-0 in
     let all : answers ≡ done found = gathered_as answers c.in_ok-found.field-0 _ c.in-Continue.is c.in_ok-found.ensures in
     found_whole F c.args.conflicts list answers found t c.in_ok-list.ensures
-    (on_list F c.args.conflicts list c.as_slice.result.now answers c.as_slice.ensures c.in_ok-answers.ensures) all
+    (on_list F c.args.conflicts list c.as_slice-parts.result.now answers c.as_slice-parts.ensures c.in_ok-answers.ensures) all
     (subst (λ (m : ℕ). AreJoined m found t) c.len.ensures.value c.in_ok-join_general-in-Continue.ensures)
 
 pub returns : goal.returns
@@ -58,5 +58,5 @@ returns g c =
     let list = c.in_ok-list.list in
     let answers = c.in_ok-answers.answers in
     found_first F c.args.conflicts list answers c.in-Break.rounds c.in_ok-list.ensures
-    (on_list F c.args.conflicts list c.as_slice.result.now answers c.as_slice.ensures c.in_ok-answers.ensures)
+    (on_list F c.args.conflicts list c.as_slice-parts.result.now answers c.as_slice-parts.ensures c.in_ok-answers.ensures)
     (gathered_as answers c.in_ok-found.field-0 _ c.in-Break.is c.in_ok-found.ensures)

@@ -1,5 +1,5 @@
 use Rattle.std.proofs.Common.{◌≡◌, take}
-use Rattle.part_formula.specs.Decisions.{are_filled}
+use Rattle.part_copy.specs.Found.{are_filled}
 use Rattle.test_parts.proofs.deciding.is_filled.Given as goal
 
 -- as far as they were looked at

@@ -1,0 +1,3 @@
+pub mod Learning
+pub mod PartCopies
+pub mod ToldRefutations

@@ -1,0 +1,4 @@
+pub mod SubCopies
+pub mod Told
+pub mod CopiedMatchings
+pub mod RenamedMatchings

@@ -1,0 +1,7 @@
+//! Clauses of a formula, copied under numbers of their own, and what is found in the copy, told in the formula's numbers.
+#![tactic(auto)]
+
+mod copies;
+mod matchings;
+
+pub use copies::{OpenRound, PartCopy};

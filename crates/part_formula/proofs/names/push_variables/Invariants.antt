@@ -1,6 +1,0 @@
-use Rattle.std.proofs.Common.{◌≡◌, ◌++◌, map, take}
-use Rattle.lk_model.specs.Formulas.Literal.{variable}
-use Rattle.part_formula.proofs.names.push_variables.Given as goal
-
-abbrev pub invariant-loop-l : goal.invariant-loop-l
-invariant-loop-l l = l.variables.items ≡ l.fn.variables.items ++ map variable (take l.l-index l.clause)

@@ -1,3 +1,0 @@
-pub mod Learning
-pub mod Reaching
-pub mod Steps

@@ -1,6 +1,0 @@
-use Rattle.unit_refutations.proofs.Beginnings.{begun}
-use Rattle.unit_refutations.proofs.units.Units.new.Goals as goal
-
-pub returns-clause-kept : goal.returns-clause-kept
-returns-clause-kept c = begun c.args.f.now _ c.in_ok-new.field-0 c.in_ok-new-2.field-0.inside c.in_ok-new-3.field-0 c.vars.result c.in_ok-new.ensures c.in_ok-new-2.ensures.size
-    c.vars.ensures.value c.in_ok-new-3.ensures.lits c.in_ok-new-3.ensures.reasons c.in_ok-new-3.ensures.places
