@@ -1,12 +1,11 @@
 -- The core of an empty clause.
-use Rattle.std.proofs.Common.{◌≡◌, ℕ, ◌+◌, ◌-◌, ◌≤◌, ◌^◌, true, false, not, ◌==◌, nat_lt, nat_le, List, [], ◌∷◌, ◌++◌, refl, ◌∙◌, ap, ℤ, Option, Some, length, arith}
+use Rattle.std.proofs.Common.{◌≡◌, ℕ, ◌+◌, ◌-◌, ◌≤◌, ◌^◌, true, false, not, ◌==◌, nat_lt, nat_le, List, [], ◌∷◌, refl, ◌∙◌, ap, ℤ, Option, Some, length, arith}
 use Rattle.std.proofs.lemmas.Bool.{eq-eqb, le-leb, lt-ltb}
 use Rattle.lk_model.specs.Lists.{among}
 use Rattle.lk_model.specs.Formulas.Formula.{Cnf, clause_at}
 use Rattle.lk_model.specs.Formulas.Crossed.{no_variable, crossed_out}
 use Rattle.lk_model.specs.Chains.Chain.{chain_clause, states_its_clause}
 use Rattle.lk_model.specs.declared.document.Step.{Step}
-use Rattle.lk_model.specs.declared.document.Turn.{Turn}
 use Rattle.lk_model.specs.declared.document.Without.{Without}
 use Rattle.lk_model.proofs.Booleans.{or_left}
 use Rattle.general_laws.proofs.JoinLaws.{none_misstated}
@@ -47,9 +46,3 @@ empty_core F p h few = record {
   literals = refl;
   satisfied = rw (eq-eqb p p refl) refl;
 }
-
--- a list of that step alone, made of its parts
-pub only_step : (F : Cnf) (p m : ℕ) (clause : List ℤ) (first : ℕ) (turns : List Turn) (none made : List Step) → m ≡ length F.clauses → clause ≡ [] → first ≡ p → turns ≡ [] → none ≡ []
-    → made ≡ none ++ record { number = m + 1; clause = clause; first = first; turns = turns } ∷ [] → made ≡ empty_step F p ∷ []
-only_step F p m clause first turns none made number is named still nothing told =
-    told ∙ (λ j. nothing j ++ record { number = number j + 1; clause = is j; first = named j; turns = still j } ∷ [])

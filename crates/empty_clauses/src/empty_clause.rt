@@ -1,7 +1,6 @@
 //! Empty clauses, each of which is a core by itself.
-ghost use Rattle.std.specs.Prelude.{◌≡◌, ◌∷◌, [], find, IfOk, IsTrue};
-ghost use Rattle.lk_model.specs.Lists.{is_empty};
-ghost use Rattle.lk_model.specs.Formulas.Formula.{clause_at, is_formula, positions_of};
+ghost use Rattle.std.specs.Prelude.{◌≡◌, ◌∷◌, [], IfOk, IsTrue};
+ghost use Rattle.lk_model.specs.Formulas.Formula.{IsWithinLimits, is_formula, first_empty};
 ghost use Rattle.lk_model.specs.Chains.Rounds.{empty_round};
 ghost use Rattle.general_laws.specs.CoreLaw.{IsCore};
 ghost use Rattle.empty_clauses.specs.EmptyAt.{IsEmptyAt};
@@ -11,10 +10,26 @@ use std::alloc::Global;
 
 /// The least position of an empty clause.
 pub fn first_empty(f: &Formula) -> Option<u32>
-    ensures first { result ≡ find (λ p. is_empty (clause_at f.now p)) (positions_of f.now) }
+    ensures first { result ≡ first_empty f.now }
     ensures formula { IsTrue (is_formula f.now) }
+    ensures limits { IsWithinLimits f.now }
 {
     (1..f.len() + 1).find(|k| f.clause(*k).is_empty())
+}
+
+/// The round of one step that states the clause at a position, which is empty.
+pub fn empty_round(alloc: Global, f: &Formula, position: u32) -> Result<Round, OutOfMemory>
+    ensures round { IfOk result (λ r. r ≡ empty_round f.now position) }
+    ensures limits { IsWithinLimits f.now }
+{
+    let mut steps = List::new(alloc);
+    steps.push(Step {
+        number: u64::from(f.len()) + 1,
+        clause: List::new(alloc),
+        first: u64::from(position),
+        turns: List::new(alloc),
+    })?;
+    Ok(Round { steps })
 }
 
 /// The core of an empty clause: it alone, refuted by one step. The error says that memory ran out.
@@ -26,13 +41,7 @@ pub fn empty_core(alloc: Global, f: &Formula, p: u32) -> Result<MusResult, OutOf
 {
     let mut core = List::new(alloc);
     core.push(p)?;
-    let mut steps = List::new(alloc);
-    steps.push(Step {
-        number: u64::from(f.len()) + 1,
-        clause: List::new(alloc),
-        first: u64::from(p),
-        turns: List::new(alloc),
-    })?;
+    let round = empty_round(alloc, f, p)?;
     let mut without = List::new(alloc);
     without.push(Without {
         pos: p,
@@ -40,7 +49,7 @@ pub fn empty_core(alloc: Global, f: &Formula, p: u32) -> Result<MusResult, OutOf
     })?;
     Ok(MusResult {
         core,
-        round: Round { steps },
+        round,
         without,
     })
 }

@@ -3,4 +3,4 @@
 
 mod empty_clause;
 
-pub use empty_clause::{empty_core, first_empty};
+pub use empty_clause::{empty_core, empty_round, first_empty};

@@ -1,8 +1,6 @@
 -- An empty clause is a refutation by itself.
-use Rattle.std.proofs.Common.{◌≡◌, ℕ, zero, suc, ◌∙◌, ◌+◌, ◌-◌, ◌<◌, ◌≤◌, ◌^◌, ◌==◌, Bool, true, not, List, [], ◌∷◌, refl, sym, ap, subst, arith, ℤ, length, Option, Some, None, IfSome, false, inl, inr}
-use Rattle.std.specs.Prelude.{find}
-use Rattle.std.specs.List.{range_with_len}
-use Rattle.std.proofs.lemmas.Bool.{and_from, cases_Bool, cond-true, cond-false, eq-eqb, eqb-true, eqb-false, le-leb, lt-ltb, not_from_false}
+use Rattle.std.proofs.Common.{◌≡◌, ℕ, ◌+◌, ◌-◌, ◌≤◌, ◌^◌, ◌==◌, Bool, true, not, List, [], ◌∷◌, refl, sym, ap, subst, arith, length, Option, Some, None, IfSome}
+use Rattle.std.proofs.lemmas.Bool.{and_from, eq-eqb, le-leb, lt-ltb, not_from_false}
 use Rattle.lk_model.specs.Lists.{among, is_between, is_empty}
 use Rattle.lk_model.specs.Formulas.Formula.{Cnf, IsWithinLimits, clause_at, positions_of, first_empty}
 use Rattle.lk_model.specs.Formulas.Crossed.{no_variable}
@@ -10,7 +8,7 @@ use Rattle.lk_model.specs.Formulas.Lean.{are_positions}
 use Rattle.lk_model.specs.Chains.Chain.{states_its_clause}
 use Rattle.lk_model.specs.Chains.Rounds.{is_trimmed, reached, empty_round}
 use Rattle.lk_model.specs.declared.document.Step.{Step}
-use Rattle.lk_model.proofs.Founds.{none_at, none_found, up_to_bounds}
+use Rattle.lk_model.proofs.Founds.{none_at, up_to_bounds}
 use Rattle.lk_model.proofs.Lists.{among_here}
 use Rattle.lk_model.proofs.ListTests.{all_weaker}
 use Rattle.lk_model.proofs.Literals.{empty_is}
@@ -21,25 +19,6 @@ use Rattle.general_laws.proofs.Numbering.{premises_in}
 use Rattle.part_copy.specs.Found.{are_filled}
 use Rattle.renaming_laws.proofs.Mapped.{rising_all}
 use Rattle.kernel_solve.specs.Solutions.{IsRefutedWithin}
-
--- THE FIRST ONE
-
--- the first number of a range that passes a test is found
-first_passing : (t : ℕ → Bool) (a n p : ℕ) → a ≤ p → p < a + n → ((k : ℕ) → a ≤ k → k < p → t k ≡ false) → t p ≡ true → Some p ≡ find t (range_with_len a n)
-first_passing t a zero p low high before pass = absurd (omega (arith, low, high))
-first_passing t a (suc n) p low high before pass = elim (cases_Bool (a == p)) [
-  | inl here ↦
-      (let same : a ≡ p = eqb-true a p here in
-      let passes : t a ≡ true = subst (λ (k : ℕ). t k ≡ true) (sym same) pass in
-      ap Some (sym same) ∙ sym (cond-true (t a) (Some a) (find t (range_with_len (a + 1) n)) passes))
-  | inr later ↦
-      (let past : a < p = above a p low later in
-      first_passing t (a + 1) n p (omega (arith, past)) (omega (arith, high)) (λ k least. before k (omega (arith, least))) pass
-      ∙ sym (cond-false (t a) (Some a) (find t (range_with_len (a + 1) n)) (before a (omega arith) past)))
-]
-  where
-    above : (a p : ℕ) → a ≤ p → (a == p) ≡ false → a < p
-    above a p low other = let apart = eqb-false a p other in omega (arith, low, apart)
 
 -- FOUND
 
@@ -91,22 +70,3 @@ pub filled_at : (F : Cnf) (part : List ℕ) → first_empty F ≡ None → are_p
 filled_at F part none rise =
     all_weaker (λ p. is_between 1 (length F.clauses) p) (λ p. not (is_empty_at F p))
     (λ p inside. not_from_false (is_empty_at F p) (none_at (is_empty_at F) F p none inside)) part (rising_all 0 (length F.clauses) part rise)
-
--- THE SEARCH FOR ONE
-
--- where none before a position is empty and it is, it is the first one
-pub first_at : (F : Cnf) (p : ℕ) → 0 < p → p ≤ length F.clauses → ((k : ℕ) → 0 < k → k < p → is_empty (clause_at F k) ≡ false)
-    → is_empty (clause_at F p) ≡ true → Some p ≡ first_empty F
-first_at F p first last before empty = first_passing (is_empty_at F) 1 (length F.clauses) p first (omega (arith, last)) before empty
-
--- where none is, there is no first one
-pub none_empty : (F : Cnf) (end : ℕ) → length F.clauses < end → ((k : ℕ) → 0 < k → k < end → is_empty (clause_at F k) ≡ false) → None ≡ first_empty F
-none_empty F end past before = sym (none_found (is_empty_at F) (positions_of F) (λ p there.
-    let b = up_to_bounds (length F.clauses) p there in
-    let last = b.1 in
-    before p b.0 (omega (arith, last, past))))
-
--- a test of clauses as the code has it
-pub no_length : (c : List ℤ) → (length c == 0) ≡ true → is_empty c ≡ true
-no_length [] e = refl
-no_length (l ∷ c) e = absurd (let some = eqb-true (length (l ∷ c)) 0 e in omega (arith, some))

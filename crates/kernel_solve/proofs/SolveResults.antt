@@ -29,8 +29,8 @@ use Rattle.part_copy.specs.Found.{IsPartModel, IsPartRefuted, sets_only}
 use Rattle.part_formula.specs.Decisions.{Decision, IsDecision}
 use Rattle.lk_model.specs.declared.decided.Decided.TheVariants.{Model, Refuted, Stopped}
 use Rattle.kernel_solve.specs.KernelParts.{IsFilledPart, IsKernelPart, told, AreKernelParts, AreMatchingParts, AreKernelModels, IsJoinedModel}
-use Rattle.kernel_solve.specs.Answers.{AreAnswers, AreNotRefuted, IsFirstRefutation, IsFirstStop, IsAmongAnswers, models}
-use Rattle.kernel_solve.specs.Solutions.{IsTotalModel, IsNotRefuted, IsRefutedWithin, IsUndecidedWithin, IsSolved}
+use Rattle.kernel_solve.specs.Answers.{AreAnswers, AreNotRefuted, IsFirstRefutation, IsFirstStop, models}
+use Rattle.kernel_solve.specs.Solutions.{IsTotalModel, IsNotRefuted, IsRefutedWithin, IsUndecidedWithin}
 use Rattle.kernel_solve.proofs.EmptyClauses.{filled_at}
 use Rattle.kernel_solve.proofs.ModelLaws.{kernel_of, solve_model_law}
 use Rattle.kernel_solve.proofs.OpenRounds.{open_sound}
@@ -164,7 +164,7 @@ matching_parts F r list spelled h same =
     subst (λ (ps : List (List ℕ)). AreMatchingParts F ps) same (record { kept = r.kept; kernel = kernel_of F r h.form h.matching; are = h.parts })
 
 -- a refuted part refutes the formula
-refuted : (F : Cnf) (r : MatchingResult) (list : List (List ℕ)) (conflicts : ℕ) (answers : List Decision) (round : Round) → IsSearched F r list
+pub refuted : (F : Cnf) (r : MatchingResult) (list : List (List ℕ)) (conflicts : ℕ) (answers : List Decision) (round : Round) → IsSearched F r list
     → AreAnswers F conflicts list answers → IsFirstRefutation answers round → IsRefutedWithin F conflicts round
 refuted F r list conflicts answers round h all c =
     let d = divided F conflicts (Refuted round) list c.before c.behind (as_divided F conflicts list answers _ c.answers_are all) in
@@ -191,7 +191,7 @@ refuted F r list conflicts answers round h all c =
     }
 
 -- what is learned over a part makes an unfinished round of the formula
-stopped : (F : Cnf) (r : MatchingResult) (list : List (List ℕ)) (conflicts : ℕ) (answers : List Decision) (round : Round) → conflicts < 2 ^ 63 → IsSearched F r list
+pub stopped : (F : Cnf) (r : MatchingResult) (list : List (List ℕ)) (conflicts : ℕ) (answers : List Decision) (round : Round) → conflicts < 2 ^ 63 → IsSearched F r list
     → AreAnswers F conflicts list answers → IsFirstStop answers round → IsUndecidedWithin F conflicts round
 stopped F r list conflicts answers round most h all c =
     let d = divided F conflicts (Stopped round) list (models c.before) c.behind (as_divided F conflicts list answers _ c.answers_are all) in
@@ -219,12 +219,6 @@ stopped F r list conflicts answers round most h all c =
         wants = decides.wants;
       };
     }
-
-pub solved_by : (F : Cnf) (r : MatchingResult) (list : List (List ℕ)) (conflicts : ℕ) (answers : List Decision) (solved : Decision) → conflicts < 2 ^ 63 → IsSearched F r list
-    → AreAnswers F conflicts list answers → IsAmongAnswers answers solved → IsSolved F conflicts solved
-solved_by F r list conflicts answers (Model lits) most h all c = absurd c
-solved_by F r list conflicts answers (Refuted round) most h all c = refuted F r list conflicts answers round h all c
-solved_by F r list conflicts answers (Stopped round) most h all c = stopped F r list conflicts answers round most h all c
 
 -- MODELS OF ALL PARTS
 

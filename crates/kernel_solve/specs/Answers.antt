@@ -3,6 +3,7 @@ use Rattle.std.specs.Prelude.{◌≡◌, ℕ, List, [], ◌∷◌, ◌++◌, ⊤
 use Rattle.lk_model.specs.Formulas.Formula.{Cnf}
 use Rattle.lk_model.specs.declared.document.Round.{Round}
 use Rattle.part_formula.specs.Decisions.{Decision, IsDecision}
+use Rattle.lk_model.specs.declared.decided.Decided.{Decided}
 use Rattle.lk_model.specs.declared.decided.Decided.TheVariants.{Model, Refuted, Stopped}
 
 -- one answer for each of these parts
@@ -36,11 +37,11 @@ pub record IsFirstStop (answers : List Decision) (r : Round) : Type 0 where
   pub answers_are : answers ≡ models before ++ Stopped r ∷ behind
   pub others : AreNotRefuted behind
 
--- the first refutation, or where there is none the first round that stopped
-abbrev pub IsAmongAnswers : List Decision → Decision → Type 0
-IsAmongAnswers answers (Model lits) = ⊥
-IsAmongAnswers answers (Refuted r) = IsFirstRefutation answers r
-IsAmongAnswers answers (Stopped r) = IsFirstStop answers r
+-- all models, or the first refutation, or where there is none the first round that stopped
+abbrev pub IsGathered : List Decision → Decided (List (List ℤ)) Round Round → Type 0
+IsGathered answers (Model sets) = answers ≡ models sets
+IsGathered answers (Refuted r) = IsFirstRefutation answers r
+IsGathered answers (Stopped r) = IsFirstStop answers r
 
 -- of some answers without a refutation: models as long as no round stopped, and then the first round that did
 abbrev pub IsGatheredSoFar : List Decision → List (List ℤ) → Option Round → Type 0

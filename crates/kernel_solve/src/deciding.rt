@@ -1,17 +1,15 @@
 //! What is decided of the parts of the kernel.
-ghost use Rattle.std.specs.Prelude.{◌≡◌, ◌≤◌, IfOk, unwrap_or};
-ghost use Rattle.std.specs.ControlFlow.{MatchControlFlow};
+ghost use Rattle.std.specs.Prelude.{◌≤◌, IfOk};
 ghost use Rattle.std.specs.List.{AllByRecursion};
 ghost use Rattle.part_formula.specs.Decisions.{IsDecision};
 ghost use Rattle.kernel_solve.specs.KernelParts.{IsFilledPart};
-ghost use Rattle.kernel_solve.specs.Answers.{AreAnswers, IsAmongAnswers, models};
+ghost use Rattle.kernel_solve.specs.Answers.{AreAnswers, IsGathered};
 
 use lk_model::{Budget, Decided, Formula, List, Lit, OutOfMemory, Round};
 use par_parts::{Gate, all_ok, map_halves};
 use part_formula::{Decision, decide_part};
 use std::alloc::Global;
 use std::marker::Sync;
-use std::ops::ControlFlow;
 use std::thread::Threads;
 
 /// What is decided of each part, in their order, in halves.
@@ -57,30 +55,20 @@ fn decision_of(
 pub(crate) fn gather(
     alloc: Global,
     answers: List<Decision>,
-) -> Result<ControlFlow<Decision, List<List<Lit>>>, OutOfMemory>
-    ensures { IfOk result (λ flow. MatchControlFlow flow (λ sets. answers ≡ models sets) (IsAmongAnswers answers)) }
+) -> Result<Decided<List<List<Lit>>, Round, Round>, OutOfMemory>
+    ensures { IfOk result (IsGathered answers) }
 {
     let mut models = List::new(alloc);
-    let mut stopped = None;
+    let mut stopped: Option<Round> = None;
     for answer in answers.into_vec() {
         match answer {
             Decided::Model(model) => models.push(model)?,
-            Decided::Refuted(round) => return Ok(ControlFlow::Break(Decided::Refuted(round))),
-            Decided::Stopped(round) => stopped = Some(first_of(stopped, round)),
+            Decided::Refuted(round) => return Ok(Decided::Refuted(round)),
+            Decided::Stopped(round) => stopped = Some(stopped.unwrap_or(round)),
         }
     }
     match stopped {
-        Some(round) => Ok(ControlFlow::Break(Decided::Stopped(round))),
-        None => Ok(ControlFlow::Continue(models)),
-    }
-}
-
-// The first of two rounds, where there is one before the second.
-fn first_of(first: Option<Round>, second: Round) -> Round
-    ensures { result ≡ unwrap_or first second }
-{
-    match first {
-        Some(round) => round,
-        None => second,
+        Some(round) => Ok(Decided::Stopped(round)),
+        None => Ok(Decided::Model(models)),
     }
 }

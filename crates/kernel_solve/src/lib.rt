@@ -2,7 +2,6 @@
 #![tactic(auto)]
 
 mod deciding;
-mod empty_clause;
 mod kernel_parts;
 mod laws;
 mod model;

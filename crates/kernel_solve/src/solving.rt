@@ -9,16 +9,15 @@ ghost use Rattle.std.specs.Prelude.{◌≤◌, IfOk};
 ghost use Rattle.kernel_solve.specs.Solutions.{IsSolved};
 
 use crate::deciding::{decisions, gather};
-use crate::empty_clause::{empty_round, first_empty};
 use crate::kernel_parts::kernel_parts;
 use crate::model::model_of;
+use empty_clauses::{empty_round, first_empty};
 use lk_model::{Budget, Decided, Formula, OutOfMemory};
 use par_parts::Gate;
 use part_formula::Decision;
 use part_kernels::matching_by_parts;
 use std::alloc::Global;
 use std::marker::Sync;
-use std::ops::ControlFlow;
 use std::thread::Threads;
 
 /// Whether a formula has a model, by at most so many learned clauses for each part of its matching kernel, and at
@@ -55,7 +54,8 @@ pub fn solve<R: Threads + Sync, G: Gate>(
     let parts = kernel_parts(alloc, f, found.kept.as_slice())?;
     let decided = decisions(rt, alloc, gate, f, parts.as_slice(), conflicts, workers)?;
     match gather(alloc, decided)? {
-        ControlFlow::Continue(models) => Ok(Decided::Model(model_of(alloc, f, &found, models)?)),
-        ControlFlow::Break(decided) => Ok(decided),
+        Decided::Model(models) => Ok(Decided::Model(model_of(alloc, f, &found, models)?)),
+        Decided::Refuted(round) => Ok(Decided::Refuted(round)),
+        Decided::Stopped(round) => Ok(Decided::Stopped(round)),
     }
 }

@@ -2,7 +2,7 @@
 //!
 //! Parts share no variable. So a refuted part refutes the formula, and models of all parts make one of the formula. A
 //! part that is easily refuted may stand behind a hard one, so all of them are first searched with a small budget.
-ghost use Rattle.std.specs.Prelude.{◌≡◌, unwrap_or, IfOk, IsTrue};
+ghost use Rattle.std.specs.Prelude.{◌≡◌, IfOk, IsTrue};
 ghost use Rattle.lk_model.specs.Formulas.Formula.{positions_of};
 ghost use Rattle.lk_model.specs.Formulas.Lean.{are_positions};
 ghost use Rattle.lk_model.specs.Formulas.Parts.{AreParts};
@@ -55,12 +55,12 @@ fn decide_each(
     ensures { IfOk result (IsDecidedByParts f.now conflicts) }
 {
     let mut models = List::new(alloc);
-    let mut stopped = None;
+    let mut stopped: Option<Stop> = None;
     for part in list {
         match decide_part(alloc, f, part.as_slice(), conflicts)? {
             Decided::Model(set) => models.push(only_set(alloc, set))?,
             Decided::Refuted(refutation) => return Ok(Decided::Refuted(refutation)),
-            Decided::Stopped(stop) => stopped = Some(first_of(stopped, stop)),
+            Decided::Stopped(stop) => stopped = Some(stopped.unwrap_or(stop)),
         }
     }
     match stopped {
@@ -114,15 +114,5 @@ fn only_set(alloc: Global, set: List<Lit>) -> GeneralResult
         kept: List::new(alloc),
         set,
         rounds: List::new(alloc),
-    }
-}
-
-// The first of two, where there is one before the second.
-fn first_of(first: Option<Stop>, second: Stop) -> Stop
-    ensures { result ≡ unwrap_or first second }
-{
-    match first {
-        Some(stop) => stop,
-        None => second,
     }
 }

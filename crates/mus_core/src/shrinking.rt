@@ -5,9 +5,9 @@
 //! (deletion with refinement: Dershowitz, Hanna and Nadel, "A Scalable Algorithm for Minimal Unsatisfiable Core
 //! Extraction", 2006).
 //!
-//! Here the clauses of the first set are copied once under numbers of their own, so that no decision costs the
-//! formula. The last refutation is kept, in the formula's numbers, and its chains name positions of the core alone,
-//! since all later answers are models.
+//! Here the clauses of the first set are copied under numbers of their own, and each decision copies some of these, so
+//! that none costs the formula. The last refutation is kept, its round in the formula's numbers, and beside it the places
+//! of the copy that it uses. In the end these are all of the core, since all later answers are models.
 ghost use Rattle.std.specs.Prelude.{◌≡◌, ◌==◌, None, filter, not, length, replicate, IfOk, IsTrue};
 ghost use Rattle.occurrence_lists.specs.Occurrences.{AreOccurrences};
 ghost use Rattle.part_copy.specs.Found.{are_filled};

@@ -67,6 +67,7 @@ literals_told c lits told h rise is =
     let both = copy F G c.part c.names h.part h.dense in
     let len = part_length F G c.part c.names h.dense in
     subst (λ (ls : List ℤ). AreTold c lits ls) (sym (is ∙ set_is c lits h rise)) (record {
+      are = sym (set_is c lits h rise);
       ascend = set_copied F G ν (place_in F c.part) both lits rise;
       satisfy = λ p low high holds.
           subst (λ (q : ℕ). satisfies (assignment_of (map (literal_on ν) lits)) (clause_at F q) ≡ true)

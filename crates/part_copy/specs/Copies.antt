@@ -5,7 +5,7 @@ use Rattle.lk_model.specs.Formulas.Literal.{variable}
 use Rattle.lk_model.specs.Formulas.Formula.{Cnf, IsWithinLimits, is_formula, clause_at}
 use Rattle.lk_model.specs.Formulas.Assignment.{assignment_of, satisfies}
 use Rattle.lk_model.specs.Formulas.Lean.{are_positions}
-use Rattle.renaming_laws.specs.Renaming.{IsDense, nth}
+use Rattle.renaming_laws.specs.Renaming.{IsDense, named, nth}
 use Rattle.result_renaming.specs.declared.renaming.Renaming.{Renaming}
 
 -- a formula, some of its positions, variables of it, and clauses over the places of these variables
@@ -22,7 +22,7 @@ pub record IsCopy (c : Copy) : Type 0 where
   pub part : IsTrue (are_positions c.formula c.part)
   pub dense : IsDense c.formula c.part c.names c.clauses
 
--- it is a copy of these clauses
+-- its formula and its positions are these; that its clauses are those at the positions is in `IsCopy`
 pub record IsCopyOf (F : Cnf) (ps : List ℕ) (c : Copy) : Type 0 where
   pub formula : c.formula ≡ F
   pub part : c.part ≡ ps
@@ -36,6 +36,7 @@ pub record IsRenamingOf (c : Copy) (by : Renaming) : Type 0 where
 
 -- Literals of the copy in the formula's numbers: they ascend by variable, and satisfy what those satisfy.
 pub record AreTold (c : Copy) (lits told : List ℤ) : Type 0 where
+  pub are : told ≡ map (named c.names) lits
   pub ascend : IsTrue (rises_within 0 c.formula.vars (map variable told))
   pub satisfy : (p : ℕ) → 1 ≤ p → p ≤ length c.clauses.clauses → IsTrue (satisfies (assignment_of lits) (clause_at c.clauses p))
       → IsTrue (satisfies (assignment_of told) (clause_at c.formula (nth c.part p)))

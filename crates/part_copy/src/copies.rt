@@ -19,7 +19,7 @@ use std::marker::Model;
 
 /// The clauses of a formula at some positions, copied in their order into a formula whose variables are numbered from 1
 /// without a gap, so that tables for the copy are as long as the part. What is found in all of the copy is told in the
-/// formula's numbers: variables, positions, and steps, which the formula counts on from its number of clauses plus 1.
+/// formula's numbers: variables, positions, and steps, which count on from the formula's number of clauses plus 1.
 ///
 /// Contracts see the formula, the positions, the names of the copy's variables in the formula, and the copied clauses.
 #[derive(Drop)]
@@ -98,7 +98,7 @@ impl<'a> PartCopy<'a> {
         self.part
     }
 
-    /// The position of the clause at a place of the copy, and 0 where there is none.
+    /// The position of the clause at a place of the copy, which counts from 1, and 0 past the last one.
     pub fn position(&self, place: u32) -> u32
         ensures { result ≡ nth self.now.part place }
     {

@@ -103,6 +103,7 @@ names_low F part conflicts d log h is =
 pub record AreRefuted (F : Cnf) (part : List ℕ) (conflicts : ℕ) (steps : List Step) (r : Round) : Type 0 where
   pub part_is : IsPartRefuted F part conflicts r
   pub used_are : IsPartRefuted F (used_positions F (round_of steps)) conflicts r
+  pub same : used_positions F r ≡ used_positions F (round_of steps)
 
 -- a needed refutation whose chains name positions of another part alone
 named_alone : (F : Cnf) (part other : List ℕ) (conflicts : ℕ) (r : Round) → IsPartRefuted F part conflicts r → names_within F other (r ∷ []) ≡ true → IsPartRefuted F other conflicts r
@@ -148,7 +149,7 @@ refutation_over over next budget log crossed form blocked is room h =
       needed = t.needed;
       most = omega (arith, learned, fewer, count_whole log.steps h.refutes h.filled, most);
     } in
-    record { part_is = whole; used_are = named_alone F part (used_positions F (round_of log.steps)) budget (round_of after) whole (trims.names crossed) }
+    record { part_is = whole; used_are = named_alone F part (used_positions F (round_of log.steps)) budget (round_of after) whole (trims.names crossed); same = trims.positions }
 
 pub refutation_found : (F : Cnf) (part : List ℕ) (conflicts : ℕ) (d : Outcome) (log : Derivation) (r : Round) → IsFirst F part conflicts d → d ≡ Refuted log
     → r.steps ≡ trimmed (length F.clauses + 1) log.steps → AreRefuted F part conflicts log.steps r

@@ -1,7 +1,8 @@
 -- Whether the clauses of a part have a model.
-use Rattle.std.specs.Prelude.{ℕ, List, [], ◌∷◌, ℤ, IsTrue}
+use Rattle.std.specs.Prelude.{◌≡◌, ℕ, List, [], ◌∷◌, ℤ, IsTrue}
 use Rattle.lk_model.specs.Formulas.Formula.{Cnf, positions_of}
 use Rattle.lk_model.specs.Formulas.Lean.{are_positions}
+use Rattle.lk_model.specs.Chains.Rounds.{used_positions}
 use Rattle.lk_model.specs.declared.decided.Decided.{Decided}
 use Rattle.lk_model.specs.declared.decided.Decided.TheVariants.{Model, Refuted, Stopped}
 use Rattle.lk_model.specs.declared.document.Round.{Round}
@@ -19,10 +20,11 @@ IsDecision F part conflicts (Model lits) = IsPartModel F part lits
 IsDecision F part conflicts (Refuted r) = IsPartRefuted F part conflicts r
 IsDecision F part conflicts (Stopped r) = IsUnfinished F part conflicts (r ∷ [])
 
--- a refutation of all clauses, which refutes those at the used positions alone
+-- a refutation of all clauses, and the positions that it uses: it refutes the clauses there alone
 pub record IsRefuted (F : Cnf) (conflicts : ℕ) (r : Refutation) : Type 0 where
   pub whole : IsPartRefuted F (positions_of F) conflicts r.round
-  pub used : IsTrue (are_positions F r.used)
+  pub are_used : r.used ≡ used_positions F r.round
+  pub positions : IsTrue (are_positions F r.used)
   pub refuted : IsPartRefuted F r.used conflicts r.round
 
 -- likewise of all clauses

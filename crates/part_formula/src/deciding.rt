@@ -19,7 +19,8 @@ use std::alloc::Global;
 /// were allowed, which is not at its end.
 pub type Decision = Decided<List<Lit>, Round, Round>;
 
-/// A refutation of clauses of a formula, and the positions that its chains name, ascending.
+/// A refutation of clauses of a formula, and the positions that it uses, ascending. Where the clauses are kept in a copy,
+/// `mus_core` has there the places that it uses.
 #[derive(Drop)]
 pub struct Refuted {
     pub round: Round,

@@ -2,7 +2,7 @@
 //!
 //! A search over clauses makes tables as long as the formula's variables, so for each of many small parts it
 //! would cost the whole formula. Here the part is first copied into a formula of its own, whose size is the
-//! part's. If it has all clauses of the formula, and the variables are no more, it is searched where it stands.
+//! part's. A part with all clauses of a formula that has no more variables than clauses is searched where it stands.
 ghost use Rattle.std.specs.Prelude.{IfOk, IsTrue};
 ghost use Rattle.lk_model.specs.Formulas.Lean.{are_positions};
 ghost use Rattle.occurrence_lists.specs.Occurrences.{AreOccurrences};

@@ -1,4 +1,4 @@
-//! What is found in a part of a formula by a search in a copy of it.
+//! What a search finds in a part of a formula, mostly in a copy of it.
 #![tactic(auto)]
 
 mod deciding;

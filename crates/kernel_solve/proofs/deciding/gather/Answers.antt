@@ -18,7 +18,7 @@ loop-answer-preserved-in-Continue-1 c = record {
 pub loop-answer-preserved : goal.loop-answer-preserved
 loop-answer-preserved c = record {
   so_far =
-      subst (λ (r : Round). IsGatheredSoFar (c.loop-answer.yielded ++ c.in-Some.answer ∷ []) c.loop-answer.models (Some r)) (sym c.first_of.ensures)
+      subst (λ (r : Round). IsGatheredSoFar (c.loop-answer.yielded ++ c.in-Some.answer ∷ []) c.loop-answer.models (Some r)) (sym c.unwrap_or.ensures)
       (stopped_more c.loop-answer.yielded c.loop-answer.models c.loop-answer.stopped c.in-Some.answer c.in-Stopped.round c.in-Stopped.is c.loop-answer.invariant.so_far);
   rest = grind (arith, common_steps);
   long = search rules;

@@ -40,7 +40,7 @@ loop-part-preserved c =
           record {
             models = λ none. absurd (let stopped = w.stopped-is in let f : ⊥ = cc (stopped, none) in f);
             stopped = subst (λ (o : Option Stop). IfSome o (IsFirstStop F c.args.conflicts (take (i + 1) list))) (sym w.stopped-is)
-                (subst (λ (s : Stop). IsFirstStop F c.args.conflicts (take (i + 1) list) s) (sym w.first_of.ensures)
+                (subst (λ (s : Stop). IsFirstStop F c.args.conflicts (take (i + 1) list) s) (sym w.unwrap_or.ensures)
                 (subst (λ (ps : List (List ℕ)). IsFirstStop F c.args.conflicts ps (unwrap_or c.loop-part.stopped w.in-Stopped.stop)) (sym (next ∙ ap (λ (ps : List ℕ). take i list ++ ps ∷ []) (sym own)))
                 (first_stop F c.args.conflicts (take i list) found c.loop-part.stopped w.in-Stopped.stop stop.0 c.loop-part.invariant.models c.loop-part.invariant.stopped)));
           })

@@ -33,8 +33,8 @@ returns-in_ok-refutation-in-Refuted c =
     let found : IsRefuted copy.clauses conflicts c.in-Refuted.found = subst (λ (H : Cnf). IsRefuted H conflicts c.in-Refuted.found) c.clauses.ensures.clauses
     (subst (λ (d : Decided (List ℤ) Refutation Round). IsDecided c.clauses.result.now conflicts d) c.in-Refuted.is c.in_ok-set.ensures) in
     let r = c.in_ok-refutation-in-Refuted in
-    told_set c.args.f.now c.args.part.now copy conflicts c.in-Refuted.found.used c.positions.result r.field-0 c.in_ok-copy.ensures c.clauses.ensures.copy found.used
-    c.positions.ensures.positions (r.ensures c.in-Refuted.found.used conflicts found.used found.refuted)
+    told_set c.args.f.now c.args.part.now copy conflicts c.in-Refuted.found.used c.positions.result r.field-0 c.in_ok-copy.ensures c.clauses.ensures.copy found.positions
+    c.positions.ensures.positions (r.ensures c.in-Refuted.found.used conflicts found.positions found.refuted)
 
 pub returns-in_ok-open-in-Stopped : goal.returns-in_ok-open-in-Stopped
 returns-in_ok-open-in-Stopped c =

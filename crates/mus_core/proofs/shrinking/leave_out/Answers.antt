@@ -73,7 +73,7 @@ returns-in-Refuted c =
     c.requires.shrunk c.requires.next (c.in_ok-others.ensures ∙ ap (filter (λ (q : ℕ). not (q == c.args.p))) c.as_slice.ensures) c.in_ok-rest.ensures.copy.formula
     (c.in_ok-rest.ensures.copy.part ∙ ap (map (nth core.part)) c.as_slice-2.ensures)
     (c.in_ok-rest.ensures.clauses ∙ ap (clauses_at core.clauses) c.as_slice-2.ensures)
-    (record { places = found.used; refuted = r.ensures used conflicts found.used found.refuted })
+    (record { places = found.positions; refuted = r.ensures used conflicts found.positions found.refuted })
     (c.positions_at.ensures ∙ ap (λ (ps : List ℕ). map (nth ps) used) c.as_slice-in-Refuted.ensures)
 
 pub returns : goal.returns

@@ -72,7 +72,8 @@ returns-in-Refuted c =
     let used : needed.used ≡ used_positions F (record { steps = c.in-Refuted.log.steps }) = c.in_ok-needed-in-Refuted.ensures.used in
     record {
       whole = subst (λ (k : ℕ). IsPartRefuted F (positions_of F) k r) c.get.ensures.value (subst (λ (ps : List ℕ). IsPartRefuted F ps c.get.result r) e are.part_is);
-      used = subst (λ (ps : List ℕ). are_positions F ps ≡ true) (sym used) (filtered_rise (length F.clauses) (among (reached c.in-Refuted.log.steps)));
+      are_used = used ∙ sym are.same;
+      positions = subst (λ (ps : List ℕ). are_positions F ps ≡ true) (sym used) (filtered_rise (length F.clauses) (among (reached c.in-Refuted.log.steps)));
       refuted = subst (λ (k : ℕ). IsPartRefuted F needed.used k r) c.get.ensures.value
           (subst (λ (ps : List ℕ). IsPartRefuted F ps c.get.result r) (sym used) are.used_are);
     }
