@@ -9,7 +9,8 @@ minisat, cadical and picosat; `tools` needs yosys and berkeley-abc too. The firs
 the second those of tool_formulas.py. Of each formula:
 
 - the status is that of the solvers, with one worker and with two, and with a small budget if that is enough;
-- judge.py accepts the answer, each step of a refutation is needed, and no more clauses are learned than were allowed;
+- judge.py accepts the answer, each step of a refutation is needed, and before the last one there are at most as many as clauses
+  may be learned, and three for each literal;
 - `verify` says of the answer, and of forged ones, what judge.py says;
 - a refutation uses clauses of the general kernel alone;
 - `check` says of an unfinished document that it is unfinished, with the budget as its number.
@@ -234,7 +235,8 @@ class Comparison:
     def refutation(self, kind, file, formula, steps, budget):
         used, last, given = judge.reached(steps), steps[-1].number, formula.m
         self.expect(all(step.number in used for step in steps), f"{kind}: a step is not needed", file)
-        self.expect(last - given - 1 <= budget, f"{kind}: {last - given - 1} clauses learned", file)
+        most = budget + 3 * sum(map(len, formula.clause.values()))
+        self.expect(last - given - 1 <= most, f"{kind}: {last - given - 1} steps before the last, not at most {most}", file)
         found = self.run("reduce", "general", file, "--conflicts", str(BUDGET))
         if found.status == 0:
             self.counts["kernels"] += 1

@@ -3,15 +3,19 @@
 
     bench/solving.py LEANK [GROUP] [KIND ...]
 
-LEANK is the built program (`dist/leank`). GROUP is `families`, `formulas`, `tools` or `parts`; without it all four are
-measured. Needs python3 and Debian's packages minisat and cadical; `families` needs picosat, and `tools` yosys and
-berkeley-abc too. Prints rows of tables. Each figure is the least of three runs, by turns, or of one run that takes over
+LEANK is the built program (`dist/leank`). GROUP is `families`, `formulas`, `tools`, `circuits` or `parts`; without it all
+are measured. Needs python3 and Debian's packages minisat and cadical; `families` needs picosat, and `tools` and `circuits` yosys
+and berkeley-abc too. Prints rows of tables. Each figure is the least of three runs, by turns, or of one run that takes over
 5 seconds; a run ends after 30 seconds of the processor, and `solve` may learn as many clauses as it wants. Seconds are
 those of the processor; in `parts`, where two workers are at work, those of the clock.
 
 `families` tells how many formulas of a family each program answers within 60 seconds, and the geometric mean of the
 ratios of `solve` to each other one, with the least and the greatest, where both answer. A ratio takes less than 5
 milliseconds as 5, and what takes over half a second runs once. What each formula takes stands on standard error.
+
+`circuits` tells larger formulas that tools write: the least seconds and the most memory of `solve`, of minisat, of minisat
+without its preprocessing, and of cadical; and the geometric mean of the ratios to minisat, with the least and the greatest,
+over those that take `solve` or minisat over a tenth of a second.
 
 `reading` is `verify` of the same answer without its last byte: it reads the formula and the whole answer, and refuses the
 last line. judge.py judges each answer of at most 4 MB. Nothing fails by time.
@@ -136,7 +140,7 @@ PARTS = {
     "100,000 parts that matching removes": lambda draw: many(draw, 100000, square),
 }
 
-Run = namedtuple("Run", "clock processor status")
+Run = namedtuple("Run", "clock processor status memory")
 
 
 def limited(most):
@@ -151,7 +155,7 @@ def measured(words, output, most):
         process = subprocess.Popen(words, stdout=out, stderr=subprocess.DEVNULL, preexec_fn=lambda: limited(most))
         _, status, usage = os.wait4(process.pid, 0)
     process.returncode = os.waitstatus_to_exitcode(status)
-    return Run(time.monotonic() - begin, usage.ru_utime + usage.ru_stime, process.returncode)
+    return Run(time.monotonic() - begin, usage.ru_utime + usage.ru_stime, process.returncode, usage.ru_maxrss / 1024)
 
 
 def by_turns(commands, most=MOST_SECONDS, long=LONG_SECONDS):
@@ -163,7 +167,7 @@ def by_turns(commands, most=MOST_SECONDS, long=LONG_SECONDS):
                 continue
             run = measured(words, output, most)
             before = least.get(name, run)
-            least[name] = Run(min(before.clock, run.clock), min(before.processor, run.processor), run.status)
+            least[name] = Run(min(before.clock, run.clock), min(before.processor, run.processor), run.status, max(before.memory, run.memory))
     return least
 
 
@@ -340,6 +344,35 @@ def tools(leank, folder, kinds):
             os.unlink(formula)
 
 
+def circuit_row(leank, kind, formula, answer):
+    """Prints a row on a formula, and returns its runs."""
+    commands = solver_words(leank, formula, answer)
+    commands["no-pre"] = (["minisat", "-verb=0", "-no-pre", formula], os.devnull)
+    runs = by_turns(commands)
+    same_status(kind, runs)
+    variables, clauses = header_of(formula)
+    columns = [kind, f"{variables:,} and {clauses:,}"]
+    columns += [shown(runs[name].processor, runs[name].status) for name in ("solve", "minisat", "no-pre", "cadical")]
+    columns += [f"{os.path.getsize(answer) / 1e6:.1f} MB", f"{runs['solve'].memory:.0f} and {runs['minisat'].memory:.0f} MB"]
+    print("| " + " | ".join(columns) + " |", flush=True)
+    return runs
+
+
+def circuits(leank, folder, kinds):
+    print_head("formula", "variables and clauses", "`solve`", "minisat", "without preprocessing", "cadical", "answer",
+               "memory of `solve` and minisat")
+    found = []
+    for kind in kinds or tool_formulas.LARGE_KINDS:
+        formula = os.path.join(folder, "circuit")
+        if tool_formulas.written_by(kind, formula):
+            found.append(circuit_row(leank, kind, formula, os.path.join(folder, "answer")))
+            os.unlink(formula)
+    both = [(runs["solve"], runs["minisat"]) for runs in found if answered(runs["solve"]) and answered(runs["minisat"])]
+    long = [pair for pair in both if max(run.processor for run in pair) > 0.1]
+    print(f"\ntimes minisat: {mean_ratio([(ours.processor, theirs.processor) for ours, theirs in long])} over {len(long)} formulas; "
+          f"memory: {mean_ratio([(ours.memory, theirs.memory) for ours, theirs in long])}", flush=True)
+
+
 def parts(leank, folder, kinds):
     """Prints seconds of the clock."""
     print_head("formula", "variables and clauses", "model", "one worker", "two workers (to one)", "minisat", "cadical", "judge")
@@ -360,7 +393,7 @@ def parts(leank, folder, kinds):
         print("| " + " | ".join([*columns, both[0] if both else "-"]) + " |", flush=True)
 
 
-GROUPS = {"families": families, "formulas": formulas, "tools": tools, "parts": parts}
+GROUPS = {"families": families, "formulas": formulas, "tools": tools, "circuits": circuits, "parts": parts}
 
 
 def main():

@@ -81,6 +81,31 @@ KINDS = {
     "queue by abc, 16 steps": mapped_bad("queue", 16),
 }
 
+# Of up to 600,000 clauses.
+LARGE_KINDS = {
+    "locks by abc, 40 steps": mapped_bad("locks", 40),
+    "arbiter by abc, 40 steps": mapped_bad("arbiter", 40),
+    "sorting": bad("sorting", 1),
+    "queue by abc, 12 steps": mapped_bad("queue", 12),
+    "factors": KINDS["factors"],
+    "adders, 32 bits": equal("adders", 32),
+    "arbiter by abc, 100 steps": mapped_bad("arbiter", 100),
+    "ones, 24 bits": equal("ones", 24),
+    "adders, 64 bits": equal("adders", 64),
+    "no key": KINDS["no key"],
+    "key": KINDS["key"],
+    "locks, 40 steps": bad("locks", 40),
+    "locks, wrong, 60 steps": bad("locks", 60, "LOOKS 1"),
+    "searching": bad("searching", 1),
+    "root": bad("root", 1),
+    "locks, 80 steps": bad("locks", 80),
+    "queue, 10 steps": bad("queue", 10),
+    "queue, 12 steps": bad("queue", 12),
+    "arbiter, 8 steps": bad("arbiter", 8),
+    "arbiter, 30 steps": bad("arbiter", 30),
+    "arbiter, 60 steps": bad("arbiter", 60),
+}
+
 # Of at most some thousands of clauses, and without a model.
 SMALL_KINDS = {
     "adders, 4 bits": equal("adders", 4),
@@ -101,7 +126,7 @@ SMALL_KINDS = {
 
 def written_by(kind, file):
     """Whether the tools have written the formula into the file."""
-    for words in {**KINDS, **SMALL_KINDS}[kind](file):
+    for words in {**KINDS, **LARGE_KINDS, **SMALL_KINDS}[kind](file):
         done = subprocess.run(words, stdout=subprocess.PIPE, stderr=subprocess.STDOUT, text=True, cwd=os.path.dirname(file))
     if os.path.exists(file) and os.path.getsize(file) > 0:
         return True

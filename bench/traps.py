@@ -129,6 +129,24 @@ def easy_part_behind(n):
     return f"p cnf {variables + 2} {clauses + 4}\n" + rows + square
 
 
+def equivalences(n):
+    """Each variable is equal to the next one, and the last one to the complement of the first."""
+    rows = [[s * i, -s * (i + 1)] for i in range(1, n) for s in (1, -1)]
+    return cnf(n, rows + [[n, 1], [-n, -1]])
+
+
+def equal_clauses(n):
+    """So many clauses, each many times, and a square that refutes them."""
+    rows = [[1 + k % 150, -(2 + k % 150), 3 + k % 150] for k in range(n)]
+    return cnf(152, rows + [[1, 2], [1, -2], [-1, 2], [-1, -2]])
+
+
+def one_in_everything(n):
+    """A variable in all clauses, with which the others make squares."""
+    rows = [[s, t * i, u * (i + 1)] for i in range(2, n, 2) for s in (1, -1) for t in (1, -1) for u in (1, -1)]
+    return cnf(n, rows)
+
+
 def implications_refuted(n):
     return cnf(n, [[1]] + [[-i, i + 1] for i in range(1, n)] + [[-n]])
 
@@ -162,7 +180,7 @@ FORMULAS = [
     (implications_up, 120000), (implications_down, 120000), (implications_round, 120000), (star, 60000),
     (empty_clauses, 900000), (units, 200000), (same_clause, 100000), (wide_clauses, 3000), (pure_cascade, 70000),
     (alternating_path, 120000), (more_clauses_than_variables, 200000), (most_variables, 100000), (many_parts, 40000),
-    (parity_chain, 20000), (pigeons, 40), (comments, 70000), (one_line, 200000),
+    (parity_chain, 20000), (equivalences, 70000), (equal_clauses, 100000), (one_in_everything, 15000), (pigeons, 40), (comments, 70000), (one_line, 200000),
 ]
 FORMULA_COMMANDS = [
     ("reduce", "pure"), ("reduce", "matching"), ("reduce", "matching", "--workers", "64"),

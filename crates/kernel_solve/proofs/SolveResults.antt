@@ -26,7 +26,7 @@ use Rattle.general_laws.proofs.OpenResults.{open_result_law}
 use Rattle.autarky_compose.specs.JoinedGeneral.{AreJoinable, AreJoined, all_kept, rounds_behind}
 use Rattle.autarky_compose.proofs.GeneralLaws.{joined_general_law}
 use Rattle.part_copy.specs.Found.{IsPartModel, IsPartRefuted, sets_only}
-use Rattle.part_formula.specs.Decisions.{Decision, IsDecision}
+use Rattle.part_formula.specs.Decisions.{Decision, IsDecision, most_steps}
 use Rattle.lk_model.specs.declared.decided.Decided.TheVariants.{Model, Refuted, Stopped}
 use Rattle.kernel_solve.specs.KernelParts.{IsFilledPart, IsKernelPart, told, AreKernelParts, AreMatchingParts, AreKernelModels, IsJoinedModel}
 use Rattle.kernel_solve.specs.Answers.{AreAnswers, AreNotRefuted, IsFirstRefutation, IsFirstStop, models}
@@ -169,7 +169,7 @@ pub refuted : (F : Cnf) (r : MatchingResult) (list : List (List ℕ)) (conflicts
 refuted F r list conflicts answers round h all c =
     let d = divided F conflicts (Refuted round) list c.before c.behind (as_divided F conflicts list answers _ c.answers_are all) in
     let k = known F r list d.before d.behind d.part h d.list_is in
-    let decides : IsPartRefuted F d.part conflicts round = d.decides in
+    let decides : IsPartRefuted F d.part (most_steps F conflicts) round = d.decides in
     record {
       refutation = solve_refutation_law.wider F d.part (positions_of F) round (λ p m.
           let b = bounded 0 (length F.clauses) d.part p k.positions m in

@@ -17,6 +17,7 @@ use Rattle.lk_model.specs.declared.document.Round.{Round}
 use Rattle.general_laws.specs.Found as found
 use Rattle.general_laws.specs.OpenResults.{IsOpenResult, open_document}
 use Rattle.part_formula.specs.Decisions.{Decision}
+pub use Rattle.part_formula.specs.Decisions.{most_steps}
 use Rattle.kernel_solve.specs.KernelParts.{IsKernelPart, AreMatchingParts}
 
 -- a literal for each variable, ascending, and together they satisfy each clause
@@ -36,12 +37,13 @@ pub record RefutesIn (F : Cnf) (conflicts : ℕ) (part : List ℕ) (r : Round) :
   pub others : AllByRecursion (IsNotRefuted F conflicts) before
   pub refutation : IsRefutation F part r
 
--- A refutation of the formula, with at most so many learned clauses. Each step is reached backwards from the last one. Where
--- a clause is empty, it is the one step of the first such clause, and else it is that of the first refuted part.
+-- A refutation of the formula. It has at most as many steps with a literal as clauses were allowed to be learned, and three
+-- for each literal of the formula. Each step is reached backwards from the last one. Where a clause is empty, it is the one
+-- step of the first such clause, and else it is that of the first refuted part.
 pub record IsRefutedWithin (F : Cnf) (conflicts : ℕ) (r : Round) : Type 0 where
   pub refutation : IsRefutation F (positions_of F) r
   pub needed : IsTrue (is_trimmed r)
-  pub most : length (learned_steps (r ∷ [])) ≤ conflicts
+  pub most : length (learned_steps (r ∷ [])) ≤ most_steps F conflicts
   pub empty : IfSome (first_empty F) (λ p. r ≡ empty_round F p)
   pub first : first_empty F ≡ None → (part : List ℕ) × RefutesIn F conflicts part r
 

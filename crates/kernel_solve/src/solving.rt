@@ -26,8 +26,9 @@ use std::thread::Threads;
 /// refuted one gives the refutation, and without one the first that stopped gives the open round. So it ends
 /// unfinished only if the budget is below 3^n, for the n variables of the formula.
 ///
-/// A model is a literal for each variable, ascending. Of a refutation no step is needless. An open round has as many
-/// learned clauses as were allowed, and is not at its end.
+/// A model is a literal for each variable, ascending. Of a refutation no step is needless. It has at most as many steps
+/// with a literal as clauses were allowed to be learned, and three for each literal of the formula. An open round has as
+/// many learned clauses as were allowed, and is not at its end.
 ///
 /// With two workers or more, two parts of the formula or more are worked on in halves: the left half enters the
 /// gate as 0 and the right one as 1, each before its matching kernel is looked for. So it is again with the parts

@@ -14,17 +14,11 @@ use Rattle.general_laws.specs.Found.{IsUnfinished}
 use Rattle.general_laws.specs.GeneralResults.{IsGeneralResult, AreGeneralResults}
 use Rattle.autarky_compose.specs.JoinedGeneral.{AreJoinable, AreJoined, all_kept, rounds_behind}
 use Rattle.autarky_compose.proofs.GeneralLaws.{joined_general_law}
-use Rattle.part_copy.specs.Found.{IsPartModel, IsPartRefuted, sets_only}
+use Rattle.part_copy.specs.Found.{IsPartModel, sets_only}
 use Rattle.mus_core.specs.declared.by_parts.Stop.{Stop}
 use Rattle.mus_core.specs.declared.mus.Mus.TheVariants.{Unfinished}
 use Rattle.mus_core.specs.Found.{IsMus, IsNotRefuted}
 use Rattle.mus_core.specs.ByParts.{AreModels, IsFirstStop, IsStop}
-
--- REFUTATIONS
-
--- a greater budget allows it too
-pub more_allowed : {F : Cnf} {part : List ℕ} {less conflicts : ℕ} {r : Round} → less ≤ conflicts → IsPartRefuted F part less r → IsPartRefuted F part conflicts r
-more_allowed fewer h = record { refutation = h.refutation; needed = h.needed; most = let most = h.most in omega (arith, fewer, most) }
 
 -- MODELS
 

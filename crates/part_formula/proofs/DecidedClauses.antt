@@ -1,5 +1,5 @@
 -- What is decided of all clauses of a formula.
-use Rattle.std.proofs.Common.{◌≡◌, ℕ, suc, ◌+◌, ◌-◌, ◌<◌, ◌^◌, Bool, true, false, not, List, [], ◌∷◌, replicate, refl, sym, ◌∙◌, ap, subst, arith, ℤ, Option, length, map, inl, inr}
+use Rattle.std.proofs.Common.{◌≡◌, ℕ, suc, ◌+◌, ◌-◌, ◌<◌, ◌≤◌, ◌^◌, Bool, true, false, not, List, [], ◌∷◌, replicate, refl, sym, ◌∙◌, ap, subst, arith, ℤ, Option, length, map, inl, inr}
 use Rattle.std.proofs.lemmas.List.{append-nil, length-replicate}
 use Rattle.lk_model.specs.Lists.{among, is_empty}
 use Rattle.lk_model.specs.Formulas.Literal.{variable}
@@ -32,7 +32,7 @@ use Rattle.general_kernel.proofs.Names.{names_below, named_in}
 use Rattle.general_kernel.proofs.Results.{sets_model, unfinished}
 use Rattle.general_kernel.proofs.Undecided.{undecided}
 use Rattle.general_kernel.proofs.Needed.{round_of}
-use Rattle.general_kernel.proofs.States.{AreWhole, AreTrimmed, GoesOn, no_trimmed, no_whole, steps_go_on, stated_go_on, learned_go_on, trimmed_more, learned_more, count_whole}
+use Rattle.general_kernel.proofs.States.{AreWhole, AreTrimmed, GoesOn, no_trimmed, no_whole, steps_go_on, stated_go_on, learned_go_on, trimmed_more, learned_more, count_whole, IsRefutingOver, refuting_over}
 use Rattle.general_kernel.proofs.NextRounds.{IsNextRound, refuted}
 use Rattle.general_laws.proofs.PartResults.{no_rounds}
 use Rattle.general_laws.proofs.JoinLaws.{join_law}
@@ -41,7 +41,7 @@ use Rattle.part_copy.specs.Found.{are_filled, IsPartModel, IsPartRefuted}
 -- A MODEL
 
 -- where no clause is empty, none has blocked variables alone
-not_covered : (F : Cnf) (c : List ℤ) → not (is_empty c) ≡ true → has_only (is_in (replicate F.vars false)) c ≡ false
+pub not_covered : (F : Cnf) (c : List ℤ) → not (is_empty c) ≡ true → has_only (is_in (replicate F.vars false)) c ≡ false
 not_covered F [] e = absurd (let g : ⊥ = cc in g)
 not_covered F (l ∷ c) e = rw (none_in F.vars (variable l)) refl
 
@@ -118,16 +118,15 @@ named_alone F part other conflicts r h names = record {
   most = h.most;
 }
 
-refutation_over : (over : Crossed) (next budget : ℕ) (log : Derivation) → IsCrossed over → is_formula over.formula.now ≡ true
+pub refutation_over : (over : Crossed) (next budget : ℕ) (log : Derivation) → IsCrossed over → is_formula over.formula.now ≡ true
     → over.blocked.now ≡ replicate over.formula.now.vars false → next ≡ length over.formula.now.clauses + 1 → next + budget < 2 ^ 64 - 1
-    → IsRefutedOver over next budget log → AreRefuted over.formula.now over.part.now budget log.steps (round_of (trimmed next log.steps))
-refutation_over over next budget log crossed form blocked is room h =
+    → IsRefutingOver over log → log.first ≡ next → length log.steps ≤ budget + 1
+    → AreRefuted over.formula.now over.part.now budget log.steps (round_of (trimmed next log.steps))
+refutation_over over next budget log crossed form blocked is room h numbered most =
     let F = over.formula.now in
     let part = over.part.now in
     let after = trimmed next log.steps in
-    let numbered = h.numbered in
-    let most = h.most in
-    let trims : TrimsTo over next log.steps after = trimmed_law over log.first next log.steps h.round.form h.round.chains h.refutes (omega (arith, is)) (omega (arith, numbered)) in
+    let trims : TrimsTo over next log.steps after = trimmed_law over log.first next log.steps h.form h.chains h.refutes (omega (arith, is)) (omega (arith, numbered)) in
     let shorter = trims.shorter in
     let g : GoesOn over [] next after = record {
       crossed = crossed;
@@ -137,7 +136,7 @@ refutation_over over next budget log crossed form blocked is room h =
       derivation = trims.derivation;
       chains = trims.chains;
     } in
-    let t = trimmed_more over [] log next budget next after g h trims (subst (λ (bs : List Bool). AreTrimmed F part (is_in bs) []) (sym blocked) (no_trimmed F part)) in
+    let t = trimmed_more over [] log next after g h trims (subst (λ (bs : List Bool). AreTrimmed F part (is_in bs) []) (sym blocked) (no_trimmed F part)) in
     let learned = learned_more [] (round_of after) in
     let fewer = trims.fewer in
     let whole : IsPartRefuted F part budget (round_of after) = record {
@@ -179,7 +178,7 @@ refutation_found F part conflicts d log r h is steps =
         let clauses = limits.clauses in
         refutation_over h.next.over (length F.clauses + 1) conflicts log
         (record { part = rise; blocked = ap (λ (bs : List Bool). length bs) blocked ∙ length-replicate h.next.over.formula.now.vars false }) form blocked
-        (omega (arith, m)) (omega (arith, m, most, clauses)) found))
+        (omega (arith, m)) (omega (arith, m, most, clauses)) (refuting_over h.next.over (length F.clauses + 1) conflicts log found) found.numbered found.most))
 
 -- where the log begins
 pub numbers_past : (F : Cnf) (part : List ℕ) (conflicts : ℕ) (d : Outcome) (log : Derivation) → IsFirst F part conflicts d → d ≡ Refuted log → length F.clauses < log.first

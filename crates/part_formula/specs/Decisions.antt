@@ -1,6 +1,6 @@
 -- Whether the clauses of a part have a model.
-use Rattle.std.specs.Prelude.{◌≡◌, ℕ, List, [], ◌∷◌, ℤ, IsTrue}
-use Rattle.lk_model.specs.Formulas.Formula.{Cnf, positions_of}
+use Rattle.std.specs.Prelude.{◌≡◌, ℕ, ◌+◌, ◌*◌, List, [], ◌∷◌, ℤ, IsTrue}
+use Rattle.lk_model.specs.Formulas.Formula.{Cnf, positions_of, literal_count}
 use Rattle.lk_model.specs.Formulas.Lean.{are_positions}
 use Rattle.lk_model.specs.Chains.Rounds.{used_positions}
 use Rattle.lk_model.specs.declared.decided.Decided.{Decided}
@@ -14,10 +14,15 @@ use Rattle.part_formula.specs.declared.deciding.Refuted.{Refuted as Refutation}
 abbrev pub Decision : Type 0
 Decision = Decided (List ℤ) Round Round
 
+-- So many steps with a literal a refutation may have: those that a search learns, and three of an elimination for each
+-- literal of the formula.
+abbrev pub most_steps : Cnf → ℕ → ℕ
+most_steps F conflicts = conflicts + 3 * literal_count F
+
 -- a model of the part's clauses, a refutation of them, or an open round of as many learned clauses as were allowed
 abbrev pub IsDecision : Cnf → List ℕ → ℕ → Decision → Type 0
 IsDecision F part conflicts (Model lits) = IsPartModel F part lits
-IsDecision F part conflicts (Refuted r) = IsPartRefuted F part conflicts r
+IsDecision F part conflicts (Refuted r) = IsPartRefuted F part (most_steps F conflicts) r
 IsDecision F part conflicts (Stopped r) = IsUnfinished F part conflicts (r ∷ [])
 
 -- a refutation of all clauses, and the positions that it uses: it refutes the clauses there alone

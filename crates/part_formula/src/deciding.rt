@@ -8,6 +8,7 @@ ghost use Rattle.lk_model.specs.Formulas.Lean.{are_positions};
 ghost use Rattle.part_copy.specs.Found.{are_filled};
 ghost use Rattle.part_formula.specs.Decisions.{IsDecided, IsDecision};
 
+use crate::reducing::decide_by_elimination;
 use cdcl_core::{Schedule, decide_by_schedule};
 use general_kernel::set_of;
 use lk_model::{Budget, Crossed, Decided, Formula, List, Lit, OutOfMemory, Round, VarSet};
@@ -16,7 +17,8 @@ use std::alloc::Global;
 
 /// What is decided of the clauses of a part of a formula: literals on variables of the part, ascending by variable, that
 /// satisfy each clause; or a refutation, of which no step is needless; or an open round of as many learned clauses as
-/// were allowed, which is not at its end.
+/// were allowed, which is not at its end. A refutation has at most as many steps with a literal as clauses were allowed
+/// to be learned, and three for each literal of the formula.
 pub type Decision = Decided<List<Lit>, Round, Round>;
 
 /// A refutation of clauses of a formula, and the positions that it uses, ascending. Where the clauses are kept in a copy,
@@ -42,10 +44,25 @@ pub fn decide_part(
     ensures { IfOk result (IsDecision f.now part.now conflicts) }
 {
     let copy = PartCopy::of(alloc, f, part)?;
-    match decide_clauses(alloc, copy.clauses(), &mut Schedule::new(), conflicts)? {
+    match decide_all(alloc, copy.clauses(), conflicts)? {
         Decided::Model(set) => Ok(Decided::Model(copy.literals(set))),
-        Decided::Refuted(found) => Ok(Decided::Refuted(copy.refutation(alloc, found.round)?)),
+        Decided::Refuted(round) => Ok(Decided::Refuted(copy.refutation(alloc, round)?)),
         Decided::Stopped(round) => Ok(Decided::Stopped(copy.open(alloc, round)?)),
+    }
+}
+
+/// Looks for a model of all clauses: first by elimination, and if that does not decide, in the formula as it is.
+fn decide_all(alloc: Global, f: &Formula, conflicts: Budget) -> Result<Decision, OutOfMemory>
+    requires { IsTrue (are_filled f.now (positions_of f.now)) }
+    ensures { IfOk result (IsDecision f.now (positions_of f.now) conflicts) }
+{
+    if let Some(decision) = decide_by_elimination(alloc, f, conflicts)? {
+        return Ok(decision);
+    }
+    match decide_clauses(alloc, f, &mut Schedule::new(), conflicts)? {
+        Decided::Model(set) => Ok(Decided::Model(set)),
+        Decided::Refuted(found) => Ok(Decided::Refuted(found.round)),
+        Decided::Stopped(round) => Ok(Decided::Stopped(round)),
     }
 }
 

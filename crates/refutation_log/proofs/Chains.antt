@@ -5,6 +5,7 @@ use Rattle.std.specs.Prelude.{option_and_then}
 use Rattle.std.specs.Option.{option_map_or}
 use Rattle.std.proofs.lemmas.Bool.{leb-true, le-leb, leb-false, lt-leb}
 use Rattle.lk_model.specs.Lists.{among, rises_within}
+use Rattle.lk_model.specs.Formulas.Formula.{positions_of}
 use Rattle.lk_model.specs.Formulas.Literal.{contains, complement, is_same_set}
 use Rattle.lk_model.specs.Chains.Chain.{Premises, crossed_at, clause_named, without, resolvent, after_turns, chain_clause, names_of, states_its_clause}
 use Rattle.lk_model.specs.Held.VariableSets.{premises_of}
@@ -14,6 +15,8 @@ use Rattle.refutation_log.specs.SameClause.{HaveSame, IsSameClause}
 use Rattle.refutation_log.specs.Derivation.{Derivation, are_numbered, next_number, clause_of_step, IsDerivation, is_ascending, names_lower, step_of, Extends}
 use Rattle.lk_model.specs.declared.crossed.Crossed.{Crossed}
 use Rattle.refutation_log.proofs.Steps.{found_within, numbered_more}
+use Rattle.lk_model.proofs.Counting.{among-range}
+use Rattle.lk_model.proofs.Founds.{up_to_bounds}
 use Rattle.lk_model.proofs.Rising.{bounded}
 use Rattle.lk_model.proofs.ListTests.{all_more}
 use Rattle.refutation_log.proofs.Clauses.{same_set, have_same, HaveSame-refl, HaveSame-trans, HaveSame-without, HaveSame-append}
@@ -33,6 +36,16 @@ position_named from k le h = rw (le-leb k (length from.formula.clauses) le) (at_
 pub position_first : (from : Premises) (k : ℕ) → rises_within 0 (length from.formula.clauses) from.part ≡ true → k ≤ length from.formula.clauses
     → IsSome (clause_named from k) → 0 < k
 position_first from k r le h = (bounded 0 (length from.formula.clauses) from.part k r (position_named from k le h).0).0
+
+-- where the part has all positions, each number from 1 to the number of clauses stands for one
+pub whole_named : (from : Premises) (k : ℕ) → from.part ≡ positions_of from.formula → 0 < k → k ≤ length from.formula.clauses → IsSome (clause_named from k)
+whole_named from k whole first le =
+    rw (le-leb k (length from.formula.clauses) le, whole, among-range 1 (length from.formula.clauses) k (omega (arith, first)) (omega (arith, le))) refl
+
+pub whole_first : (from : Premises) (k : ℕ) → from.part ≡ positions_of from.formula → k ≤ length from.formula.clauses → IsSome (clause_named from k) → 0 < k
+whole_first from k whole le h =
+    let named = subst (λ (ps : List ℕ). among ps k ≡ true) whole (position_named from k le h).0 in
+    let bounds = up_to_bounds (length from.formula.clauses) k named in omega (arith, bounds.0)
 
 -- and one past it for a step
 pub step_named : (from : Premises) (k : ℕ) → length from.formula.clauses < k → clause_named from k ≡ clause_of_step from.earlier k
@@ -55,6 +68,11 @@ pub is_some_clause : (a b : Option (List ℤ)) → IsSameClause a b → IsSome b
 is_some_clause (Some a) b h j = refl
 is_some_clause None None h j = j
 is_some_clause None (Some b) h j = absurd h
+
+pub is_some_also : (a b : Option (List ℤ)) → IsSameClause a b → IsSome a → IsSome b
+is_some_also (Some a) (Some b) h j = refl
+is_some_also (Some a) None h j = absurd h
+is_some_also None b h j = absurd (let f : ⊥ = cc in f)
 
 -- the same clauses have the same resolvents
 resolvent_same : (t : ℤ) (c d e : List ℤ) → HaveSame c d → (from : Premises) (turns : List Turn)
@@ -100,6 +118,15 @@ is_turn from c t turns h = at_clause (clause_named from t.with) refl h
     at_clause None n h = absurd (let z : ⊥ = cc in z)
     at_clause (Some e) n h = at_tests e n (contains c t.lit) (contains e (complement t.lit)) refl refl h
 
+pub turn_made : (from : Premises) (c : List ℤ) (t : Turn) → contains c t.lit ≡ true → IsSome (clause_named from t.with)
+    → option_map_or (λ d. contains d (complement t.lit)) (clause_named from t.with) false ≡ true → IsSome (after_turns from c (t ∷ []))
+turn_made from c t held named against = at (clause_named from t.with) named against
+  where
+    at : (o : Option (List ℤ)) → IsSome o → option_map_or (λ d. contains d (complement t.lit)) o false ≡ true
+        → IsSome (option_and_then (λ d. option_and_then (λ r. after_turns from r []) (resolvent t.lit c d)) o)
+    at None h e = absurd (let f : ⊥ = cc in f)
+    at (Some d) h e = rw (held, e) refl
+
 -- what stands after a turn
 pub after_turn : (from : Premises) (c : List ℤ) (t : Turn) (turns : List Turn) (w : IsTurn from c t)
     → after_turns from c (t ∷ turns) ≡ after_turns from (without c t.lit ++ without w.other (complement t.lit)) turns
@@ -111,10 +138,9 @@ turn_goes from c t turns h = let w = is_turn from c t turns h in rw (after_turn 
 
 -- and what follows goes on from its clause
 pub turn_taken : (from : Premises) (c next : List ℤ) (t : Turn) (turns : List Turn) (o : Option (List ℤ))
-    → IsSome (after_turns from c (t ∷ turns)) → IsSameClause (Some next) (after_turns from c (t ∷ []))
-    → IsSameClause (after_turns from c (t ∷ turns)) o → IsSameClause (after_turns from next turns) o
-turn_taken from c next t turns o h taken same =
-    let w = is_turn from c t turns h in
+    → IsSameClause (Some next) (after_turns from c (t ∷ [])) → IsSameClause (after_turns from c (t ∷ turns)) o → IsSameClause (after_turns from next turns) o
+turn_taken from c next t turns o taken same =
+    let w = is_turn from c t [] (is_some_also (Some next) (after_turns from c (t ∷ [])) taken refl) in
     let made = without c t.lit ++ without w.other (complement t.lit) in
     let got : IsSameClause (Some next) (Some made) = subst (λ (x : Option (List ℤ)). IsSameClause (Some next) x) (after_turn from c t [] w) taken in
     same_clause-trans (after_turns from next turns) (after_turns from made turns) o

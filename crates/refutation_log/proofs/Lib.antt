@@ -13,3 +13,4 @@ pub mod KeptNames
 pub mod TrimmedLaws
 pub mod InFormLaws
 pub mod OtherPremisesLaws
+pub mod ReplayLaws

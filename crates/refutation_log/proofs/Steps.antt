@@ -1,6 +1,8 @@
 -- Steps that are numbered one after another.
-use Rattle.std.proofs.Common.{◌≡◌, ℕ, zero, suc, ◌+◌, ◌-◌, ◌<◌, ◌≤◌, Bool, true, false, cond, ◌==◌, List, [], ◌∷◌, ◌++◌, refl, sym, ◌∙◌, ap, subst, arith, Some, length, get_or, find, option_map, IsSome}
+use Rattle.std.proofs.Common.{◌≡◌, ℕ, zero, suc, ◌+◌, ◌-◌, ◌<◌, ◌≤◌, Bool, true, false, cond, ◌==◌, List, [], ◌∷◌, ◌++◌, refl, sym, ◌∙◌, ap, subst, arith, ℤ, Some, length, get_or, find, option_map, IsSome}
 use Rattle.std.proofs.lemmas.Bool.{eqb-true, eq-eqb, ne_eqb as differ_test}
+use Rattle.lk_model.specs.Lists.{is_empty}
+use Rattle.lk_model.specs.Chains.Rounds.{is_refutation}
 use Rattle.lk_model.specs.declared.document.Step.{Step}
 use Rattle.refutation_log.specs.Derivation.{are_numbered, clause_of_step, last_clause_of}
 use Rattle.lk_model.proofs.Booleans.{and_true}
@@ -42,6 +44,16 @@ last_at (s ∷ []) d lt = refl
 last_at (s ∷ t ∷ later) d lt =
     let e : length (s ∷ t ∷ later) - 1 ≡ suc (length (t ∷ later) - 1) = omega arith in
     rw e (last_at (t ∷ later) d (omega arith))
+
+-- the last clause is empty where it has no literal
+pub last_refutes : (steps : List Step) (c : List ℤ) → last_clause_of steps ≡ Some c → is_refutation steps ≡ (length c == 0)
+last_refutes [] c e = absurd (let f : ⊥ = cc in f)
+last_refutes (s ∷ []) c e = let same : s.clause ≡ c = cc in ap (λ (d : List ℤ). is_empty d) same ∙ at c
+  where
+    at : (c : List ℤ) → is_empty c ≡ (length c == 0)
+    at [] = refl
+    at (l ∷ c) = sym (differ_test (length (l ∷ c)) 0 (λ e. omega (arith, e)))
+last_refutes (s ∷ t ∷ later) c e = last_refutes (t ∷ later) c e
 
 -- one more step
 pub numbered_more : (first : ℕ) (steps : List Step) (s : Step) → are_numbered first steps ≡ true → s.number ≡ first + length steps

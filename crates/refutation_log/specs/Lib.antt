@@ -7,3 +7,4 @@ pub mod Marks
 pub mod Numbers
 pub mod InForm
 pub mod OtherPremises
+pub mod Replayed

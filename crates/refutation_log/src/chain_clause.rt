@@ -59,6 +59,13 @@ impl FlaggedClause {
         self.came.clear();
     }
 
+    /// Whether it contains a literal.
+    pub fn has(&self, l: Lit) -> bool
+        ensures { result ≡ contains self.now l }
+    {
+        is_flagged(&self.flags, l)
+    }
+
     /// Puts the literals of a clause in.
     pub fn put_all(&mut self, clause: &[Lit]) -> Result<(), OutOfMemory>
         ensures { OnOk result (HaveSame self.new (self.old ++ clause.now)) }

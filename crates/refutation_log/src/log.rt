@@ -10,6 +10,7 @@
 //! have literals crossed out; and no step is ever deleted, so a step's place is its number less the first one.
 ghost use Rattle.std.specs.Prelude.{◌≡◌, ◌-◌, ◌<◌, ◌≤◌, ◌^◌, ◌∷◌, ◌↔◌, [], Some, length, IfOk, OnOk, OnErr, IsTrue};
 ghost use Rattle.std.specs.Prelude.{IsSome};
+ghost use Rattle.lk_model.specs.Formulas.Formula.{positions_of};
 ghost use Rattle.lk_model.specs.Held.VariableSets.{IsCrossed};
 ghost use Rattle.lk_model.specs.Held.VariableSets.{premises_of};
 ghost use Rattle.lk_model.specs.Chains.Chain.{clause_named, after_turns, chain_clause};
@@ -103,6 +104,30 @@ impl Log {
         ensures { IsTrue result ↔ IsSome (clause_of_step self.now.steps k) }
     {
         k >= self.first && k - self.first < self.steps.len() as u64
+    }
+
+    /// Whether a chain has a clause over all clauses of a formula and the steps of the log, which are
+    /// numbered above them: each number that it names stands for one of these, and each turn can be made.
+    pub fn has_chain(
+        &mut self,
+        over: &Crossed,
+        first: u64,
+        turns: &[Turn],
+    ) -> Result<bool, OutOfMemory>
+        requires crossed { IsCrossed over.now }
+        requires whole { over.now.part.now ≡ positions_of over.now.formula.now }
+        requires past { length over.now.formula.now.clauses < self.old.first }
+        ensures chain { IfOk result
+            (λ has. IsTrue has ↔ IsSome (chain_clause (premises_of over.now self.old.steps) first turns.now)) }
+        ensures same { self.new ≡ self.old }
+    {
+        let mut flagged = mem::replace(
+            &mut self.flagged,
+            FlaggedClause::new(*self.steps.allocator()),
+        );
+        let has = self.goes(over, first, turns, &mut flagged);
+        self.flagged = flagged;
+        has
     }
 
     /// Appends the step with the clause of a chain, and answers its number, which must be below
@@ -262,8 +287,13 @@ impl Log {
         Ok(flagged.take())
     }
 
-    // Begins with the clause that a number stands for.
-    fn begin(&self, over: &Crossed, k: u64, flagged: &mut FlaggedClause) -> Result<(), OutOfMemory>
+    /// Begins with the clause that a number stands for.
+    pub(crate) fn begin(
+        &self,
+        over: &Crossed,
+        k: u64,
+        flagged: &mut FlaggedClause,
+    ) -> Result<(), OutOfMemory>
         requires crossed { IsCrossed over.now }
         requires past { length over.now.formula.now.clauses < self.now.first }
         requires named { IsSome (clause_named (premises_of over.now self.now.steps) k) }
@@ -277,8 +307,8 @@ impl Log {
         }
     }
 
-    // Takes a turn.
-    fn take(
+    /// Takes a turn.
+    pub(crate) fn take(
         &self,
         over: &Crossed,
         turn: Turn,

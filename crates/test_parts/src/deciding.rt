@@ -14,7 +14,7 @@ use std::alloc::{AllocError, Global};
 use std::test::Fail;
 
 /// Whether no clause at the positions is empty.
-fn is_filled(f: &Formula, part: &[u32]) -> bool
+pub(crate) fn is_filled(f: &Formula, part: &[u32]) -> bool
     requires { IsTrue (are_positions f.now part.now) }
     ensures { result ≡ are_filled f.now part.now }
 {
@@ -26,7 +26,7 @@ fn is_filled(f: &Formula, part: &[u32]) -> bool
 }
 
 /// Writes a round after a head.
-fn put_decided(head: &str, round: &Round, out: &mut String) -> Result<(), AllocError> {
+pub(crate) fn put_decided(head: &str, round: &Round, out: &mut String) -> Result<(), AllocError> {
     out.push_str(head)?;
     put_round(round, out)
 }

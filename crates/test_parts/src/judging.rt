@@ -42,6 +42,17 @@ fn put_model_judged(f: &Formula, lits: &[Lit], out: &mut String) -> Result<(), A
     write!(out, "= model; right {right}")
 }
 
+/// So many steps with a literal a refutation may have: as many as clauses may be learned, and three for each literal of
+/// the formula.
+fn most_steps(f: &Formula, conflicts: u32) -> u32 {
+    let mut most = conflicts;
+    for p in 1..f.len() + 1 {
+        let literals = u32::try_from(f.clause(p).len()).unwrap_or(u32::MAX);
+        most = most.saturating_add(literals.saturating_mul(3));
+    }
+    most
+}
+
 fn put_round_judged(
     alloc: Global,
     s: &Search<'_>,
@@ -51,7 +62,7 @@ fn put_round_judged(
 ) -> Result<(), Fail> {
     let (f, most) = (s.formula, s.conflicts);
     let (word, right) = if is_refuted {
-        ("refuted", refutes(alloc, f, most, steps)?)
+        ("refuted", refutes(alloc, f, most_steps(f, most), steps)?)
     } else {
         ("unfinished", learns(alloc, f, most, steps)?)
     };

@@ -29,6 +29,7 @@ mod lines;
 mod lists;
 mod parts;
 mod solving;
+mod tested;
 mod workers;
 
 use crate::command::command_of;

@@ -35,12 +35,14 @@
 //!   four.
 //! - `one N` tells it of a chain over all variables, `two N` of two chains, each over every second variable, and
 //!   `beside N` of a chain over the first half of the variables beside a unit clause for each other one.
+//! - `chains` and `values` put refutations and models to the test that are handed in (`src/tested.rt`).
 //! - `groups N; CLAUSES` tells the parts of a formula over 40 variables in at most so many groups.
 use crate::alone::{tell_alone, tell_drawn};
 use crate::command::Command;
 use crate::deciding::tell_decision;
 use crate::halves::tell_halves;
 use crate::lists::tell_parts;
+use crate::tested::tell_tested;
 use crate::workers::{tell_built, tell_met, tell_same, tell_squares};
 use std::alloc::Global;
 use std::test::Fail;
@@ -61,6 +63,7 @@ pub(crate) fn tell<R: Threads + Sync>(
         "alone" | "matching" | "matching-end" => tell_alone(alloc, c, out),
         "alone-drawn" | "matching-drawn" => tell_drawn(alloc, c, out),
         "decide" => tell_decision(alloc, c, out),
+        "chains" | "values" => tell_tested(alloc, c, out),
         "squares" => tell_squares(rt, alloc, c, out),
         "fours" | "pairs" | "one" | "two" | "beside" => tell_built(rt, alloc, c, out),
         _ => Ok(()),

@@ -188,7 +188,8 @@ pub record StatusClaim : Type 0 where
       × (said ≡ conflicts_line demo.conflicts))
   -- CERTIFICATES: which one `reduce` writes. For pure and linear it is given by the formula, the protected
   -- variables and, for linear, the number of pivots. Of rounds that are written with a result nothing is
-  -- needless, and they are within the budget.
+  -- needless. Those of `reduce general` and `mus` are within the budget. What `solve` writes has at most three steps
+  -- more for each literal of the formula.
   pub certifies : (class : Class) (options : List Word) → let o = options_by options in
       Gives (codes "reduce" ∷ class_word class ∷ []) [] options 0
       (λ F written. WritesReduction F class o.protect o.pivots written)

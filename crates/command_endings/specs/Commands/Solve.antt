@@ -9,7 +9,7 @@ use Rattle.lk_model.specs.Checks.RoundChecks.{learned_steps}
 use Rattle.lk_model.specs.Reduction.{IsUnfinishedText}
 use Rattle.lk_model.specs.declared.class.Class.TheVariants.{Matching}
 use Rattle.lk_model.specs.declared.document.Round.{Round}
-use Rattle.kernel_solve.specs.Solutions.{RefutesIn, StopsIn}
+use Rattle.kernel_solve.specs.Solutions.{RefutesIn, StopsIn, most_steps}
 use Rattle.lk_model.specs.Documents.Answers.{is_answer, answer_text}
 use Rattle.answer_check.specs.AnswerChecks.{first_failure_of_answer}
 use Rattle.lk_model.specs.declared.answer.Answer.{Answer}
@@ -50,15 +50,16 @@ pub record WritesModel (F : Cnf) (written : List ℕ) : Type 0 where
   pub model : IsModel F (all_of F) (assignment_of literals)
 
 -- A refutation: so no assignment satisfies the formula. The positions that it uses are in the general kernel. Each of its
--- steps is used, and it has at most as many learned clauses as were allowed. If a clause is empty, it is the one step of the
--- first such clause. Else it refutes one part of the matching kernel, and no part before that one is refuted (`RefutesIn`).
+-- steps is used. Steps with a literal are at most as many as clauses were allowed to be learned, and three for each literal of
+-- the formula. If a clause is empty, it is the one step of the first such clause. Else it refutes one part of the matching
+-- kernel, and no part before that one is refuted (`RefutesIn`).
 pub record WritesRefutation (options : Options) (F : Cnf) (written : List ℕ) : Type 0 where
   pub round : Round
   pub writes : WritesAnswer F (Refuted round) written
   pub no_model : HasNoModel F
   pub used : AreInKernel F (used_positions F round)
   pub needed : IsTrue (is_trimmed round)
-  pub most : length (learned_steps (round ∷ [])) ≤ options.conflicts
+  pub most : length (learned_steps (round ∷ [])) ≤ most_steps F options.conflicts
   pub empty : IfSome (first_empty F) (λ p. round ≡ empty_round F p)
   pub first : first_empty F ≡ None → (part : List ℕ) × RefutesIn F options.conflicts part round
 

@@ -3,7 +3,7 @@ use Rattle.lk_model.specs.declared.decided.Decided.{Decided}
 use Rattle.part_formula.specs.declared.deciding.Refuted.{Refuted as Refutation}
 use Rattle.mus_core.specs.declared.mus.Mus.{Mus}
 use Rattle.mus_core.specs.ByParts.{IsDecidedByParts}
-use Rattle.mus_core.proofs.PartModels.{more_allowed}
+use Rattle.part_formula.proofs.Budgets.{more_allowed}
 use Rattle.mus_core.proofs.by_parts.decide_by_parts.Goals as goal
 
 pub returns-in-Refuted : goal.returns-in-Refuted

@@ -28,11 +28,7 @@ loop-turn-preserved c =
     let i = c.loop-turn.turn-index in
     let next = turn_next turns i c.turn-item.result (omega arith) c.turn-item.is in
     let chain = chain_clause from c.args.first turns in
-    let left : IsSome (after_turns from c.loop-turn.flagged (drop i turns)) =
-    is_some_clause (after_turns from c.loop-turn.flagged (drop i turns)) chain c.loop-turn.invariant c.requires.chain in
-    turn_taken from c.loop-turn.flagged c.take.new.flagged c.turn-item.result (drop (i + 1) turns) chain
-    (subst (λ (ts : List Turn). IsSome (after_turns from c.loop-turn.flagged ts)) next left)
-    c.in_ok-take.ensures
+    turn_taken from c.loop-turn.flagged c.take.new.flagged c.turn-item.result (drop (i + 1) turns) chain c.in_ok-take.ensures
     (subst (λ (ts : List Turn). IsSameClause (after_turns from c.loop-turn.flagged ts) chain) next c.loop-turn.invariant)
 
 pub returns : goal.returns
