@@ -22,9 +22,11 @@ use std::alloc::Global;
 // A formula of fewer variables is searched as it is: that takes no time, and its refutations stay short.
 const LEAST_VARS: u32 = 100;
 
-// If more variables of a hundred are left, the formula is searched as it is: there is little to gain, and chains become
-// longer.
-const MOST_LEFT: u64 = 75;
+// If more variables of a hundred are left, or more clauses, the formula is searched as it is: there is little to gain, and
+// chains become longer.
+const MOST_VARS_LEFT: u64 = 75;
+
+const MOST_CLAUSES_LEFT: u64 = 85;
 
 /// What a search of the clauses that are left finds, in the numbers of the elimination. If the elimination derives the empty
 /// clause, no search is needed.
@@ -35,7 +37,7 @@ enum Found {
     Nothing,
 }
 
-/// A model or a refutation of the clauses of a formula. There is none if the formula is small, if too few variables go, if the
+/// A model or a refutation of the clauses of a formula. There is none if the formula is small, if too little of it goes, if the
 /// search of what is left uses up its budget, or if what it finds does not stand the test.
 pub(crate) fn decide_by_elimination(
     alloc: Global,
@@ -89,9 +91,15 @@ fn search(
     }
 }
 
-/// Whether what is left has so few variables that it is searched.
+/// Whether what is left has so few variables and clauses that it is searched.
 fn is_less(rest: &Formula, f: &Formula) -> bool {
-    u64::from(rest.vars()) * 100 <= u64::from(f.vars()) * MOST_LEFT
+    is_within(rest.vars(), f.vars(), MOST_VARS_LEFT)
+        && is_within(rest.len(), f.len(), MOST_CLAUSES_LEFT)
+}
+
+/// Whether a number is at most so many hundredths of another one.
+fn is_within(part: u32, whole: u32, hundredths: u64) -> bool {
+    u64::from(part).saturating_mul(100) <= u64::from(whole).saturating_mul(hundredths)
 }
 
 /// The literals that these values make true on variables of the clauses, ascending, if they satisfy each clause.
