@@ -21,6 +21,8 @@ import sys
 import tempfile
 import time
 
+from command_line import CommandLine
+
 SEED = 1
 
 
@@ -92,9 +94,9 @@ def measure(words, output):
 
 
 def main():
-    if len(sys.argv) < 2:
-        sys.exit(__doc__)
-    leank, kinds = sys.argv[1], sys.argv[2:] or list(KINDS)
+    words = CommandLine(__doc__)
+    leank, kinds = words.program(), words.some("KIND", KINDS)
+    words.needs("cadical", "minisat")
     print(f"processors {os.cpu_count()}")
     for kind in kinds:
         with tempfile.NamedTemporaryFile(suffix=".cnf", delete=False) as file:

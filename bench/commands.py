@@ -15,6 +15,8 @@ import sys
 import tempfile
 import time
 
+from command_line import CommandLine
+
 SEED = 1
 RUNS = 5
 
@@ -93,9 +95,9 @@ def report_beside(leank, plain, formula):
 
 
 def main():
-    if len(sys.argv) < 2:
-        sys.exit(__doc__)
-    leank, kinds = os.path.abspath(sys.argv[1]), sys.argv[2:] or list(KINDS)
+    words = CommandLine(__doc__)
+    leank, kinds = words.program(), words.some("KIND", KINDS)
+    words.needs("g++")
     with tempfile.TemporaryDirectory() as folder:
         formula, model, document, bad = (os.path.join(folder, name) for name in ("formula", "model", "document", "bad"))
         with open(bad, "w") as out:

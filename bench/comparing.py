@@ -29,6 +29,7 @@ import tool_formulas
 from forging import drawn_change, drawn_forgery
 from formulas import (adders, counter, drawn_clause, formula_text, machine, parity, pebbles, pigeons, random_three, shuffled,
                       side_by_side)
+from command_line import CommandLine
 
 SEED = 1
 BUDGET = 100000
@@ -271,7 +272,7 @@ class Comparison:
             self.formula(f"{number} {kind}", draw, odd, plain)
 
     def tools(self, kinds):
-        for kind in kinds or tool_formulas.KINDS:
+        for kind in kinds:
             file = os.path.join(self.folder, "tool")
             if tool_formulas.written_by(kind, file):
                 self.formula(kind, random.Random(SEED), file, file)
@@ -279,15 +280,16 @@ class Comparison:
 
 
 def main():
-    if len(sys.argv) < 2:
-        sys.exit(__doc__)
-    words = sys.argv[2:]
+    words = CommandLine(__doc__)
+    leank = words.program()
+    kinds = words.some("KIND", tool_formulas.KINDS) if words.takes("tools") else []
+    count = 0 if kinds else words.number("COUNT", 300)
+    words.end()
+    words.needs(*SOLVERS, *(tool_formulas.NEEDS if kinds else ()))
     with tempfile.TemporaryDirectory() as folder:
-        comparison = Comparison(os.path.abspath(sys.argv[1]), folder)
-        if words[:1] == ["tools"]:
-            comparison.tools(words[1:])
-        else:
-            comparison.drawn(int(words[0]) if words else 300)
+        comparison = Comparison(leank, folder)
+        comparison.tools(kinds)
+        comparison.drawn(count)
     print(", ".join(f"{name}: {count}" for name, count in sorted(comparison.counts.items())))
     print(f"{comparison.faults} differences")
     sys.exit(comparison.faults > 0)

@@ -11,6 +11,8 @@ first, and of those with as many the least.
 """
 import sys
 
+from command_line import CommandLine
+
 
 def crossed(clauses, part, blocked):
     """The clauses at the positions of a part, from 1 on, without the literals of blocked variables."""
@@ -53,6 +55,7 @@ def numbers(text):
 
 
 def main():
+    CommandLine(__doc__).end()
     for line in sys.stdin:
         kind, *fields = line.split("|")
         if kind.strip() == "orders":

@@ -22,6 +22,7 @@ import tempfile
 
 from formulas import drawn_clause, write
 from judge import read_formula
+from command_line import CommandLine
 
 SEED = 1
 VARIABLES = 7
@@ -157,15 +158,15 @@ def compare(leank, count):
     return 1 if differences else 0
 
 
-def main(words):
-    if words[:1] == ["judge"] and len(words) == 3:
-        with open(words[1], "rb") as formula, open(words[2], "rb") as text:
-            print(judge_of(formula.read(), text.read()) or "accepted")
+def main():
+    words = CommandLine(__doc__)
+    if words.takes("judge"):
+        print(judge_of(*words.files("FORMULA", "TEXT")) or "accepted")
         return 0
-    if words and words[0] != "judge" and len(words) <= 2:
-        return compare(words[0], int(words[1]) if len(words) == 2 else 2000)
-    sys.exit(__doc__)
+    leank, count = words.program(), words.number("COUNT", 2000)
+    words.end()
+    return compare(leank, count)
 
 
 if __name__ == "__main__":
-    sys.exit(main(sys.argv[1:]))
+    sys.exit(main())

@@ -8,7 +8,7 @@
 drawn by the linear congruence of `lk_samples`. `expected` prints each with its answer, which comes from a look at each pair of
 clauses: two are in one part if they share a variable, or if both share a part with a third. Needs python3.
 """
-import sys
+from command_line import CommandLine
 
 VARS, CLAUSES, COUNT = 20, 12, 500
 
@@ -43,12 +43,13 @@ def parts_of(clauses):
 
 
 def main():
-    if len(sys.argv) not in (2, 3) or sys.argv[1] not in ("rows", "expected"):
-        sys.exit(__doc__)
-    for seed in range(int(sys.argv[2]) if len(sys.argv) == 3 else COUNT):
+    words = CommandLine(__doc__)
+    kind, count = words.one("kind", ("rows", "expected")), words.number("COUNT", COUNT)
+    words.end()
+    for seed in range(count):
         clauses = clauses_of(seed)
         print(f"parts {VARS}; " + ", ".join(" ".join(map(str, clause)) for clause in clauses))
-        if sys.argv[1] == "expected":
+        if kind == "expected":
             print("= " + " ".join(map(str, parts_of(clauses))))
 
 

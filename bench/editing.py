@@ -13,11 +13,11 @@ import os
 import random
 import shutil
 import subprocess
-import sys
 import tempfile
 import time
 
 from formulas import drawn_clause, write
+from command_line import CommandLine
 
 SEED = 1
 EDITS = 10_000
@@ -98,9 +98,9 @@ def first_lines(path, count):
 
 
 def main():
-    if len(sys.argv) < 2:
-        sys.exit(__doc__)
-    leank, kinds = os.path.abspath(sys.argv[1]), sys.argv[2:] or list(KINDS)
+    words = CommandLine(__doc__)
+    leank, kinds = words.program(), words.some("KIND", KINDS)
+    words.needs("g++")
     source = os.path.join(os.path.dirname(os.path.abspath(__file__)), "hopcroft_karp.cpp")
     with tempfile.TemporaryDirectory() as folder:
         plain = os.path.join(folder, "hopcroft_karp")

@@ -30,6 +30,7 @@ from collections import namedtuple
 from deficiency import matching_kernel
 from formulas import drawn_clause, write
 from judge import read_formula
+from command_line import CommandLine
 
 SEED = 1
 EDITS = 50
@@ -368,27 +369,34 @@ def made_rows():
     return rows
 
 
-def main(words):
-    kinds = {"faults": faults, "limits": limits, "long": long}
-    if len(words) == 2 and words[0] in kinds:
-        return kinds[words[0]](words[1])
-    if len(words) == 3 and words[0] == "answer":
-        with open(words[1], "rb") as file, open(words[2], "rb") as text:
-            formula = read_formula(file.read())
-            found = answer(formula.n, list(formula.clause.values()), text.read())
-        sys.stdout.buffer.write(found.written)
-        sys.stderr.buffer.write(found.said)
-        return found.status
-    if words == ["rows"]:
-        print("\n".join(made_rows().script))
-        return 0
-    if words == ["expected"]:
-        print("".join(made_rows().printed), end="")
-        return 0
-    if words and words[0] not in {*kinds, "answer", "rows", "expected"} and len(words) <= 2:
-        return compare(words[0], int(words[1]) if len(words) == 2 else 500)
-    sys.exit(__doc__)
+def print_answer(formula_text, text):
+    formula = read_formula(formula_text)
+    found = answer(formula.n, list(formula.clause.values()), text)
+    sys.stdout.buffer.write(found.written)
+    sys.stderr.buffer.write(found.said)
+    return found.status
+
+
+def print_rows():
+    print("\n".join(made_rows().script))
+
+
+def print_expected():
+    print("".join(made_rows().printed), end="")
+
+
+def main():
+    words = CommandLine(__doc__)
+    kinds = {"rows": print_rows, "expected": print_expected, "faults": faults, "limits": limits, "long": long}
+    kind = words.takes("answer", *kinds)
+    if kind == "answer":
+        return print_answer(*words.files("FORMULA", "EDITS"))
+    given = [] if kind in ("rows", "expected") else [words.program()]
+    if kind is None:
+        given.append(words.number("COUNT", 500))
+    words.end()
+    return kinds.get(kind, compare)(*given)
 
 
 if __name__ == "__main__":
-    sys.exit(main(sys.argv[1:]))
+    sys.exit(main())

@@ -6,10 +6,9 @@
 `rows` prints the forged answers, or cores, of worked formulas as a script for crates/test_commands, and `expected` what the
 script must print, by the judge of judge.py. Other programs of this folder draw forged texts. Needs python3.
 """
-import sys
-
 import judge
 from formulas import formula_text
+from command_line import CommandLine
 
 
 def cuts(text):
@@ -289,12 +288,13 @@ def print_expected(worked):
             print(f"== verify f a\nstatus {status}\n{written}-- said\n{said}", end="")
 
 
-def main(words):
+def main():
     worked, printed = {"answers": answers, "cores": cores}, {"rows": print_rows, "expected": print_expected}
-    if len(words) != 2 or words[0] not in worked or words[1] not in printed:
-        sys.exit(__doc__)
-    printed[words[1]](worked[words[0]]())
+    words = CommandLine(__doc__)
+    texts, told = words.one("kind of text", worked), words.one("output", printed)
+    words.end()
+    printed[told](worked[texts]())
 
 
 if __name__ == "__main__":
-    main(sys.argv[1:])
+    main()

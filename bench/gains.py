@@ -20,13 +20,13 @@ import os
 import random
 import re
 import subprocess
-import sys
 import tempfile
 from collections import Counter
 
 import tool_formulas
 from formulas import (adders, colouring, counter, drawn_clause, machine, parity, pebbles, pigeons, planted_three,
                       random_three, shuffled, side_by_side, write)
+from command_line import CommandLine
 
 SEED = 1
 CLASSES = ("pure", "matching", "linear", "general")
@@ -188,6 +188,8 @@ GROUPS = {
     "drawn": of_drawers(DRAWN),
     "built": of_drawers(BUILT),
 }
+# What a group needs beside the solvers.
+NEEDS = {"yosys": ["yosys"], "abc": tool_formulas.NEEDS, "z3": ["z3"]}
 
 
 def run(words, seconds):
@@ -263,17 +265,10 @@ HEAD += [f"{name} {what}" for name in [*CLASSES, "simplified"] for what in ("var
 HEAD += [f"{solver} {on}" for solver in ("minisat", "cadical") for on in ("formula", "kernel")]
 
 
-def count(leank, words):
-    seconds, groups = 10.0, []
-    while words:
-        word = words.pop(0)
-        if word == "--seconds":
-            seconds = float(words.pop(0))
-        else:
-            groups.append(word)
+def count(leank, groups, seconds):
     print("\t".join(HEAD), flush=True)
     with tempfile.TemporaryDirectory() as folder:
-        for group in groups or GROUPS:
+        for group in groups:
             for kind, put in GROUPS[group].items():
                 row = row_of(leank, group, kind, put, seconds, folder)
                 if row:
@@ -294,9 +289,8 @@ def grouped(number):
     return f"{int(number):,}" if number.isdigit() else number
 
 
-def table(file):
-    with open(file) as it:
-        rows = [line.rstrip("\n").split("\t") for line in it if not line.startswith("#")]
+def table(text):
+    rows = [line.split("\t") for line in text.decode().splitlines() if not line.startswith("#")]
     rows = [dict(zip(rows[0], row)) for row in rows[1:]]
     for group in Counter(row["group"] for row in rows):
         print(f"\n{group}\n")
@@ -314,12 +308,13 @@ def table(file):
 
 
 def main():
-    if len(sys.argv) < 2:
-        sys.exit(__doc__)
-    if sys.argv[1] == "table":
-        table(sys.argv[2])
-    else:
-        count(os.path.abspath(sys.argv[1]), sys.argv[2:])
+    words = CommandLine(__doc__)
+    if words.takes("table"):
+        return table(*words.files("FILE"))
+    seconds = words.option("--seconds", 10.0, float)
+    leank, groups = words.program(), words.some("GROUP", GROUPS)
+    words.needs("minisat", "cadical", *(it for group in groups for it in NEEDS.get(group, ())))
+    return count(leank, groups, seconds)
 
 
 if __name__ == "__main__":

@@ -9,10 +9,10 @@ documents are checked. Nothing fails by time.
 """
 import os
 import random
-import sys
 import tempfile
 
 from matching import checked, least_seconds, put, square
+from command_line import CommandLine
 
 SEED = 1
 PARTS = 100000
@@ -62,9 +62,8 @@ KINDS = {"parts": parts, "within": within, "gone": gone, "chain": chain}
 
 
 def main():
-    if len(sys.argv) < 2:
-        sys.exit(__doc__)
-    leank, kinds = os.path.abspath(sys.argv[1]), sys.argv[2:] or list(KINDS)
+    words = CommandLine(__doc__)
+    leank, kinds = words.program(), words.some("KIND", KINDS)
     with tempfile.TemporaryDirectory() as folder:
         formula, ours, beside = (os.path.join(folder, name) for name in ("formula", "ours", "beside"))
         for kind in kinds:

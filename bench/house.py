@@ -25,6 +25,7 @@ import sys
 
 from house_exports import unnamed
 from house_picture import picture
+from command_line import CommandLine
 
 TOP = os.path.dirname(os.path.dirname(os.path.abspath(__file__)))
 PICTURE = "docs/house.svg"
@@ -154,10 +155,11 @@ def draw():
 
 
 def main():
-    if sys.argv[1:] == ["draw"]:
+    words = CommandLine(__doc__)
+    is_drawn = words.takes("draw")
+    words.end()
+    if is_drawn:
         return draw()
-    if sys.argv[1:]:
-        sys.exit(__doc__)
     floors = floors_of(read("crates.txt"))
     checks = (wrong_order, wrong_wall, wrong_floors, wrong_folders, wrong_pages, wrong_exports)
     wrong = [*(line for check in checks for line in check(floors)), *wrong_picture()]

@@ -6,10 +6,12 @@
 The text is a document (of the class pure, matching, linear or general, or unfinished) or an answer (a model, a refutation
 or a core). It is judged as an answer if its first line is `c leank 1 mus` or begins with `s`, else as a document. Printed
 is `accepted`, `unfinished L`, or `refused KIND PLACE` for the first check that fails; the status is 0, 5 or 8. A text
-outside its grammar is told on standard error, as in `leank: document line 3: not a document`, with status 2.
+outside its grammar is told on standard error, as in `leank: document line 3: not a document`, with status 2. Words that it
+does not take, and files that it cannot read, have that status too.
 
 This program is written from docs/FORMAT.md, and its grammar of formulas from docs/REFERENCE.md, for readers who want to
-see in few lines what is checked. It is plain Python, with exact integers, and needs python3 alone. The parts below
+see in few lines what is checked. It is plain Python, with exact integers, and needs python3 alone. The words of the command
+line are read by command_line.py, and all else is here. The parts below
 are those of the page: a formula; the form of documents and answers; and then the checks, each a function with the name of
 its kind. A check yields, ascending, the places at which it fails; the first of them is told.
 
@@ -19,6 +21,8 @@ import re
 import sys
 from collections import defaultdict, namedtuple
 from functools import cached_property
+
+from command_line import CommandLine
 
 MOST_VARIABLES, MOST_CLAUSES, MOST_LITERALS, MOST_BYTES = 1_000_000, 4_000_000, 20_000_000, 1 << 30
 MOST_RANK, MOST_LEARNED, MOST_STEPS = 2**32 - 1, 2**63 - 1, 2**64 - 1
@@ -705,14 +709,9 @@ def judged(formula, read):
         return None, "leank: {} line {}: {}".format(*fault.args), 2
 
 
-def main(arguments):
-    if len(arguments) != 2:
-        sys.exit(__doc__)
-    try:
-        formula_text, text = (open(name, "rb").read() for name in arguments)
-    except OSError:
-        print("leank: read fault", file=sys.stderr)
-        return 3
+def main():
+    words = CommandLine(__doc__)
+    formula_text, text = words.files("FORMULA", "DOCUMENT")
     first = text.split(b"\n", 1)[0]
     judge = verify if first == b"c leank 1 mus" or first.startswith(b"s") else check
     line, fault, status = judge(formula_text, text)
@@ -721,4 +720,4 @@ def main(arguments):
 
 
 if __name__ == "__main__":
-    sys.exit(main(sys.argv[1:]))
+    sys.exit(main())

@@ -10,7 +10,8 @@ of at most four clauses over three variables the number of pairs of a maximum ma
 matching leaves, and those that no matching autarky touches, by trying each way to give the clauses variables.
 """
 import itertools
-import sys
+
+from command_line import CommandLine
 
 
 class Draw:
@@ -96,15 +97,27 @@ def small(sets):
     return f"= {most} {left} {kept}"
 
 
-def main():
-    if sys.argv[1] == "drawn":
-        for seed in range(int(sys.argv[2])):
-            print(pure(6, drawn_formula(6, seed, seed % 16)))
-        return
+def print_drawn(count):
+    for seed in range(count):
+        print(pure(6, drawn_formula(6, seed, seed % 16)))
+
+
+def print_small():
     for count in range(5):
         for code in range(8**count):
             digits = [code // 8**i % 8 for i in range(count)]
             print(small([{v for v in (1, 2, 3) if digit >> (v - 1) & 1} for digit in digits]))
 
 
-main()
+def main():
+    words = CommandLine(__doc__)
+    count = words.number("COUNT") if words.one("kind", ("drawn", "small")) == "drawn" else None
+    words.end()
+    if count is None:
+        print_small()
+    else:
+        print_drawn(count)
+
+
+if __name__ == "__main__":
+    main()

@@ -15,6 +15,8 @@ import sys
 import tempfile
 import time
 
+from command_line import CommandLine
+
 SEED = 1
 
 
@@ -174,9 +176,9 @@ def seconds(words, **more):
 
 
 def main():
-    if len(sys.argv) < 2:
-        sys.exit(__doc__)
-    leank, kinds = os.path.abspath(sys.argv[1]), sys.argv[2:] or list(KINDS)
+    words = CommandLine(__doc__)
+    leank, kinds = words.program(), words.some("KIND", KINDS)
+    words.needs("cadical", "minisat")
     with tempfile.TemporaryDirectory() as folder:
         formula, document = os.path.join(folder, "formula"), os.path.join(folder, "document")
         for kind in kinds:

@@ -12,13 +12,14 @@ import os
 import random
 import re
 import subprocess
-import sys
 import tempfile
 
 from formulas import adders, counter, machine, parity, pebbles, pigeons, random_three, write
+from command_line import CommandLine
 
 SEED = 1
 RUNS = 3
+TIME = "/usr/bin/time"
 
 KINDS = {
     "random 150": lambda draw: random_three(draw, 150),
@@ -56,7 +57,7 @@ def timed(command, given=""):
 
 def most_bytes(command, given):
     """The most that a command holds. A child of Python would count what Python holds."""
-    done = subprocess.run(["/usr/bin/time", "-f", "%M", *command], input=given, capture_output=True, text=True)
+    done = subprocess.run([TIME, "-f", "%M", *command], input=given, capture_output=True, text=True)
     return int(done.stderr.split()[-1]) * 1024
 
 
@@ -86,10 +87,12 @@ def measure(kind, program, budget, file):
 
 
 def main():
-    program = os.path.abspath(sys.argv[1])
-    words = sys.argv[2:]
-    budget = words.pop(0) if words and words[0].isdigit() else "20000"
-    for kind in words or KINDS:
+    words = CommandLine(__doc__)
+    program = words.program("TEST_SEARCH")
+    budget = 20000 if words.left and words.left[0] in KINDS else words.number("BUDGET", 20000)
+    kinds = words.some("KIND", KINDS)
+    words.needs("minisat", TIME)
+    for kind in kinds:
         with tempfile.TemporaryDirectory() as folder:
             file = os.path.join(folder, "f.cnf")
             with open(file, "w") as out:

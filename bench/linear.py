@@ -14,6 +14,8 @@ import subprocess
 import sys
 import tempfile
 
+from command_line import CommandLine
+
 SEED = 1
 RUNS = 3
 
@@ -79,9 +81,9 @@ def least(words, output):
 
 
 def main():
-    if len(sys.argv) < 2:
-        sys.exit(__doc__)
-    leank, kinds = os.path.abspath(sys.argv[1]), sys.argv[2:] or list(KINDS)
+    words = CommandLine(__doc__)
+    leank, kinds = words.program(), words.some("KIND", KINDS)
+    words.needs("g++")
     source = os.path.join(os.path.dirname(os.path.abspath(__file__)), "linear.cpp")
     with tempfile.TemporaryDirectory() as folder:
         plain, formula, ours, theirs = (os.path.join(folder, name) for name in ("linear", "formula", "ours", "theirs"))

@@ -18,6 +18,8 @@ no line. What is deleted must be there. The words are numbers in their shortest 
 import re
 import sys
 
+from command_line import CommandLine
+
 NUMBER = rb"-?[1-9][0-9]*"
 LINE = re.compile(rb"([1-9][0-9]*) (?:d |((?:%b )*)0 )((?:%b )*)0" % (NUMBER, NUMBER))
 
@@ -119,10 +121,9 @@ def fault(formula, text):
 
 
 def main():
-    if len(sys.argv) != 3:
-        sys.exit(__doc__)
-    with open(sys.argv[1], "rb") as formula, open(sys.argv[2], "rb") as proof:
-        found = fault(read_formula(formula.read()), proof.read())
+    words = CommandLine(__doc__)
+    formula, proof = words.files("FORMULA", "PROOF")
+    found = fault(read_formula(formula), proof)
     print(f"refused line {found[0]}: {found[1]}" if found else "accepted")
     sys.exit(found is not None)
 

@@ -16,6 +16,8 @@ import sys
 import tempfile
 import time
 
+from command_line import CommandLine
+
 SEED = 1
 RUNS = 5
 
@@ -151,9 +153,9 @@ def checked(leank, formula, document):
 
 
 def main():
-    if len(sys.argv) < 2:
-        sys.exit(__doc__)
-    leank, kinds = os.path.abspath(sys.argv[1]), sys.argv[2:] or list(KINDS)
+    words = CommandLine(__doc__)
+    leank, kinds = words.program(), words.some("KIND", KINDS)
+    words.needs("g++")
     source = os.path.join(os.path.dirname(os.path.abspath(__file__)), "hopcroft_karp.cpp")
     with tempfile.TemporaryDirectory() as folder:
         plain = os.path.join(folder, "hopcroft_karp")

@@ -20,6 +20,8 @@ import subprocess
 import sys
 import tempfile
 
+from command_line import CommandLine
+
 WORKERS = (1, 2, 3, 8, 64)
 
 # A small formula, of five clauses over four variables and three over three, and the seeds of others, beside which there
@@ -257,20 +259,17 @@ def compare_large(leank, count, seed):
 
 
 def main():
-    words = sys.argv[1:]
-    if words == ["rows"]:
-        put_rows()
-    elif words == ["expected"]:
-        put_expected()
-    elif 2 <= len(words) <= 4 and words[0] == "compare":
-        numbers = [int(word) for word in words[2:]] + [1000, 1][len(words) - 2:]
-        sys.exit(compare(os.path.abspath(words[1]), *numbers))
-    elif 2 <= len(words) <= 4 and words[0] == "large":
-        numbers = [int(word) for word in words[2:]] + [40, 1][len(words) - 2:]
-        sys.exit(compare_large(os.path.abspath(words[1]), *numbers))
-    else:
-        sys.exit(__doc__)
+    words = CommandLine(__doc__)
+    prints, compares = {"rows": put_rows, "expected": put_expected}, {"compare": (compare, 1000), "large": (compare_large, 40)}
+    kind = words.one("kind", (*prints, *compares))
+    if kind in prints:
+        words.end()
+        return prints[kind]()
+    compared, most = compares[kind]
+    given = words.program(), words.number("COUNT", most), words.number("SEED", 1)
+    words.end()
+    return compared(*given)
 
 
 if __name__ == "__main__":
-    main()
+    sys.exit(main())

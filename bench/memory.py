@@ -16,6 +16,8 @@ import sys
 import tempfile
 from collections import Counter
 
+from command_line import CommandLine
+
 HERE = os.path.dirname(os.path.abspath(__file__))
 FILES = {
     "square": "p cnf 2 4\n1 2 0\n1 -2 0\n-1 2 0\n-1 -2 0\n",
@@ -90,9 +92,10 @@ def places():
 
 
 def main():
-    if len(sys.argv) not in (2, 3):
-        sys.exit(__doc__)
-    leank, only, faults, counts = os.path.abspath(sys.argv[1]), "".join(sys.argv[2:]), 0, Counter()
+    words = CommandLine(__doc__)
+    leank, only, faults, counts = words.program(), words.word("WORD", ""), 0, Counter()
+    words.end()
+    words.needs("gcc")
     with tempfile.TemporaryDirectory() as folder:
         library = os.path.join(folder, "failing.so")
         source = os.path.join(HERE, "failing_allocation.c")

@@ -11,6 +11,8 @@ is forced where nothing is assigned, which changes nothing, or else of the first
 """
 import sys
 
+from command_line import CommandLine
+
 VARS, MOVES = 6, 60
 
 
@@ -126,13 +128,15 @@ def answers(line):
 
 
 def main():
-    if sys.argv[1:2] == ["draw"]:
-        for seed in range(int(sys.argv[2])):
-            print(row(seed))
-        return
-    for line in sys.stdin:
+    words = CommandLine(__doc__)
+    count = words.number("COUNT") if words.takes("draw") else None
+    words.end()
+    for seed in range(count or 0):
+        print(row(seed))
+    for line in sys.stdin if count is None else ():
         for answer in answers(line.rstrip("\n")):
             print(answer)
 
 
-main()
+if __name__ == "__main__":
+    main()

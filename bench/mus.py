@@ -29,6 +29,7 @@ import tool_formulas
 from formulas import (adders, colouring, counter, drawn_clause, formula_text, parity, pebbles, pigeons, random_three,
                       shuffled, side_by_side)
 from solving import mean_ratio
+from command_line import CommandLine
 
 SEED = 1
 RUNS = 3
@@ -227,7 +228,7 @@ def test_drawn(leank, number):
 def test_tools(leank, kinds):
     draw = random.Random(SEED)
     with tempfile.TemporaryDirectory() as folder:
-        for kind in kinds or tool_formulas.SMALL_KINDS:
+        for kind in kinds:
             file = os.path.join(folder, "f.cnf")
             if tool_formulas.written_by(kind, file):
                 formula = formula_of(file)
@@ -265,7 +266,7 @@ def measure(leank, kinds):
     print("| formula | clauses | leank | core | picomus | core |\n|---|---|---|---|---|---|")
     seconds = []
     with tempfile.TemporaryDirectory() as folder:
-        for kind in kinds or FAMILIES:
+        for kind in kinds:
             variables, clauses = FAMILIES[kind](random.Random(SEED))
             file = written(folder, "f.cnf", formula_text(variables, clauses))
             found = by_turns({"leank": [leank, "mus", file, "--conflicts", BUDGET], "picomus": ["picomus", file]})
@@ -276,16 +277,21 @@ def measure(leank, kinds):
 
 
 def main():
-    words = sys.argv[1:]
-    if len(words) < 2 or words[0] not in ("drawn", "tools", "families"):
-        sys.exit(__doc__)
-    leank = os.path.abspath(words[1])
-    if words[0] == "drawn":
-        test_drawn(leank, int(words[2]) if len(words) > 2 else 200)
-    elif words[0] == "tools":
-        test_tools(leank, words[2:])
+    words = CommandLine(__doc__)
+    kind, leank = words.one("kind", ("drawn", "tools", "families")), words.program()
+    if kind == "drawn":
+        number = words.number("NUMBER", 200)
+        words.end()
+        words.needs(*SOLVERS)
+        test_drawn(leank, number)
+    elif kind == "tools":
+        kinds = words.some("KIND", tool_formulas.SMALL_KINDS)
+        words.needs(*SOLVERS, *tool_formulas.NEEDS)
+        test_tools(leank, kinds)
     else:
-        measure(leank, words[2:])
+        kinds = words.some("KIND", FAMILIES)
+        words.needs("picomus")
+        measure(leank, kinds)
 
 
 if __name__ == "__main__":

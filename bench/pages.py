@@ -14,6 +14,7 @@ import tempfile
 from pathlib import Path
 
 from formulas import formula_text, pigeons
+from command_line import RELEASED, CommandLine
 
 TOP = Path(__file__).resolve().parent.parent
 REFERENCE, MANUAL = (TOP / "docs/REFERENCE.md").read_text(), (TOP / "docs/leank.1").read_text()
@@ -150,4 +151,7 @@ def main(leank):
 
 
 if __name__ == "__main__":
-    main(Path(sys.argv[1] if len(sys.argv) > 1 else TOP / "dist/leank").resolve())
+    asked = CommandLine(__doc__)
+    program = asked.program(default=RELEASED)
+    asked.end()
+    main(program)

@@ -9,6 +9,8 @@ Needs python3.
 import math
 import os
 
+from command_line import CommandLine
+
 FIGURES = os.path.join(os.path.dirname(os.path.abspath(__file__)), "figures")
 WIDTH = 860
 COLOURS = {"pure": "#7ba6c6", "matching": "#4f9a98", "linear": "#7eaa80", "general": "#6f7fbd"}
@@ -162,5 +164,6 @@ def gains():
 
 
 if __name__ == "__main__":
+    CommandLine(__doc__).end()
     for draw in (ratios, solve, growth, gains):
         draw()

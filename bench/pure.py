@@ -20,6 +20,7 @@ import sys
 import tempfile
 
 import commands
+from command_line import CommandLine
 
 RUNS = 5
 
@@ -77,9 +78,9 @@ def cadical_seconds(formula):
 
 
 def main():
-    if len(sys.argv) < 2:
-        sys.exit(__doc__)
-    leank, kinds = os.path.abspath(sys.argv[1]), sys.argv[2:] or list(commands.KINDS) + ["large"]
+    words = CommandLine(__doc__)
+    leank, kinds = words.program(), words.some("KIND", [*commands.KINDS, "large"])
+    words.needs("g++")
     with tempfile.TemporaryDirectory() as folder:
         formula, model, document, same, bad = (os.path.join(folder, name) for name in ("formula", "model", "document", "same", "bad"))
         with open(bad, "w") as out:

@@ -1,10 +1,11 @@
 #!/usr/bin/env python3
 """How much of the specifications must be read to know what `Headline` and `StatusClaim` say.
 
-    bench/route.py              the number of lines for each question
-    bench/route.py QUESTION     the files to read for one of them, in their order, with the lines in each
-    bench/route.py QUESTION --text      the definitions themselves, in that order
+    bench/route.py
+    bench/route.py QUESTION [--text]
 
+The first prints the number of lines for each question; the second, for one of them, the files to read in their order, with the
+lines in each, and with `--text` the definitions themselves. If a field of a record is in no question, the status is 1.
 `Headline` and `StatusClaim` (crates/workbench/specs) are the claim of leank, in a record for results and one for statuses.
 Each question needs some fields of one of them, and the definitions that these cite, down to the kit's. A definition counts
 with its comment; `use` lines and blank lines do not. `IsRun` need not be opened: the records speak of all runs of which it is
@@ -14,6 +15,8 @@ counts as it is declared there, without derives. Definitions of the kit (std) do
 import os
 import re
 import sys
+
+from command_line import CommandLine
 
 TOP = os.path.dirname(os.path.dirname(os.path.abspath(__file__)))
 SHUT = {"IsRun"}
@@ -320,8 +323,12 @@ def forgotten(house):
     return sorted(f"{record}.{name}" for record, name in asked ^ there)
 
 
-def main(question=None, how=None):
-    house, questions = House(), [*QUESTIONS, *ALL]
+def main():
+    words, questions = CommandLine(__doc__), [*QUESTIONS, *ALL]
+    is_text = words.flag("--text")
+    question = words.one("QUESTION", questions) if words.left or is_text else None
+    words.end()
+    house = House()
     lacking = forgotten(house)
     if lacking:
         print(f"route.py: QUESTIONS and the records differ in {', '.join(lacking)}", file=sys.stderr)
@@ -331,10 +338,7 @@ def main(question=None, how=None):
             files = files_of(house, name)
             print(f"{sum(count for _, count, _ in files):5} lines in {len(files):2} files  {name}")
         return 0
-    if question not in questions:
-        print(f"route.py: one of {', '.join(questions)}", file=sys.stderr)
-        return 2
-    if how == "--text":
+    if is_text:
         show(house, question)
         return 0
     files = files_of(house, question)
@@ -345,4 +349,4 @@ def main(question=None, how=None):
 
 
 if __name__ == "__main__":
-    sys.exit(main(*sys.argv[1:3]))
+    sys.exit(main())

@@ -14,6 +14,7 @@ import sys
 
 import judge
 from formulas import formula_text
+from command_line import CommandLine
 
 # The scripts that have such rows, by the words of their head lines, and the rows.
 SCRIPTS = ("parts", "general")
@@ -101,21 +102,22 @@ def wrong(formula_text, text):
     return None
 
 
-def rows_of(name):
+def rows_of(text):
     """The lines of a script with such rows, or of a file without head lines: each other one, with the lines `=` behind it."""
     is_judged, rows = True, []
-    with open(name) as file:
-        for line in file.read().splitlines():
-            if line.startswith("@ "):
-                is_judged = line[2:] in SCRIPTS
-            elif is_judged and line.startswith("="):
-                rows[-1][1].append(line)
-            elif is_judged:
-                rows.append((line, []))
+    for line in text.decode().splitlines():
+        if line.startswith("@ "):
+            is_judged = line[2:] in SCRIPTS
+        elif is_judged and line.startswith("="):
+            rows[-1][1].append(line)
+        elif is_judged:
+            rows.append((line, []))
     return rows
 
 
-def main(rows, printed):
+def main():
+    words = CommandLine(__doc__)
+    rows, printed = words.files("ROWS", "PRINTED")
     given, judged, faults = {row for row, _ in rows_of(rows) if row.split(" ")[0] in ROWS}, 0, 0
     for row, lines in rows_of(printed):
         try:
@@ -132,4 +134,4 @@ def main(rows, printed):
 
 
 if __name__ == "__main__":
-    sys.exit(main(*sys.argv[1:]) if len(sys.argv) == 3 else __doc__)
+    sys.exit(main())

@@ -36,6 +36,7 @@ import tool_formulas
 from formulas import (adders, colouring, counter, factors, filled_square, machine, parities_of_graph, parity, pebbles,
                       pigeons, planted_three, progressions, queens, ramsey, random_three, round_trip, shuffled,
                       side_by_side, two_sums, write)
+from command_line import CommandLine
 
 SEED = 1
 RUNS = 3
@@ -318,7 +319,7 @@ def families(leank, folder, kinds):
     answers = "answered by leank / minisat / cadical / picosat"
     print_head("family", "formulas", answers, *(f"times {name}" for name in OTHERS))
     everything = []
-    for kind in kinds or FAMILIES:
+    for kind in kinds:
         found = family_runs(leank, folder, kind)
         family_row(kind, found)
         everything += found
@@ -329,7 +330,7 @@ def families(leank, folder, kinds):
 
 def formulas(leank, folder, kinds):
     print_head(*ANSWER_HEAD)
-    for kind in kinds or FORMULAS:
+    for kind in kinds:
         formula = os.path.join(folder, "formula")
         write_apart(FORMULAS[kind], formula)
         answer_row(leank, kind, formula, os.path.join(folder, "answer"))
@@ -337,7 +338,7 @@ def formulas(leank, folder, kinds):
 
 def tools(leank, folder, kinds):
     print_head(*ANSWER_HEAD)
-    for kind in kinds or tool_formulas.KINDS:
+    for kind in kinds:
         formula = os.path.join(folder, "tool")
         if tool_formulas.written_by(kind, formula):
             answer_row(leank, kind, formula, os.path.join(folder, "answer"))
@@ -362,7 +363,7 @@ def circuits(leank, folder, kinds):
     print_head("formula", "variables and clauses", "`solve`", "minisat", "without preprocessing", "cadical", "answer",
                "memory of `solve` and minisat")
     found = []
-    for kind in kinds or tool_formulas.LARGE_KINDS:
+    for kind in kinds:
         formula = os.path.join(folder, "circuit")
         if tool_formulas.written_by(kind, formula):
             found.append(circuit_row(leank, kind, formula, os.path.join(folder, "answer")))
@@ -376,7 +377,7 @@ def circuits(leank, folder, kinds):
 def parts(leank, folder, kinds):
     """Prints seconds of the clock."""
     print_head("formula", "variables and clauses", "model", "one worker", "two workers (to one)", "minisat", "cadical", "judge")
-    for kind in kinds or PARTS:
+    for kind in kinds:
         formula, answer = (os.path.join(folder, name) for name in ("formula", "answer"))
         write_apart(PARTS[kind], formula)
         commands = solver_words(leank, formula, answer)
@@ -393,16 +394,25 @@ def parts(leank, folder, kinds):
         print("| " + " | ".join([*columns, both[0] if both else "-"]) + " |", flush=True)
 
 
-GROUPS = {"families": families, "formulas": formulas, "tools": tools, "circuits": circuits, "parts": parts}
+# Of each group the function, its kinds, and what it needs beside minisat and cadical.
+GROUPS = {
+    "families": (families, FAMILIES, ["picosat"]),
+    "formulas": (formulas, FORMULAS, []),
+    "tools": (tools, tool_formulas.KINDS, tool_formulas.NEEDS),
+    "circuits": (circuits, tool_formulas.LARGE_KINDS, tool_formulas.NEEDS),
+    "parts": (parts, PARTS, []),
+}
 
 
 def main():
-    if len(sys.argv) < 2:
-        sys.exit(__doc__)
-    leank, words = os.path.abspath(sys.argv[1]), sys.argv[2:]
+    words = CommandLine(__doc__)
+    leank = words.program()
+    groups = [words.one("GROUP", GROUPS)] if words.left else list(GROUPS)
+    chosen = words.some("KIND", GROUPS[groups[0]][1]) if len(groups) == 1 else words.end()
+    words.needs("minisat", "cadical", *(it for group in groups for it in GROUPS[group][2]))
     with tempfile.TemporaryDirectory() as folder:
-        for group in words[:1] or GROUPS:
-            GROUPS[group](leank, folder, words[1:])
+        for measure, kinds, _ in (GROUPS[group] for group in groups):
+            measure(leank, folder, chosen or list(kinds))
 
 
 if __name__ == "__main__":

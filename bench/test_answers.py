@@ -2,7 +2,7 @@
 """Tests of judge.py with answers and cores: worked verdicts, texts of small answers that are listed one by one, answers of a
 plain search, each also forged, and cores that a plain search finds, also with a clause or literals changed. No leank is run.
 
-    bench/test_answers.py
+    bench/test_answers.py [TEST ...]
 """
 import itertools
 import random
@@ -15,6 +15,7 @@ from forging import (CHANGED, EMPTY, EMPTY_CORE, SQUARE, SQUARE_CORE, UNITS, UNI
                      with_words_changed)
 from formulas import drawn_clause, formula_text, pigeons, shuffled, side_by_side
 from resolving import answer
+from command_line import CommandLine
 
 IMPLIED = (2, [(1,), (-1, 2)])
 SQUARE_ANSWER = b"s UNSATISFIABLE\nc round\nc step 5 1 0 1 2 2 0\nc step 6 0 3 2 4 -1 5 0\n"
@@ -314,4 +315,4 @@ class Cores(unittest.TestCase):
 
 
 if __name__ == "__main__":
-    unittest.main()
+    unittest.main(argv=CommandLine(__doc__).tests(Answers, Cores))

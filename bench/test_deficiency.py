@@ -2,13 +2,14 @@
 """Tests of the judge of maximal deficiencies: worked formulas, forged texts, and the answers of a plain matching, each also
 changed.
 
-    bench/test_deficiency.py
+    bench/test_deficiency.py [TEST ...]
 """
 import itertools
 import random
 import unittest
 
 from deficiency import drawn, greatest_value, judge, matching_kernel, text_of
+from command_line import CommandLine
 
 THREE = (3, [(1, 2), (-2, 3), (2, -3)])
 CIRCLE = (3, [(1, -2), (2, -3), (3, -1), (1, -3)])
@@ -125,4 +126,4 @@ class Judge(unittest.TestCase):
 
 
 if __name__ == "__main__":
-    unittest.main()
+    unittest.main(argv=CommandLine(__doc__).tests(Judge))

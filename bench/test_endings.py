@@ -1,7 +1,7 @@
 #!/usr/bin/env python3
 """Tries what REFERENCE and FORMAT say of outputs that are cut, of pipes, and of texts that some commands read and others do not.
 
-    bench/test_endings.py LEANK
+    bench/test_endings.py LEANK [TEST ...]
 
 LEANK is the built program (`dist/leank`). Needs python3; `minisat`, if it is found, tells of a cut document.
 """
@@ -11,12 +11,12 @@ import resource
 import shutil
 import signal
 import subprocess
-import sys
 import tempfile
 import unittest
 from pathlib import Path
 
 from formulas import formula_text, pigeons
+from command_line import CommandLine
 
 LEANK = None
 SQUARE, FORMULA = formula_text(2, [[1, 2], [1, -2], [-1, 2], [-1, -2]]), formula_text(3, [[1, 2], [-2, 3], [2, -3]])
@@ -102,5 +102,6 @@ class Endings(unittest.TestCase):
 
 
 if __name__ == "__main__":
-    LEANK = str(Path(sys.argv.pop()).resolve()) if len(sys.argv) == 2 else sys.exit(__doc__)
-    unittest.main()
+    asked = CommandLine(__doc__)
+    LEANK = asked.program()
+    unittest.main(argv=asked.tests(Endings))

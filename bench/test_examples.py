@@ -3,14 +3,17 @@
 solver that is killed or writes no model, where nothing is kept, for formulas with carriage returns and end marks, through
 a symbolic link, and with CDPATH set. It prints each case, and its status is 0 where all are as they should be.
 
-    bench/test_examples.py
+    bench/test_examples.py [LEANK]
+
+The scripts call `bin/leank`, or LEANK, a built program, from a copy of the folder.
 """
-import os
 import shutil
 import subprocess
 import sys
 import tempfile
 from pathlib import Path
+
+from command_line import CommandLine
 
 TOP = Path(__file__).resolve().parent.parent
 SQUARE = "p cnf 2 4\n1 2 0\n1 -2 0\n-1 2 0\n-1 -2 0\n"
@@ -67,18 +70,29 @@ def tell(name, is_well, said):
     return is_well
 
 
-def sessions(room):
+def top_of(room, leank):
+    """A folder with the examples beside the program, which they find there."""
+    if leank is None:
+        return TOP
+    top = room / "top"
+    shutil.copytree(TOP / "examples", top / "examples")
+    (top / "bin").mkdir()
+    (top / "bin/leank").symlink_to(leank)
+    return top
+
+
+def sessions(room, top):
     for number, (name, solver, does, status, formula, wanted, line) in enumerate(CASES):
         folder = room / f"path{number}"
         folder.mkdir()
         solvers(folder, solver, does, status)
         file = room / f"formula{number}.cnf"
         file.write_bytes(formula.encode())
-        ended, said = run(TOP / "examples/session.sh", [file], folder, room)
+        ended, said = run(top / "examples/session.sh", [file], folder, room)
         yield tell(name, ended == wanted and line in said, f"status {ended}\n{said}")
 
 
-def places(room):
+def places(room, top):
     """Both scripts through a link from another folder, with CDPATH set and a folder of the same name there."""
     folder = room / "path"
     folder.mkdir()
@@ -86,16 +100,20 @@ def places(room):
     (room / "elsewhere/examples").mkdir(parents=True)
     for script, wanted, line in (("session.sh", 0, HOLDS), ("answer.sh", 20, "accepted")):
         link = room / script
-        link.symlink_to(TOP / "examples" / script)
+        link.symlink_to(top / "examples" / script)
         for name, path in (("a symbolic link", link), ("CDPATH", Path("examples") / script)):
-            ended, said = run(path, [], folder, TOP, CDPATH=f"{room}/elsewhere")
+            ended, said = run(path, [], folder, top, CDPATH=f"{room}/elsewhere")
             yield tell(f"{script}: {name}", ended == wanted and line in said, f"status {ended}\n{said}")
 
 
 def main():
+    words = CommandLine(__doc__)
+    leank = words.program() if words.left else None
+    words.end()
     with tempfile.TemporaryDirectory() as room:
         room = Path(room)
-        found = [*sessions(room), *places(room)]
+        top = top_of(room, leank)
+        found = [*sessions(room, top), *places(room, top)]
     print(f"{sum(found)} of {len(found)} as they should be")
     return 0 if all(found) else 1
 

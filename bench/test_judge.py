@@ -10,7 +10,6 @@ drawn, and with drawn options and budgets leank writes all that it writes of it;
 forged from it by one or two drawn changes, and the text itself for a forged formula. The first difference between the two
 judges is printed, and the status is 1. Else the counts are printed, by class and by verdict. Needs python3.
 """
-import argparse
 import os
 import random
 import re
@@ -22,6 +21,7 @@ from collections import Counter
 import corners
 import judge
 from formulas import drawn_clause, formula_text, pigeons
+from command_line import CommandLine
 
 PAGE = os.path.join(os.path.dirname(os.path.abspath(__file__)), "..", "docs", "FORMAT.md")
 FORGED_EACH = 8
@@ -553,19 +553,17 @@ def a_round(both, draw):
 
 
 def main():
-    parser = argparse.ArgumentParser(usage=__doc__)
-    parser.add_argument("leank")
-    parser.add_argument("--rounds", type=int, default=50)
-    parser.add_argument("--seed", type=int, default=1)
-    parser.add_argument("--every", action="store_true")
-    given = parser.parse_args()
+    words = CommandLine(__doc__)
+    rounds, seed, is_every = words.option("--rounds", 50), words.option("--seed", 1), words.flag("--every")
+    leank = words.program()
+    words.end()
     with tempfile.TemporaryDirectory() as room:
-        both = Both(given.leank, room)
+        both = Both(leank, room)
         try:
-            print("{} worked texts and {} examples of the page".format(*judge_page(both, given.every)))
+            print("{} worked texts and {} examples of the page".format(*judge_page(both, is_every)))
             judge_corners(both)
-            for number in range(given.rounds):
-                a_round(both, random.Random(f"{given.seed} {number}"))
+            for number in range(rounds):
+                a_round(both, random.Random(f"{seed} {number}"))
         except Difference as difference:
             command, formula, text, theirs, ours = difference.args
             print(f"leank {command} says {theirs}\njudge.py says {ours}\nof the formula")

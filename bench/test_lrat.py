@@ -2,9 +2,9 @@
 """Tests of `examples/lrat.sh`: refutations and cores of drawn formulas as LRAT proofs, and forged ones; and of `lrat.py`,
 which checks them, with worked proofs.
 
-    bench/test_lrat.py
+    bench/test_lrat.py [LEANK [TEST ...]]
 
-It runs `dist/leank`. Where `lrat-check` is found (Debian's package drat-trim, from Debian 13 on), it has to verify each proof
+LEANK is the built program, by default `dist/leank`. Where `lrat-check` is found (Debian's package drat-trim, from Debian 13 on), it has to verify each proof
 of the script too.
 """
 import itertools
@@ -18,9 +18,10 @@ import unittest
 import judge
 from formulas import drawn_clause, formula_text, parity, pigeons, shuffled, side_by_side
 from lrat import fault, read_formula
+from command_line import RELEASED, CommandLine
 
 TOP = os.path.dirname(os.path.dirname(os.path.abspath(__file__)))
-LEANK, SCRIPT = os.path.join(TOP, "dist", "leank"), os.path.join(TOP, "examples", "lrat.sh")
+LEANK, SCRIPT = RELEASED, os.path.join(TOP, "examples", "lrat.sh")
 OTHER_CHECKER = shutil.which("lrat-check")
 
 SQUARE = (2, [[1, 2], [1, -2], [-1, 2], [-1, -2]])
@@ -339,7 +340,7 @@ class Rewriting(unittest.TestCase):
             self.assertIsNone(fault(SQUARE, proof))
         for words in ([], ["a=1"], ["a=1", "-", "-v"], ["a=1", "none"], ["none", "-"], ["a=1", "."]):
             done = subprocess.run([link, *words], cwd=folder, stdout=subprocess.PIPE, stderr=subprocess.PIPE)
-            self.assertEqual((done.returncode, done.stdout), (1, b""), words)
+            self.assertEqual((done.returncode, done.stdout), (2, b""), words)
             self.assertNotEqual(done.stderr, b"")
 
     def test_drawn_chains(self):
@@ -358,4 +359,6 @@ class Rewriting(unittest.TestCase):
 
 
 if __name__ == "__main__":
-    unittest.main()
+    asked = CommandLine(__doc__)
+    LEANK = asked.program(default=RELEASED)
+    unittest.main(argv=asked.tests(Checking, Rewriting))

@@ -3,7 +3,7 @@
 
     bench/test_mistakes.py LEANK
 
-Its status is 0 where each row of the page was tried and the program says what the page says.
+LEANK is the built program (`dist/leank`). The status is 0 where each row of the page was tried and the program says what the page says.
 """
 import gzip
 import re
@@ -11,6 +11,8 @@ import subprocess
 import sys
 import tempfile
 from pathlib import Path
+
+from command_line import CommandLine
 
 TOP = Path(__file__).resolve().parent.parent
 FORMULA = "p cnf 3 3\n1 2 0\n-2 3 0\n2 -3 0\n"
@@ -67,4 +69,7 @@ def main(leank):
 
 
 if __name__ == "__main__":
-    sys.exit(main(Path(sys.argv[1]).resolve()))
+    asked = CommandLine(__doc__)
+    program = asked.program()
+    asked.end()
+    sys.exit(main(program))

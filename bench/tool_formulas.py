@@ -11,7 +11,10 @@ import os
 import subprocess
 import sys
 
+from command_line import CommandLine
+
 CIRCUITS = os.path.join(os.path.dirname(os.path.abspath(__file__)), "circuits")
+NEEDS = ("yosys", "berkeley-abc")
 
 
 def reads(name, top, settings):
@@ -135,10 +138,11 @@ def written_by(kind, file):
 
 
 def main():
-    if len(sys.argv) < 2:
-        sys.exit(__doc__)
-    folder = os.path.abspath(sys.argv[1])
-    for kind in sys.argv[2:] or KINDS:
+    words = CommandLine(__doc__)
+    folder = words.folder("FOLDER")
+    kinds = words.some("KIND", {**KINDS, **LARGE_KINDS, **SMALL_KINDS}) if words.left else words.some("KIND", KINDS)
+    words.needs(*NEEDS)
+    for kind in kinds:
         written_by(kind, os.path.join(folder, kind.replace(", ", "-").replace(" ", "-") + ".cnf"))
 
 

@@ -5,12 +5,12 @@
 
 LEANK is the built program (`dist/leank`). Each input has at most 2 MB. For each command that takes it stand the
 processor seconds, the peak of memory in MB and the status; what takes more than 3 seconds (5 for forged documents) or
-300 MB, or gets no answer in 60, is marked. With --growth each is run at a sixteenth and at a quarter of its size
-instead, under valgrind, which counts instructions (Debian: valgrind); a growth of more than 5 times is marked. With
---bounds only those runs are made that have a bound of their own: the most instructions for each byte of the inputs, or
-the most bytes of memory for each byte that is read or written; what is past its bound is marked. A run may hold 4 GB.
+300 MB, or gets no answer in 60, is marked. With --only there are only inputs whose names have the word. With --growth each
+is run at a sixteenth and at a quarter of its size instead, under valgrind, which counts instructions (Debian: valgrind); a
+growth of more than 5 times is marked. With --bounds only those runs are made that have a bound of their own: the most
+instructions for each byte of the inputs, or the most bytes of memory for each byte that is read or written; what is past its
+bound is marked. A run may hold 4 GB.
 """
-import argparse
 import os
 import random
 import re
@@ -22,6 +22,7 @@ import tempfile
 from collections import namedtuple
 
 from formulas import colouring, formula_text, pebbles, random_three, shuffled, two_sums
+from command_line import CommandLine
 
 LIMIT, FORGED_LIMIT, TIME_OUT, MOST_GROWTH, MOST_MEMORY, MOST_BYTES = 3.0, 5.0, 60, 5.0, 300, 4 << 30
 
@@ -896,32 +897,27 @@ def all_rows(program, only, judge, folders):
     return marked
 
 
-def arguments():
-    parser = argparse.ArgumentParser(description=__doc__, formatter_class=argparse.RawDescriptionHelpFormatter)
-    parser.add_argument("leank", metavar="LEANK", help="the built program")
-    parser.add_argument("--only", metavar="WORD", default="", help="only inputs whose names have the word")
-    kinds = parser.add_mutually_exclusive_group()
-    kinds.add_argument("--growth", action="store_true", help="count instructions at two sizes")
-    kinds.add_argument("--bounds", action="store_true", help="only the runs that have a bound of their own, against it")
-    return parser.parse_args()
-
-
 def main():
-    asked = arguments()
-    program, only = os.path.abspath(asked.leank), asked.only
+    words = CommandLine(__doc__)
+    only, is_growth = words.option("--only", "", str), words.flag("--growth")
+    is_bounds = not is_growth and words.flag("--bounds")
+    program = words.program()
+    words.end()
+    if is_growth or is_bounds:
+        words.needs("valgrind")
     own = [bound for bound in BOUNDS if only in bound.make.__name__]
     with tempfile.TemporaryDirectory() as small, tempfile.TemporaryDirectory() as large:
-        folders = [(small, 16), (large, 4)] if asked.growth else [(large, 1)]
+        folders = [(small, 16), (large, 4)] if is_growth else [(large, 1)]
 
         def judge(name, words, limit):
-            return growth_row(name, words, small, large) if asked.growth else row(name, words, large, limit)
+            return growth_row(name, words, small, large) if is_growth else row(name, words, large, limit)
 
-        if asked.bounds:
+        if is_bounds:
             marked = sum(bound_row(program, bound, large) for bound in own)
         else:
             marked = all_rows(program, only, judge, folders)
-            marked += 0 if asked.growth else sum(own_row(program, bound, large) for bound in own)
-    print(f"{marked} past their bounds" if asked.bounds else f"{marked} marked")
+            marked += 0 if is_growth else sum(own_row(program, bound, large) for bound in own)
+    print(f"{marked} past their bounds" if is_bounds else f"{marked} marked")
     sys.exit(1 if marked else 0)
 
 

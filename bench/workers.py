@@ -2,7 +2,6 @@
 """What any number of workers writes: each command that takes `--workers`, by 1, 2, 3, 8 and 64 of them.
 
     bench/workers.py LEANK [COUNT [SEED]]
-    bench/workers.py --help
 
 LEANK is the built program (`dist/leank`). It draws COUNT formulas, or 300, each kind in turn: one part, two parts, many
 parts of one or two clauses, thousands of them, some parts of all sizes, empty clauses, tautologies and repeated
@@ -18,6 +17,8 @@ import random
 import subprocess
 import sys
 import tempfile
+
+from command_line import CommandLine
 
 WORKERS = (1, 2, 3, 8, 64)
 
@@ -194,11 +195,9 @@ def compare(compared, folder, seed):
 
 
 def main():
-    words = sys.argv[1:]
-    if not 1 <= len(words) <= 3 or words[0] == "--help":
-        sys.exit(__doc__ if words != ["--help"] else print(__doc__))
-    count, seed = [int(word) for word in words[1:]] + [300, 1][len(words) - 1 :]
-    compared = Compared(os.path.abspath(words[0]))
+    words = CommandLine(__doc__)
+    compared, count, seed = Compared(words.program()), words.number("COUNT", 300), words.number("SEED", 1)
+    words.end()
     with tempfile.TemporaryDirectory() as folder:
         for number in range(seed, seed + count):
             compare(compared, folder, number)

@@ -6,8 +6,8 @@
 # ANSWER is the refutation of `leank solve` (status 20), or the core of `leank mus`. In both cases PROOF is for FORMULA: its
 # numbers up to M are the positions of FORMULA's M clauses. It does not fit the text of a core, where the clauses have other
 # positions. Nothing is checked here: that is the checker's task. The status is 1 if ANSWER is no refutation, or one for
-# another number of clauses.
-#
+# another number of clauses, and 2 if there are not two words or a file cannot be read.
+
 # Each step becomes one line, `ID LITERALS 0 HINTS 0`. Its hints are the clauses of the chain, backwards, without some.
 #
 # Why these hints are right. The chain begins with the clause C0. Turn i takes the literal ti out of C(i-1), and joins the
@@ -32,10 +32,14 @@
 # The lines have the numbers from M + 1 on, one by one. They are those of the steps, if no step is left out and no clause
 # is stated as a set.
 set -eu
-if [ $# -ne 2 ]; then
-    echo "usage: lrat.sh FORMULA ANSWER" >&2
-    exit 1
-fi
+
+# Prints the head of this script.
+usage() {
+    sed -n -e '/^#!/d' -e '/^#/!q' -e 's/^# \{0,1\}//p' "$0"
+}
+
+[ "$*" != --help ] || { usage; exit 0; }
+[ $# -eq 2 ] || { usage >&2; exit 2; }
 formula=$1
 answer=$2
 # (awk takes a name with `=` for an assignment, and `-` for its input.)
@@ -44,7 +48,7 @@ case $answer in /*) ;; *) answer=./$answer ;; esac
 for name in "$formula" "$answer"; do
     if [ ! -r "$name" ] || [ -d "$name" ]; then
         echo "lrat.sh: $name cannot be read" >&2
-        exit 1
+        exit 2
     fi
 done
 

@@ -6,11 +6,27 @@
 #
 # The formula is examples/ladder.cnf where none is named. It is given to the first of cadical, minisat and
 # picosat that is found; where none is, examples/ladder.model serves for examples/ladder.cnf. The status is 0 with a
-# model, 20 where the solver says that there is none, and 1 where the solver says neither.
+# model, 20 where the solver says that there is none, 1 where the solver says neither, and 2 where a word is wrong or the
+# formula cannot be read.
 set -eu
+
+# Prints the head of this script.
+usage() {
+    sed -n -e '/^#!/d' -e '/^#/!q' -e 's/^# \{0,1\}//p' "$0"
+}
+
+case ${1-} in
+--help) usage; exit 0 ;;
+--*) usage >&2; exit 2 ;;
+esac
+[ $# -le 1 ] || { usage >&2; exit 2; }
 here=$(CDPATH='' cd -- "$(dirname -- "$(readlink -f -- "$0")")" && pwd)
 leank=$here/../bin/leank
 formula=${1:-$here/ladder.cnf}
+if [ ! -r "$formula" ] || [ -d "$formula" ]; then
+    echo "session.sh: $formula cannot be read" >&2
+    exit 2
+fi
 work=$(mktemp -d)
 trap 'rm -rf "$work"' EXIT
 
