@@ -22,42 +22,38 @@ import tempfile
 import time
 
 from command_line import CommandLine
+from formulas import drawn_clauses, implications, write
 
 SEED = 1
 
 
 def random_three(out):
     """100,000 variables, and 400,000 clauses of three literals each."""
-    draw = random.Random(SEED)
-    out.write("p cnf 100000 400000\n")
-    for _ in range(400000):
-        chosen = draw.sample(range(1, 100001), 3)
-        out.write(" ".join(str(v if draw.random() < 0.5 else -v) for v in chosen) + " 0\n")
+    write(out, 100000, drawn_clauses(random.Random(SEED), range(1, 100001), 400000), 400000)
 
 
 def chain(out):
     """1,000,000 variables; each pure literal frees the next."""
-    out.write("p cnf 1000000 999999\n1 2 0\n")
-    for v in range(2, 1000000):
-        out.write(f"{-v} {v + 1} 0\n")
+    write(out, 1000000, [[1, 2], *implications(1000000, 2)])
 
 
 def two_clauses(out):
     """1,000,000 variables; one clause with each of them, and one with each complement: all is kept."""
-    out.write("p cnf 1000000 2\n")
-    out.write(" ".join(str(v) for v in range(1, 1000001)) + " 0\n")
-    out.write(" ".join(str(-v) for v in range(1, 1000001)) + " 0\n")
+    write(out, 1000000, [range(1, 1000001), range(-1, -1000001, -1)])
+
+
+def five_literals(draw):
+    """A clause of five literals over 1,000,000 variables."""
+    chosen = {draw.randrange(1, 1000001) for _ in range(5)}
+    while len(chosen) < 5:
+        chosen.add(draw.randrange(1, 1000001))
+    return [v if draw.random() < 0.5 else -v for v in chosen]
 
 
 def near_limits(out):
     """1,000,000 variables, and 4,000,000 clauses with 20,000,000 literals."""
     draw = random.Random(SEED)
-    out.write("p cnf 1000000 4000000\n")
-    for _ in range(4000000):
-        chosen = {draw.randrange(1, 1000001) for _ in range(5)}
-        while len(chosen) < 5:
-            chosen.add(draw.randrange(1, 1000001))
-        out.write(" ".join(str(v if draw.random() < 0.5 else -v) for v in chosen) + " 0\n")
+    write(out, 1000000, (five_literals(draw) for _ in range(4000000)), 4000000)
 
 
 KINDS = {"random": random_three, "chain": chain, "two": two_clauses, "limits": near_limits}

@@ -16,36 +16,25 @@ import tempfile
 import time
 
 from command_line import CommandLine
+from formulas import implications, planted_clauses, write as write_formula
 
 SEED = 1
 RUNS = 5
 
 
-def planted(draw, variables, clauses, width):
-    """Clauses of which each holds a literal that the drawn model makes true."""
-    model = [None] + [draw.random() < 0.5 for _ in range(variables)]
-    drawn = []
-    while len(drawn) < clauses:
-        chosen = draw.sample(range(1, variables + 1), width)
-        clause = [v if draw.random() < 0.5 else -v for v in chosen]
-        if any((l > 0) == model[abs(l)] for l in clause):
-            drawn.append(clause)
-    return model, drawn
-
-
 def few(draw):
     """300,000 variables, and 250,000 clauses of three literals: most of them go."""
-    return planted(draw, 300000, 250000, 3)
+    return planted_clauses(draw, 300000, 250000)
 
 
 def many(draw):
     """200,000 variables, and 800,000 clauses of three literals: nearly all are kept."""
-    return planted(draw, 200000, 800000, 3)
+    return planted_clauses(draw, 200000, 800000)
 
 
 def chain(draw):
     """Implications along 1,000,000 variables."""
-    return [None] + [True] * 1000000, [[-v, v + 1] for v in range(1, 1000000)]
+    return range(1, 1000001), list(implications(1000000))
 
 
 KINDS = {"few": few, "many": many, "chain": chain}
@@ -53,15 +42,12 @@ KINDS = {"few": few, "many": many, "chain": chain}
 
 def write(kind, formula, model):
     """Writes a formula, and a model of it as a solver prints one."""
-    values, clauses = KINDS[kind](random.Random(SEED))
+    literals, clauses = KINDS[kind](random.Random(SEED))
     with open(formula, "w") as out:
-        out.write(f"p cnf {len(values) - 1} {len(clauses)}\n")
-        for clause in clauses:
-            out.write(" ".join(map(str, clause)) + " 0\n")
+        write_formula(out, len(literals), clauses)
     with open(model, "w") as out:
         out.write("s SATISFIABLE\n")
-        for v in range(1, len(values)):
-            out.write(f"v {v if values[v] else -v}\n")
+        out.writelines(f"v {literal}\n" for literal in sorted(literals, key=abs))
         out.write("v 0\n")
 
 

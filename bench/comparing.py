@@ -26,10 +26,10 @@ from collections import Counter, namedtuple
 
 import judge
 import tool_formulas
-from forging import drawn_change, drawn_forgery
-from formulas import (adders, counter, drawn_clause, formula_text, machine, parity, pebbles, pigeons, random_three, shuffled,
-                      side_by_side)
 from command_line import CommandLine
+from forging import drawn_change, drawn_forgery
+from formulas import (adders, counter, drawn_clause, formula_text, machine, mixed_clauses, parity, pebbles, pigeons, random_three,
+                      shuffled, side_by_side)
 
 SEED = 1
 BUDGET = 100000
@@ -42,16 +42,10 @@ SOLVERS = {"minisat": ["minisat", "-verb=0"], "cadical": ["cadical", "-q"], "pic
 Ended = namedtuple("Ended", "status out say")
 
 
-def drawn_clauses(draw, variables, number, widths):
-    """Clauses whose numbers of literals are drawn from these."""
-    names = range(1, variables + 1)
-    return [drawn_clause(draw, names, min(draw.choice(widths), variables)) for _ in range(number)]
-
-
 def tiny(draw):
     """At most six variables, or none; empty clauses, equal ones, and both signs of a variable."""
     variables = draw.randrange(7)
-    clauses = drawn_clauses(draw, variables, draw.randrange(5 * variables + 3), (1, 2, 2, 3, 3, 3, 3, 0 if variables == 0 else 4))
+    clauses = mixed_clauses(draw, variables, draw.randrange(5 * variables + 3), (1, 2, 2, 3, 3, 3, 3, 0 if variables == 0 else 4))
     for clause in clauses:
         if draw.random() < 0.03:
             clause.clear()
@@ -68,7 +62,7 @@ def nothing(draw):
 def mixed(draw):
     """Clauses of one literal to five."""
     variables = draw.randrange(5, 80)
-    return variables, drawn_clauses(draw, variables, int(variables * draw.choice((1, 2, 3))), (1, 2, 2, 3, 3, 3, 4, 5))
+    return variables, mixed_clauses(draw, variables, int(variables * draw.choice((1, 2, 3))), (1, 2, 2, 3, 3, 3, 4, 5))
 
 
 def parts(draw):

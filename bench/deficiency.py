@@ -20,9 +20,9 @@ import subprocess
 import sys
 import tempfile
 
+from command_line import CommandLine
 from formulas import drawn_clause, write
 from judge import read_formula
-from command_line import CommandLine
 
 SEED = 1
 VARIABLES = 7

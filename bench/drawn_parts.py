@@ -9,27 +9,9 @@ drawn by the linear congruence of `lk_samples`. `expected` prints each with its 
 clauses: two are in one part if they share a variable, or if both share a part with a third. Needs python3.
 """
 from command_line import CommandLine
+from formulas import sampled_clauses
 
 VARS, CLAUSES, COUNT = 20, 12, 500
-
-
-def clauses_of(seed):
-    state = seed
-
-    def below(bound):
-        nonlocal state
-        state = (state * 1664525 + 1013904223) % 2**32
-        return (state >> 16) % bound
-
-    clauses = []
-    for _ in range(CLAUSES):
-        clause = []
-        for _ in range(below(3) + 1):
-            var = below(VARS) + 1
-            clause.append(var if below(2) == 0 else -var)
-        if len(set(clause)) == len(clause):
-            clauses.append(clause)
-    return clauses
 
 
 def parts_of(clauses):
@@ -47,7 +29,7 @@ def main():
     kind, count = words.one("kind", ("rows", "expected")), words.number("COUNT", COUNT)
     words.end()
     for seed in range(count):
-        clauses = clauses_of(seed)
+        clauses = sampled_clauses(VARS, seed, CLAUSES)
         print(f"parts {VARS}; " + ", ".join(" ".join(map(str, clause)) for clause in clauses))
         if kind == "expected":
             print("= " + " ".join(map(str, parts_of(clauses))))

@@ -16,8 +16,8 @@ import subprocess
 import tempfile
 import time
 
-from formulas import drawn_clause, write
 from command_line import CommandLine
+from formulas import drawn_clauses, implications, write
 
 SEED = 1
 EDITS = 10_000
@@ -28,19 +28,14 @@ RUNS = 3
 
 
 def random_three(draw, variables, clauses):
-    return variables, [drawn_clause(draw, range(1, variables + 1), 3) for _ in range(clauses)]
+    return variables, list(drawn_clauses(draw, range(1, variables + 1), clauses))
 
 
 def with_core(draw, variables, clauses, core):
     """A formula whose kernel is about its first clauses, which are dense."""
     few = core * 9 // 10
-    dense = [drawn_clause(draw, range(1, few + 1), 3) for _ in range(core)]
-    return variables, dense + [drawn_clause(draw, range(few + 1, variables + 1), 3) for _ in range(clauses - core)]
-
-
-def chain(draw, clauses):
-    """Implications from a unit clause on."""
-    return clauses, [[1], *([-v, v + 1] for v in range(1, clauses))]
+    dense = list(drawn_clauses(draw, range(1, few + 1), core))
+    return variables, dense + list(drawn_clauses(draw, range(few + 1, variables + 1), clauses - core))
 
 
 KINDS = {
@@ -48,7 +43,8 @@ KINDS = {
     "core": lambda draw: with_core(draw, 130_000, 100_000, 1_000),
     "near": lambda draw: random_three(draw, 109_000, 100_000),
     "dense": lambda draw: random_three(draw, 100_000, 100_000),
-    "chain": lambda draw: chain(draw, 100_000),
+    # (implications from a unit clause on)
+    "chain": lambda draw: (100_000, [[1], *implications(100_000)]),
 }
 
 

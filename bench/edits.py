@@ -27,10 +27,10 @@ import sys
 import tempfile
 from collections import namedtuple
 
-from deficiency import matching_kernel
-from formulas import drawn_clause, write
-from judge import read_formula
 from command_line import CommandLine
+from deficiency import matching_kernel
+from formulas import drawn_clause, mixed_clauses, write
+from judge import read_formula
 
 SEED = 1
 EDITS = 50
@@ -219,7 +219,7 @@ def drawn(draw):
     variables = draw.randrange(FEW + 1) if draw.random() < 0.6 else draw.randrange(FEW + 1, 40)
     width = draw.choice([(0, 1, 1, 2), (1, 2, 2), (2, 3), (1, 2, 3, 4)])
     each = draw.choice([0.5, 1, 1, 1.3])
-    clauses = [drawn_clause(draw, range(1, variables + 1), min(draw.choice(width), variables)) for _ in range(int(each * variables) + draw.randrange(3))]
+    clauses = mixed_clauses(draw, variables, int(each * variables) + draw.randrange(3), width)
     return (variables, clauses), drawn_lines(draw, variables, clauses, EDITS, width)
 
 

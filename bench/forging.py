@@ -7,8 +7,8 @@
 script must print, by the judge of judge.py. Other programs of this folder draw forged texts. Needs python3.
 """
 import judge
-from formulas import formula_text
 from command_line import CommandLine
+from formulas import formula_text
 
 
 def cuts(text):

@@ -1,11 +1,11 @@
-"""Drawers of formulas for the programs of this folder. Each answers the number of variables and the clauses; what is
-drawn is drawn with the generator that it is given."""
+"""Formulas, and clauses of which they are made, for the programs of this folder. A formula is the number of variables and the
+clauses. What is drawn is drawn with the generator that is given."""
 import itertools
 
 
-def write(out, variables, clauses):
-    """Writes a formula as DIMACS, a clause on each line."""
-    out.write(f"p cnf {variables} {len(clauses)}\n")
+def write(out, variables, clauses, number=None):
+    """Writes a formula as DIMACS, a clause on each line. The number of clauses is needed where they come one by one."""
+    out.write(f"p cnf {variables} {len(clauses) if number is None else number}\n")
     for clause in clauses:
         out.write(" ".join(map(str, [*clause, 0])) + "\n")
 
@@ -20,21 +20,61 @@ def drawn_clause(draw, variables, width):
     return [v if draw.random() < 0.5 else -v for v in draw.sample(variables, width)]
 
 
+def drawn_clauses(draw, variables, number, width=3):
+    """So many of these, one by one."""
+    return (drawn_clause(draw, variables, width) for _ in range(number))
+
+
+def mixed_clauses(draw, variables, number, widths):
+    """So many clauses whose widths are drawn from these, over so many variables; none is wider than that."""
+    names = range(1, variables + 1)
+    return [drawn_clause(draw, names, min(draw.choice(widths), variables)) for _ in range(number)]
+
+
 def random_three(draw, variables, clauses_each=4.26):
     """Clauses of three literals, so many for each variable."""
-    names = range(1, variables + 1)
-    return variables, [drawn_clause(draw, names, 3) for _ in range(int(clauses_each * variables))]
+    return variables, list(drawn_clauses(draw, range(1, variables + 1), int(clauses_each * variables)))
+
+
+def planted_clauses(draw, variables, number, width=3):
+    """A drawn model, and so many clauses, of which each holds a literal that it makes true."""
+    model = {v if draw.random() < 0.5 else -v for v in range(1, variables + 1)}
+    clauses = []
+    while len(clauses) < number:
+        clause = drawn_clause(draw, range(1, variables + 1), width)
+        if not model.isdisjoint(clause):
+            clauses.append(clause)
+    return model, clauses
 
 
 def planted_three(draw, variables, clauses_each=4.26):
-    """The same of which each clause holds a literal that a drawn model makes true."""
-    model = {v if draw.random() < 0.5 else -v for v in range(1, variables + 1)}
-    clauses = []
-    while len(clauses) < int(clauses_each * variables):
-        clause = drawn_clause(draw, range(1, variables + 1), 3)
-        if not model.isdisjoint(clause):
-            clauses.append(clause)
-    return variables, clauses
+    """Clauses of three literals, so many for each variable, that a drawn model satisfies."""
+    return variables, planted_clauses(draw, variables, int(clauses_each * variables))[1]
+
+
+def implications(last, first=1):
+    """Each variable, from the first to the one before the last, implies the next: one by one."""
+    return ([-v, v + 1] for v in range(first, last))
+
+
+def refuted_implications(last):
+    """The same, with the first variable true and the last one false."""
+    return itertools.chain([[1]], implications(last), [[-last]])
+
+
+def square(one, other):
+    """All clauses with two literals on these two variables, which are their own kernel."""
+    return [[one, other], [one, -other], [-one, other], [-one, -other]]
+
+
+def squares(number, clauses_each=4):
+    """So many squares that share no variable, or the first clauses of each: one by one."""
+    return (clause for v in range(1, 2 * number, 2) for clause in square(v, v + 1)[:clauses_each])
+
+
+def sign_patterns(variables):
+    """All clauses that have each of these variables."""
+    return [[v if bits >> i & 1 else -v for i, v in enumerate(variables)] for bits in range(2 ** len(variables))]
 
 
 def pigeons(holes, number=None):
@@ -48,14 +88,27 @@ def pigeons(holes, number=None):
     return holes * number, clauses
 
 
-def colouring(draw, points, edges_each, colours=3):
-    """Points of a drawn graph, with so many edges for each, that shall have colours, and other ones at each edge."""
-    shade = lambda point, colour: colours * point + colour + 1
-    clauses = [[shade(point, colour) for colour in range(colours)] for point in range(points)]
-    for _ in range(int(edges_each * points)):
-        one, other = draw.sample(range(points), 2)
-        clauses += [[-shade(one, colour), -shade(other, colour)] for colour in range(colours)]
+def coloured(points, edges, colours=3, is_one=False):
+    """Points of a graph that shall have colours, and other ones at each edge; perhaps no point shall have two."""
+    shades = lambda point: range(colours * point + 1, colours * (point + 1) + 1)
+    clauses = []
+    for point in range(points):
+        clauses.append(list(shades(point)))
+        if is_one:
+            clauses += [[-one, -other] for k, other in enumerate(shades(point)) for one in shades(point)[:k]]
+    clauses += [[-shade, -same] for one, other in edges for shade, same in zip(shades(one), shades(other))]
     return colours * points, clauses
+
+
+def colouring(draw, points, edges_each, colours=3):
+    """The same of a drawn graph, with so many edges for each point."""
+    return coloured(points, (draw.sample(range(points), 2) for _ in range(int(edges_each * points))), colours)
+
+
+def parity_clauses(variables, is_odd):
+    """The sum of these variables is odd, or even."""
+    return [[-v if bits >> i & 1 else v for i, v in enumerate(variables)]
+            for bits in range(2 ** len(variables)) if bin(bits).count("1") % 2 != is_odd]
 
 
 def parity(draw, variables, more=5):
@@ -64,10 +117,7 @@ def parity(draw, variables, more=5):
     clauses = []
     for _ in range(variables + more):
         chosen = draw.sample(range(1, variables + 1), 3)
-        odd = draw.randrange(2)
-        for bits in range(8):
-            if bin(bits).count("1") % 2 != odd:
-                clauses.append([-v if bits >> i & 1 else v for i, v in enumerate(chosen)])
+        clauses += parity_clauses(chosen, draw.randrange(2))
     return variables, clauses
 
 
@@ -85,25 +135,6 @@ def pebbles(rows):
     return rows * (rows + 1), clauses
 
 
-def counter(bits, steps):
-    """A counter from 0 that may count or wait at each step, and shall stand one past the steps in the end."""
-    names, clauses = {}, []
-    var = lambda *name: names.setdefault(name, len(names) + 1)
-    for i in range(bits):
-        clauses.append([-var(0, i)])
-        clauses.append([var(steps, i) if steps + 1 >> i & 1 else -var(steps, i)])
-    for time in range(steps):
-        carry = var(time, "count")
-        for i in range(bits):
-            old, new = var(time, i), var(time + 1, i)
-            clauses += [[-new, old, carry], [-new, -old, -carry], [new, -old, carry], [new, old, -carry]]
-            if i + 1 < bits:
-                further = var(time, i, "carry")
-                clauses += [[-further, old], [-further, carry], [further, -old, -carry]]
-                carry = further
-    return len(names), clauses
-
-
 def sum_clauses(z, x, y):
     """z is the sum of x and y modulo two."""
     return [[-z, x, y], [-z, -x, -y], [z, -x, y], [z, x, -y]]
@@ -112,6 +143,26 @@ def sum_clauses(z, x, y):
 def product_clauses(z, x, y):
     """z is true where x and y are."""
     return [[-z, x], [-z, y], [z, -x, -y]]
+
+
+def counter(bits, steps, target=None):
+    """A counter from 0 that may count or wait at each step, and shall stand at the target in the end, or one past the steps."""
+    names, clauses = {}, []
+    target = steps + 1 if target is None else target
+    var = lambda *name: names.setdefault(name, len(names) + 1)
+    for i in range(bits):
+        clauses.append([-var(0, i)])
+        clauses.append([var(steps, i) if target >> i & 1 else -var(steps, i)])
+    for time in range(steps):
+        carry = var(time, "count")
+        for i in range(bits):
+            old, new = var(time, i), var(time + 1, i)
+            clauses += sum_clauses(new, old, carry)
+            if i + 1 < bits:
+                further = var(time, i, "carry")
+                clauses += product_clauses(further, old, carry)
+                carry = further
+    return len(names), clauses
 
 
 def carry_clauses(z, x, y, w):
@@ -209,10 +260,7 @@ def parities_of_graph(draw, points):
     """A variable for each edge of a drawn graph: the sum at each point is even, but at the first one odd."""
     edges, clauses = regular_graph(draw, points), []
     for point in range(points):
-        at = [edge + 1 for edge, ends in enumerate(edges) if point in ends]
-        for bits in range(8):
-            if bin(bits).count("1") % 2 != (point == 0):
-                clauses.append([-v if bits >> i & 1 else v for i, v in enumerate(at)])
+        clauses += parity_clauses([edge + 1 for edge, ends in enumerate(edges) if point in ends], point == 0)
     return len(edges), clauses
 
 
@@ -305,3 +353,25 @@ def round_trip(draw, points, edges_each):
         clauses += [[-at(time, p), -at((time + 1) % points, q)] for p in span for q in span
                     if p != q and frozenset((p, q)) not in edges]
     return points * points, clauses + [[at(0, 0)]]
+
+
+class Samples:
+    """The drawn numbers of the crate lk_samples."""
+
+    def __init__(self, seed):
+        self.state = seed
+
+    def below(self, bound):
+        self.state = (self.state * 1664525 + 1013904223) % 2**32
+        return (self.state >> 16) % bound
+
+    def literal(self, variables):
+        v = self.below(variables) + 1
+        return v if self.below(2) == 0 else -v
+
+
+def sampled_clauses(variables, seed, number):
+    """So many clauses of that crate, of one to three literals, without those that have a literal twice."""
+    draw = Samples(seed)
+    drawn = ([draw.literal(variables) for _ in range(draw.below(3) + 1)] for _ in range(number))
+    return [clause for clause in drawn if len(set(clause)) == len(clause)]

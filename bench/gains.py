@@ -24,9 +24,9 @@ import tempfile
 from collections import Counter
 
 import tool_formulas
-from formulas import (adders, colouring, counter, drawn_clause, machine, parity, pebbles, pigeons, planted_three,
-                      random_three, shuffled, side_by_side, write)
 from command_line import CommandLine
+from formulas import (adders, colouring, counter, machine, mixed_clauses, parity, pebbles, pigeons, planted_three,
+                      random_three, shuffled, side_by_side, write)
 
 SEED = 1
 CLASSES = ("pure", "matching", "linear", "general")
@@ -110,13 +110,7 @@ def both(*formulas):
     return lambda draw: shuffled(draw, *side_by_side([formula(draw) for formula in formulas]))
 
 
-def widths(draw, variables, clauses):
-    """Clauses of one to five literals."""
-    names = range(1, variables + 1)
-    return variables, [drawn_clause(draw, names, draw.choice((2, 3, 3, 4, 5))) for _ in range(clauses)]
-
-
-def implications(draw, variables, clauses, width=3):
+def horn(draw, variables, clauses, width=3):
     """Horn clauses: at most one literal of each is positive."""
     drawn = []
     for _ in range(clauses):
@@ -139,8 +133,8 @@ DRAWN = {
     "random, 3 for each": lambda draw: random_three(draw, 1000, 3),
     "random, 4.26 for each of 150": lambda draw: random_three(draw, 150),
     "with a model, 4.26 for each of 150": lambda draw: planted_three(draw, 150),
-    "clauses of two to five literals": lambda draw: widths(draw, 1000, 1500),
-    "Horn clauses, 3 for each of 500": lambda draw: implications(draw, 500, 1500),
+    "clauses of two to five literals": lambda draw: (1000, mixed_clauses(draw, 1000, 1500, (2, 3, 3, 4, 5))),
+    "Horn clauses, 3 for each of 500": lambda draw: horn(draw, 500, 1500),
     "colouring, 200 points of degree 3": lambda draw: colouring(draw, 200, 1.5),
     "colouring, 200 points of degree 5": lambda draw: colouring(draw, 200, 2.5),
     "sums of three of 60 variables": lambda draw: parity(draw, 60),

@@ -11,51 +11,36 @@ import os
 import random
 import tempfile
 
-from matching import checked, least_seconds, put, square
 from command_line import CommandLine
+from formulas import refuted_implications, square, squares, write
+from matching import checked, least_seconds
 
 SEED = 1
 PARTS = 100000
 
 
-def head(out, variables, clauses):
-    out.write(f"p cnf {variables} {clauses}\n")
-
-
 def parts(out):
     """Parts of four clauses, of which all are kept."""
-    head(out, 2 * PARTS, 4 * PARTS)
-    for v in range(1, 2 * PARTS, 2):
-        for clause in square(v, v + 1):
-            put(out, clause)
+    write(out, 2 * PARTS, squares(PARTS), 4 * PARTS)
 
 
 def within(out):
     """The same, with variables and positions of all parts among one another."""
-    head(out, 2 * PARTS, 4 * PARTS)
     draw = random.Random(SEED)
     names = draw.sample(range(1, 2 * PARTS + 1), 2 * PARTS)
     clauses = [clause for k in range(PARTS) for clause in square(names[2 * k], names[2 * k + 1])]
     draw.shuffle(clauses)
-    for clause in clauses:
-        put(out, clause)
+    write(out, 2 * PARTS, clauses)
 
 
 def gone(out):
     """Parts of three clauses of which none is kept."""
-    head(out, 2 * PARTS, 3 * PARTS)
-    for v in range(1, 2 * PARTS, 2):
-        for clause in square(v, v + 1)[:3]:
-            put(out, clause)
+    write(out, 2 * PARTS, squares(PARTS, 3), 3 * PARTS)
 
 
 def chain(out):
     """One part: implications from a unit clause to the complement of the last variable."""
-    head(out, 2 * PARTS, 2 * PARTS + 1)
-    put(out, [1])
-    for v in range(2, 2 * PARTS + 1):
-        put(out, [1 - v, v])
-    put(out, [-2 * PARTS])
+    write(out, 2 * PARTS, refuted_implications(2 * PARTS), 2 * PARTS + 1)
 
 
 KINDS = {"parts": parts, "within": within, "gone": gone, "chain": chain}

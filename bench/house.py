@@ -23,9 +23,9 @@ import os
 import re
 import sys
 
+from command_line import CommandLine
 from house_exports import unnamed
 from house_picture import picture
-from command_line import CommandLine
 
 TOP = os.path.dirname(os.path.dirname(os.path.abspath(__file__)))
 PICTURE = "docs/house.svg"

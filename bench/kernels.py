@@ -12,30 +12,7 @@ matching leaves, and those that no matching autarky touches, by trying each way 
 import itertools
 
 from command_line import CommandLine
-
-
-class Draw:
-    """The numbers of lk_samples."""
-
-    def __init__(self, seed):
-        self.state = seed
-
-    def below(self, bound):
-        self.state = (self.state * 1664525 + 1013904223) % 2**32
-        return (self.state >> 16) % bound
-
-    def literal(self, n):
-        v = self.below(n) + 1
-        return v if self.below(2) == 0 else -v
-
-
-def drawn_formula(n, seed, count):
-    draw, clauses = Draw(seed), []
-    for _ in range(count):
-        clause = [draw.literal(n) for _ in range(draw.below(3) + 1)]
-        if len(set(clause)) == len(clause):
-            clauses.append(clause)
-    return clauses
+from formulas import sampled_clauses
 
 
 def least_with(clauses, order, l):
@@ -99,7 +76,7 @@ def small(sets):
 
 def print_drawn(count):
     for seed in range(count):
-        print(pure(6, drawn_formula(6, seed, seed % 16)))
+        print(pure(6, sampled_clauses(6, seed, seed % 16)))
 
 
 def print_small():

@@ -14,8 +14,8 @@ import re
 import subprocess
 import tempfile
 
-from formulas import adders, counter, machine, parity, pebbles, pigeons, random_three, write
 from command_line import CommandLine
+from formulas import adders, counter, machine, parity, pebbles, pigeons, random_three, write
 
 SEED = 1
 RUNS = 3

@@ -15,23 +15,19 @@ import sys
 import tempfile
 
 from command_line import CommandLine
+from formulas import drawn_clauses, implications, write
 
 SEED = 1
 RUNS = 3
 
 
 def random_three(variables, clauses):
-    draw = random.Random(SEED)
-    drawn = []
-    for _ in range(clauses):
-        chosen = draw.sample(range(1, variables + 1), 3)
-        drawn.append([v if draw.random() < 0.5 else -v for v in chosen])
-    return variables, drawn
+    return variables, list(drawn_clauses(random.Random(SEED), range(1, variables + 1), clauses))
 
 
-def chain(variables):
+def ring(variables):
     """Implications along the variables, and back."""
-    return variables, [[-v, v + 1] for v in range(1, variables)] + [[-variables, 1]]
+    return variables, [*implications(variables), [-variables, 1]]
 
 
 def growing(variables):
@@ -55,7 +51,7 @@ KINDS = {
     "random200": lambda: random_three(200, 400),
     "random300": lambda: random_three(300, 600),
     "sparse": lambda: random_three(1500, 1200),
-    "ring": lambda: chain(2000),
+    "ring": lambda: ring(2000),
     "growing": lambda: growing(150),
     "units": lambda: (2895, [[v] for v in range(1, 2896)]),
     "grid": lambda: grid(30),
@@ -91,8 +87,7 @@ def main():
         for kind in kinds:
             variables, clauses = KINDS[kind]()
             with open(formula, "w") as out:
-                out.write(f"p cnf {variables} {len(clauses)}\n")
-                out.writelines(" ".join(map(str, clause)) + " 0\n" for clause in clauses)
+                write(out, variables, clauses)
             seconds, megabytes, status = least([leank, "reduce", "linear", formula], ours)
             beside, _, same = least([plain, formula], theirs)
             if status != same or open(ours).read() != open(theirs).read():

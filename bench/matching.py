@@ -17,67 +17,47 @@ import tempfile
 import time
 
 from command_line import CommandLine
+from formulas import drawn_clauses, refuted_implications, square, squares, write
 
 SEED = 1
 RUNS = 5
 
 
-def put(out, clause):
-    out.write(" ".join(map(str, clause)) + " 0\n")
-
-
 def random_three(out, variables, clauses):
-    draw = random.Random(SEED)
-    out.write(f"p cnf {variables} {clauses}\n")
-    for _ in range(clauses):
-        chosen = draw.sample(range(1, variables + 1), 3)
-        put(out, [v if draw.random() < 0.5 else -v for v in chosen])
+    write(out, variables, drawn_clauses(random.Random(SEED), range(1, variables + 1), clauses), clauses)
 
 
 def chain(out):
     """Implications from a unit clause to the complement of the last variable."""
-    out.write("p cnf 999999 1000000\n1 0\n")
-    for v in range(2, 1000000):
-        put(out, [1 - v, v])
-    put(out, [-999999])
+    write(out, 999999, refuted_implications(999999), 1000000)
 
 
 def one_walk(out):
     """The only way to match the last clause turns all pairs."""
-    out.write("p cnf 1000000 1000000\n")
-    for v in range(1, 1000000):
-        put(out, [v + 1, v])
-    put(out, [1000000])
+    write(out, 1000000, ([v + 1, v] if v < 1000000 else [v] for v in range(1, 1000001)), 1000000)
 
 
 def complete(out, variables, clauses):
     """Each clause holds each variable."""
-    out.write(f"p cnf {variables} {clauses}\n")
-    for _ in range(clauses):
-        put(out, range(1, variables + 1))
-
-
-def square(first, second):
-    """The four clauses over two variables, which are their own kernel."""
-    return [[first, second], [first, -second], [-first, second], [-first, -second]]
+    write(out, variables, (range(1, variables + 1) for _ in range(clauses)), clauses)
 
 
 def parts(out):
     """300,000 parts of four clauses."""
-    out.write("p cnf 600000 1200000\n")
+    write(out, 600000, squares(300000), 1200000)
+
+
+def joined_clauses():
+    """Squares, of which the first clause has a literal of the next square too."""
     for v in range(1, 600000, 2):
-        for clause in square(v, v + 1):
-            put(out, clause)
+        first, *others = square(v, v + 1)
+        yield first + [v + 2] if v + 2 < 600000 else first
+        yield from others
 
 
 def joined(out):
     """The same clauses with a literal more, so that all are one part."""
-    out.write("p cnf 600000 1200000\n")
-    for v in range(1, 600000, 2):
-        first, *others = square(v, v + 1)
-        put(out, first + [v + 2] if v + 2 < 600000 else first)
-        for clause in others:
-            put(out, clause)
+    write(out, 600000, joined_clauses(), 1200000)
 
 
 def small_clauses():
@@ -96,18 +76,14 @@ def small_clauses():
 
 def small_parts(out):
     """Small parts of 1,000,000 variables."""
-    out.write(f"p cnf 1000000 {sum(1 for _ in small_clauses())}\n")
-    for clause in small_clauses():
-        put(out, clause)
+    write(out, 1000000, small_clauses(), sum(1 for _ in small_clauses()))
 
 
 def two_parts(out):
     """Two large random parts of equal size, over the even and the odd variables."""
-    draw = random.Random(SEED)
-    out.write("p cnf 1000000 920000\n")
-    for k in range(920000):
-        chosen = draw.sample(range(1, 500001), 3)
-        put(out, [2 * v - k % 2 if draw.random() < 0.5 else k % 2 - 2 * v for v in chosen])
+    drawn = enumerate(drawn_clauses(random.Random(SEED), range(1, 500001), 920000))
+    moved = ([2 * l - k % 2 if l > 0 else 2 * l + k % 2 for l in clause] for k, clause in drawn)
+    write(out, 1000000, moved, 920000)
 
 
 KINDS = {

@@ -21,6 +21,7 @@ import sys
 import tempfile
 
 from command_line import CommandLine
+from formulas import drawn_clause, formula_text
 
 WORKERS = (1, 2, 3, 8, 64)
 
@@ -34,8 +35,7 @@ def draw_part(draw, first, variables):
     """Clauses over some variables, from the first on, and about as many."""
     inside = range(first, first + variables)
     for _ in range(max(1, variables + draw.randint(-2, 2))):
-        chosen = draw.sample(inside, min(variables, draw.choice((1, 2, 2, 2, 3))))
-        yield [v if draw.random() < 0.5 else -v for v in chosen]
+        yield drawn_clause(draw, inside, min(variables, draw.choice((1, 2, 2, 2, 3))))
 
 
 def draw_formula(seed):
@@ -201,7 +201,7 @@ def document(variables, clauses):
 
 def spelled(variables, clauses):
     """The text of a formula, without the end of its last line."""
-    return "\n".join([f"p cnf {variables} {len(clauses)}"] + [" ".join(map(str, c + [0])) for c in clauses])
+    return formula_text(variables, clauses).decode().removesuffix("\n")
 
 
 def script():

@@ -12,47 +12,35 @@ is forced where nothing is assigned, which changes nothing, or else of the first
 import sys
 
 from command_line import CommandLine
+from formulas import Samples
 
 VARS, MOVES = 6, 60
 
 
-class Draw:
-    """The numbers of lk_samples."""
-
-    def __init__(self, seed):
-        self.state = seed
-
-    def below(self, bound):
-        self.state = (self.state * 1664525 + 1013904223) % 2**32
-        return (self.state >> 16) % bound
-
-    def literal(self):
-        v = self.below(VARS) + 1
-        return v if self.below(2) == 0 else -v
-
-    def clause(self):
-        lits = []
-        for _ in range(self.below(4) + 1):
-            l = self.literal()
-            if l not in lits and -l not in lits:
-                lits.append(l)
-        return lits
+def drawn_literals(draw):
+    """The literals of a clause, none twice and no two of one variable."""
+    lits = []
+    for _ in range(draw.below(4) + 1):
+        l = draw.literal(VARS)
+        if l not in lits and -l not in lits:
+            lits.append(l)
+    return lits
 
 
 def drawn_move(draw, kind):
     if kind == 0:
-        return "add " + " ".join(map(str, draw.clause()))
+        return "add " + " ".join(map(str, drawn_literals(draw)))
     if kind == 1:
         return f"retract {draw.below(3)}"
     if kind == 2:
-        return f"behind {draw.literal()}"
+        return f"behind {draw.literal(VARS)}"
     if kind in (3, 4):
-        return f"assign {draw.literal()}"
+        return f"assign {draw.literal(VARS)}"
     return "settle"
 
 
 def row(seed):
-    draw = Draw(seed)
+    draw = Samples(seed)
     moves = ["settle"]
     for place in range(MOVES):
         moves.append(drawn_move(draw, 0 if place < 8 else draw.below(8)))

@@ -26,10 +26,10 @@ from collections import namedtuple
 
 import judge
 import tool_formulas
-from formulas import (adders, colouring, counter, drawn_clause, formula_text, parity, pebbles, pigeons, random_three,
-                      shuffled, side_by_side)
-from solving import mean_ratio
 from command_line import CommandLine
+from formulas import (adders, colouring, counter, drawn_clauses, formula_text, mixed_clauses, parity, pebbles, pigeons,
+                      random_three, shuffled, side_by_side)
+from solving import mean_ratio
 
 SEED = 1
 RUNS = 3
@@ -43,8 +43,7 @@ BUDGET = str(2**63 - 1)
 
 def mixed(draw, variables, clauses):
     """Clauses of one to four literals."""
-    names = range(1, variables + 1)
-    return variables, [drawn_clause(draw, names, min(variables, draw.choice((1, 2, 2, 3, 3, 3, 4)))) for _ in range(clauses)]
+    return variables, mixed_clauses(draw, variables, clauses, (1, 2, 2, 3, 3, 3, 4))
 
 
 def small(draw):
@@ -71,7 +70,7 @@ def small(draw):
 def with_more(draw, formula, more):
     """The formula with so many further clauses of three literals over its variables."""
     variables, clauses = formula
-    return variables, clauses + [drawn_clause(draw, range(1, variables + 1), min(3, variables)) for _ in range(more)]
+    return variables, [*clauses, *drawn_clauses(draw, range(1, variables + 1), more, min(3, variables))]
 
 
 FAMILIES = {

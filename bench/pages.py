@@ -13,8 +13,8 @@ import sys
 import tempfile
 from pathlib import Path
 
-from formulas import formula_text, pigeons
 from command_line import RELEASED, CommandLine
+from formulas import formula_text, pigeons, square
 
 TOP = Path(__file__).resolve().parent.parent
 REFERENCE, MANUAL = (TOP / "docs/REFERENCE.md").read_text(), (TOP / "docs/leank.1").read_text()
@@ -23,7 +23,7 @@ FILES = {
     "DOCUMENT": b"c leank 1 pure\nc formula 2 2\nc keep 0\nc set 1 2 0\nc order 2 1 0\np cnf 2 0\n",
     "open": b"c leank 1 unfinished\nc formula 2 2\nc learned 0\nc round\np cnf 2 2\n1 0\n-1 2 0\n",
     "forged": b"c leank 1 pure\nc formula 2 2\nc keep 0\nc set 1 0\nc order 1 0\np cnf 2 0\n", "wrong": b"s SATISFIABLE\nv 1 -2 0\n",
-    "square": formula_text(2, [[1, 2], [1, -2], [-1, 2], [-1, -2]]), "pigeons": formula_text(*pigeons(3)), "bad": b"p cnf x\n",
+    "square": formula_text(2, square(1, 2)), "pigeons": formula_text(*pigeons(3)), "bad": b"p cnf x\n",
     # (each variable weighs as much as the two before it)
     "sums": formula_text(186, [clause for v in range(1, 185) for clause in ([v + 2, -v - 1, -v], [-v - 2, v + 1, v])]),
     "most": formula_text(2895, [[v] for v in range(1, 2896)]), "more": formula_text(2896, [[v] for v in range(1, 2897)]),

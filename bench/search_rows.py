@@ -13,8 +13,8 @@ import re
 import sys
 
 import judge
-from formulas import formula_text
 from command_line import CommandLine
+from formulas import formula_text
 
 # The scripts that have such rows, by the words of their head lines, and the rows.
 SCRIPTS = ("parts", "general")

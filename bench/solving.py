@@ -33,10 +33,10 @@ from collections import namedtuple
 
 import judge
 import tool_formulas
+from command_line import CommandLine
 from formulas import (adders, colouring, counter, factors, filled_square, machine, parities_of_graph, parity, pebbles,
                       pigeons, planted_three, progressions, queens, ramsey, random_three, round_trip, shuffled,
-                      side_by_side, two_sums, write)
-from command_line import CommandLine
+                      side_by_side, square, two_sums, write)
 
 SEED = 1
 RUNS = 3
@@ -119,9 +119,9 @@ FAMILIES = {
 }
 
 
-def square(draw):
+def most_of_square(draw):
     """The four clauses over two variables but one."""
-    return 2, draw.sample([[1, 2], [1, -2], [-1, 2], [-1, -2]], 3)
+    return 2, draw.sample(square(1, 2), 3)
 
 
 def many(draw, number, part, last=None):
@@ -138,7 +138,7 @@ PARTS = {
     "16 parts, random with a model": lambda draw: side_by_side([planted_three(draw, 150) for _ in range(16)]),
     "3,000 parts, random with a model": lambda draw: many(draw, 3000, small),
     "the same, and one of 6 pigeons": lambda draw: many(draw, 3000, small, pigeons(5)),
-    "100,000 parts that matching removes": lambda draw: many(draw, 100000, square),
+    "100,000 parts that matching removes": lambda draw: many(draw, 100000, most_of_square),
 }
 
 Run = namedtuple("Run", "clock processor status memory")

@@ -11,11 +11,11 @@ import unittest
 from collections import Counter
 
 import judge
+from command_line import CommandLine
 from forging import (CHANGED, EMPTY, EMPTY_CORE, SQUARE, SQUARE_CORE, UNITS, UNITS_CORE, changed, drawn_change, drawn_forgery,
                      with_words_changed)
 from formulas import drawn_clause, formula_text, pigeons, shuffled, side_by_side
 from resolving import answer
-from command_line import CommandLine
 
 IMPLIED = (2, [(1,), (-1, 2)])
 SQUARE_ANSWER = b"s UNSATISFIABLE\nc round\nc step 5 1 0 1 2 2 0\nc step 6 0 3 2 4 -1 5 0\n"

@@ -8,8 +8,8 @@ import itertools
 import random
 import unittest
 
-from deficiency import drawn, greatest_value, judge, matching_kernel, text_of
 from command_line import CommandLine
+from deficiency import drawn, greatest_value, judge, matching_kernel, text_of
 
 THREE = (3, [(1, 2), (-2, 3), (2, -3)])
 CIRCLE = (3, [(1, -2), (2, -3), (3, -1), (1, -3)])

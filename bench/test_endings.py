@@ -15,8 +15,8 @@ import tempfile
 import unittest
 from pathlib import Path
 
-from formulas import formula_text, pigeons
 from command_line import CommandLine
+from formulas import formula_text, pigeons
 
 LEANK = None
 SQUARE, FORMULA = formula_text(2, [[1, 2], [1, -2], [-1, 2], [-1, -2]]), formula_text(3, [[1, 2], [-2, 3], [2, -3]])

@@ -20,8 +20,8 @@ from collections import Counter
 
 import corners
 import judge
-from formulas import drawn_clause, formula_text, pigeons
 from command_line import CommandLine
+from formulas import drawn_clause, formula_text, pigeons, sign_patterns, square
 
 PAGE = os.path.join(os.path.dirname(os.path.abspath(__file__)), "..", "docs", "FORMAT.md")
 FORGED_EACH = 8
@@ -176,7 +176,7 @@ def drawn_formula(draw):
                    for _ in range(draw.randrange(7))]
     elif kind == 2:
         n = draw.choice([3, 3, 4])
-        clauses = [[v if row >> (v - 1) & 1 else -v for v in range(1, n + 1)] for row in range(2**n)]
+        clauses = sign_patterns(range(1, n + 1))
         draw.shuffle(clauses)
         if draw.random() < 0.4:
             clauses.pop()
@@ -191,7 +191,7 @@ def drawn_formula(draw):
                    for _ in range(int(n * draw.choice([0.8, 1, 1.5, 2, 3, 5])))]
         if draw.random() < 0.5 and n >= 2:
             a, b = draw.sample(range(1, n + 1), 2)
-            clauses += [[a, b], [a, -b], [-a, b], [-a, -b]]
+            clauses += square(a, b)
     if draw.random() < 0.15 and clauses:
         clauses.append(list(draw.choice(clauses)))
     if draw.random() < 0.4:

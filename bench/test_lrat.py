@@ -16,9 +16,9 @@ import tempfile
 import unittest
 
 import judge
-from formulas import drawn_clause, formula_text, parity, pigeons, shuffled, side_by_side
-from lrat import fault, read_formula
 from command_line import RELEASED, CommandLine
+from formulas import drawn_clause, formula_text, mixed_clauses, parity, pigeons, shuffled, side_by_side
+from lrat import fault, read_formula
 
 TOP = os.path.dirname(os.path.dirname(os.path.abspath(__file__)))
 LEANK, SCRIPT = RELEASED, os.path.join(TOP, "examples", "lrat.sh")
@@ -140,9 +140,7 @@ def spoiled(draw, variables, clauses):
 
 def random_formula(draw):
     variables, least = draw.randrange(1, 10), draw.randrange(1, 4)
-    widths = [min(width, variables) for width in range(least, 4)]
-    count = draw.randrange(variables, 4 * least * variables + 3)
-    return variables, [drawn_clause(draw, range(1, variables + 1), draw.choice(widths)) for _ in range(count)]
+    return variables, mixed_clauses(draw, variables, draw.randrange(variables, 4 * least * variables + 3), range(least, 4))
 
 
 def built_formula(draw):

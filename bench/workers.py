@@ -19,6 +19,7 @@ import sys
 import tempfile
 
 from command_line import CommandLine
+from formulas import sign_patterns, write
 
 WORKERS = (1, 2, 3, 8, 64)
 
@@ -60,9 +61,7 @@ class Drawn:
 
     def signs(self, size):
         """All clauses that have each of so many variables; their part has no model."""
-        variables = self.fresh(size)
-        for bits in range(2**size):
-            self.clauses.append([v if bits >> k & 1 else -v for k, v in enumerate(variables)])
+        self.clauses += sign_patterns(self.fresh(size))
 
 
 def one(drawn):
@@ -134,11 +133,6 @@ def drawn_formula(seed):
     return drawn
 
 
-def spelled(drawn):
-    lines = [f"p cnf {drawn.variables} {len(drawn.clauses)}"]
-    return "".join(" ".join(map(str, line)) + "\n" for line in [lines] + [clause + [0] for clause in drawn.clauses])
-
-
 def with_other_number(draw, text):
     """The document with one number of a line changed that is neither its first one nor of its formula."""
     lines = text.splitlines()
@@ -175,7 +169,7 @@ def compare(compared, folder, seed):
     draw, drawn = random.Random(seed), drawn_formula(seed)
     name, document = (os.path.join(folder, n) for n in ("formula", "document"))
     with open(name, "w") as out:
-        out.write(spelled(drawn))
+        write(out, drawn.variables, drawn.clauses)
     told = f"seed {seed}"
     protect = ["--protect", ",".join(map(str, drawn.protected))] if drawn.protected else []
     budget = ["--conflicts", str(draw.randint(1, 4))]
