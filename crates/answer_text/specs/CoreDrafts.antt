@@ -124,7 +124,7 @@ next_at Steps d words = next_step d words
 next_at Witnesses d words = next_witness d words
 next_at Clauses d words = next_text d words
 
--- what a line of these words leads to, if one may come
+-- what a line of these words leads to, if one may come next
 abbrev pub next_draft : CoreDraft → List Word → Option CoreDraft
 next_draft d words = next_at d.due d words
 

@@ -37,7 +37,7 @@ next_state n m words = if are_two (codes "s") (codes "SATISFIABLE") words then S
     else if are_two (codes "s") (codes "UNSATISFIABLE") words then Some Unsatisfiable
     else next_core n m words
 
--- the literals as a model, if there are so many
+-- the literals as a model, if there are n
 abbrev pub if_total : ℕ → List ℤ → Option Draft
 if_total n lits = if length lits == n then Some (Model lits) else None
 
@@ -53,7 +53,7 @@ open_round = record fresh_rounds { is_open = true }
 abbrev pub next_round : List Word → Option Draft
 next_round words = if is_round words then Some (Refuting open_round) else None
 
--- what a line of these words leads to, if one may come
+-- what a line of these words leads to, if one may come next
 abbrev pub next_draft : ℕ → ℕ → Draft → List Word → Option Draft
 next_draft n m Nothing words = next_state n m words
 next_draft n m Satisfiable words = next_model n words

@@ -6,7 +6,7 @@ use Rattle.lk_model.specs.declared.verdict.ReadStop.{ReadStop}
 use Rattle.line_text.specs.LineReading.{Grammar, IsReadBy, IsAdmitted, IsStopOf}
 
 -- The stop is at the first line with which no answer's text begins. A last line without byte 10 is such a line, since each
--- line of an answer has one; so is the line after the last, where the text ends too early. Memory may run out anywhere.
+-- line of an answer has one; so is the line after the last, if the text ends too early. Memory may run out anywhere.
 abbrev pub IsStopAt : ℕ → ℕ → List ℕ → ReadStop → Type 0
 IsStopAt n m bytes stop = IsStopOf (IsTextOfAnswer n m) bytes stop
 

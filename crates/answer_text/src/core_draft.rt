@@ -20,8 +20,8 @@ pub(crate) enum LineDue {
     Clauses,
 }
 
-/// What was read of the text of a core, up to the line that is due, of a formula of so many variables and
-/// clauses. The open clause is the clause line that is being read, and contains no literal between lines.
+/// What was read of the text of a core, up to the line that is due, of a formula with these numbers of variables
+/// and clauses. The open clause is the clause line that is being read, and contains no literal between lines.
 #[derive(Drop)]
 pub(crate) struct CoreDraft {
     pub due: LineDue,

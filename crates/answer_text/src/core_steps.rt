@@ -15,7 +15,7 @@ use lk_model::{OutOfMemory, Without};
 use round_text::take_rounds;
 use std::alloc::Global;
 
-/// Takes the line that is to come next. The answer is whether the line was taken; the draft is not used again
+/// Takes the line that is to come next. Returns whether the line was taken; the draft is not used again
 /// otherwise. Fails only if memory runs out.
 pub(crate) fn take_core(
     alloc: Global,

@@ -32,7 +32,7 @@ pub(crate) enum Draft {
     Core(CoreDraft),
 }
 
-/// Takes the next line of an answer for n variables and m clauses. The answer is whether the line was taken; the
+/// Takes the next line of an answer for n variables and m clauses. Returns whether the line was taken; the
 /// draft is not used again otherwise. Fails only if memory runs out.
 pub(crate) fn take_line(
     alloc: Global,

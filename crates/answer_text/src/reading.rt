@@ -12,7 +12,7 @@ use line_text::{LineReader, read_lines};
 use lk_model::{Answer, OutOfMemory, ReadStop};
 use std::alloc::Global;
 
-/// Reads an answer for so many variables and clauses line by line. It keeps what was read.
+/// Reads an answer for these numbers of variables and clauses, line by line. It keeps what was read.
 #[derive(Drop)]
 pub struct AnswerReader {
     draft: Draft,
@@ -39,7 +39,7 @@ impl LineReader for AnswerReader {
 }
 
 /// The answer for n variables and m clauses that has this text. Other bytes are refused with the first line in
-/// which no answer's text can go on, counted from 1. A last line without its byte 10 is such a line; where the
+/// which no answer's text can go on, counted from 1. A last line without its byte 10 is such a line; if the
 /// text ends too early, so is the line after its last one. The other error says that memory ran out.
 pub fn read_answer(alloc: Global, bytes: &[u8], n: u32, m: u32) -> Result<Answer, ReadStop>
     requires vars { n ≤ max_vars }

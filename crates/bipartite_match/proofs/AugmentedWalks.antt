@@ -8,7 +8,8 @@ use Rattle.lk_model.specs.Formulas.Formula.{Cnf, is_formula}
 use Rattle.lk_model.proofs.Variables.{variable_bound}
 use Rattle.bipartite_match.specs.Matchings.{joins}
 use Rattle.bipartite_match.specs.Pairing.{Pairing, IsPairing, count_of, with_pair}
-use Rattle.bipartite_match.specs.Found.{Found, IsSearchOutcome, escape_of}
+use Rattle.matching_layers.specs.Found.{Found, escape_of}
+use Rattle.bipartite_match.specs.Found.{IsSearchOutcome}
 use Rattle.bipartite_match.specs.Augmented.{HasWalk, IsPath, EndsAt, HasPath}
 use Rattle.bipartite_match.proofs.Numbers.{within}
 

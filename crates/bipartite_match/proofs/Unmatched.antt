@@ -12,7 +12,8 @@ use Rattle.lk_model.proofs.Rising.{rises, rises_from, rising_bounds, bounded}
 use Rattle.bipartite_match.specs.declared.matching.Matching.{Matching}
 use Rattle.bipartite_match.specs.Matchings.{IsMatching, IsReady}
 use Rattle.bipartite_match.specs.Pairing.{unmatched_in}
-use Rattle.bipartite_match.specs.Found.{first_layers, kept_of}
+use Rattle.matching_layers.specs.Found.{first_layers}
+use Rattle.bipartite_match.specs.Found.{kept_of}
 use Rattle.bipartite_match.proofs.Numbers.{zeros, zero_at}
 use Rattle.bipartite_match.proofs.Begins.{in_first, from_first}
 use Rattle.bipartite_match.proofs.Reaching.{kept_rises, kept_at, in_kept}

@@ -3,7 +3,8 @@ use Rattle.std.specs.Prelude.{◌≡◌, ◌≢◌, ℕ, ◌+◌, ◌-◌, ◌<�
 use Rattle.lk_model.specs.Formulas.Formula.{Cnf, is_formula}
 use Rattle.bipartite_match.specs.Matchings.{joins}
 use Rattle.bipartite_match.specs.Pairing.{Pairing, IsPairing, count_of}
-use Rattle.bipartite_match.specs.Found.{Found, IsSearchOutcome}
+use Rattle.matching_layers.specs.Found.{Found}
+use Rattle.bipartite_match.specs.Found.{IsSearchOutcome}
 use Rattle.bipartite_match.specs.declared.paths.Step.{Step}
 
 -- the search ended at a free variable
@@ -48,8 +49,8 @@ pub record HasPath (F : Cnf) (part : List ℕ) (m : Pairing) (path : List ℕ) (
 abbrev pub AugmentsPath : Pairing → List ℕ → ℕ → Pairing → Type 0
 AugmentsPath m path v after = (F : Cnf) (part : List ℕ) → HasPath F part m path v → IsPairing F part after × (0 < length path → count_of after ≡ count_of m + 1)
 
--- The variable is free, where the clause after so many others is in the last layer. Else it is that of a clause in the next
--- layer.
+-- The variable is free, if the clause after `depth` others is in the last layer. Otherwise it is that of a clause in
+-- the next layer.
 abbrev pub LeadsOn : List ℕ → List ℕ → ℕ → ℕ → ℕ → Type 0
 LeadsOn of_var layer depth last v = ((depth + 1 ≡ last) × (slice_index of_var (v - 1) ≡ 0))
     ⊎ ((depth + 1 ≢ last) × (slice_index of_var (v - 1) ≢ 0) × (slice_index layer (slice_index of_var (v - 1) - 1) ≡ depth + 2))

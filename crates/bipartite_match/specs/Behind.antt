@@ -19,7 +19,7 @@ pub record CanAugment (F : Cnf) (part : List ℕ) (m : Matching) (from : Start) 
   pub ready : IsReady F part m
   pub start : IsStart F part m from
 
--- what it leaves, and what it answers
+-- what a search for one more pair leaves, and what it returns
 pub record IsOutcome (F : Cnf) (part : List ℕ) (from : Start) (m after : Matching) (answer : Bool) : Type 0 where
   pub way : IsTrue answer ↔ HasWay F part m from
   pub longer : IsTrue answer → IsLonger F part m after

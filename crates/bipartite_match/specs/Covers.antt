@@ -24,8 +24,8 @@ pub record CoverLaw : Type 0 where
   pub maximum : (F : Cnf) (part : List ℕ) (m : Matching) → IsTrue (is_formula F) → IsTrue (are_positions F part) → IsMatching F part m → HasCover F part m → IsMaximum F part m
   pub cover : (F : Cnf) (part : List ℕ) (m : Matching) → IsTrue (is_formula F) → IsTrue (are_positions F part) → IsMaximum F part m → HasCover F part m
 
--- The same but for one start: a clause that need not be in the set, or a variable that need not be matched. So it is after
--- a clause has come, or one has gone whose variable is free now.
+-- A cover but for one start: a clause that need not be in the set, or a variable that need not be matched. There is
+-- such a cover after a clause has come, or one has gone whose variable is free now.
 abbrev pub IsOther : Start → ℕ → Type 0
 IsOther (Clause q) p = p ≢ q
 IsOther (Variable v) p = ⊤

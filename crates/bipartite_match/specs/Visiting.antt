@@ -106,7 +106,7 @@ pub record CanRead (F : Cnf) (of_var unmatched : List ℕ) (marks : List Bool) (
   pub bare : m.unmatched ≡ unmatched
   pub marks_are : m.seen ≡ marks
 
--- the same where the roots are in the queue
+-- as in `CanRead`, and the roots are in the queue
 abbrev pub CanBegin : Cnf → List ℕ → List Bool → List Visit → Start → List ℕ → Matching → Type 0
 CanBegin F of_var marks q from part m = CanRead F of_var m.unmatched marks from part m × (q ≡ roots_of m.unmatched from)
 

@@ -22,9 +22,9 @@ pub enum Start {
     Variable(u32),
 }
 
-/// Makes the matching of a part greater by one pair, where an alternating path leads from the start to a clause or a
-/// variable without a partner: then it answers true, and what had a partner has one still. Else, and without memory,
-/// the matching stays as it is. It counts one step, and costs what its search visits.
+/// Makes the matching of a part greater by one pair, if an alternating path leads from the start to a clause or a
+/// variable without a partner: then it returns true, and what had a partner has one still. Otherwise, and without
+/// memory, the matching stays as it is. It counts one step, and costs what its search visits.
 pub fn augment<L>(
     alloc: Global,
     f: &Formula,

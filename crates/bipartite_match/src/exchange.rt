@@ -11,8 +11,8 @@ use crate::matching::Matching;
 use crate::visits::{Visits, visit_at};
 use lk_model::List;
 
-/// Exchanges the pairs of the path that a search found, from its end back to where it began. Answers the position of the
-/// clause there, which has a variable now.
+/// Exchanges the pairs of the path that a search found, from its end back to where it began. Returns the position of
+/// the clause there, which has a variable now.
 pub fn augment_found(visits: &Visits, part: &[u32], m: &mut Matching) -> u32
     requires rises { (high : ℕ) × (rises_within 0 high part.now ≡ true) }
     requires found { (F : Cnf) × (from : AnyStart) × IsTrue (is_formula F) × CanSearch F part.now m.old from ×
@@ -36,8 +36,8 @@ pub fn augment_found(visits: &Visits, part: &[u32], m: &mut Matching) -> u32
     root
 }
 
-/// The same in the positions of the variables alone, where no variable is kept for each clause: each clause on the path
-/// takes the variable that leads on, and the one that it gives up is the next that is taken.
+/// As `augment_found`, in the positions of the variables alone, where no variable is kept for each clause: each clause
+/// on the path takes the variable that leads on, and the one that it gives up is the next that is taken.
 pub fn exchange(visits: &Visits, of_var: &mut List<u32>) -> u32
     requires found { (F : Cnf) × (part : List ℕ) × (m : AMatching) × (from : AnyStart) × (m.of_var ≡ of_var.old) ×
         IsTrue (is_formula F) × CanSearch F part m from ×

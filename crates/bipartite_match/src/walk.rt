@@ -15,7 +15,7 @@ ghost use Rattle.bipartite_match.specs.Found.{kept_of, rank_of};
 
 use crate::matching::Matching;
 use crate::mates::{Mates, into_positions};
-use crate::search::Search;
+use crate::search::search_by_layers;
 use lk_model::{Formula, List, OutOfMemory};
 use std::alloc::Global;
 
@@ -36,7 +36,7 @@ pub fn reach(alloc: Global, f: &Formula, part: &[u32], m: &Matching) -> Result<R
     ensures { IfOk result (λ r. IsReached f.now part.now m.now r) }
 {
     let mates = by_indices(alloc, f.vars(), m.of_clause.as_slice())?;
-    let search = Search::of(alloc, f, part, &mates)?;
+    let search = search_by_layers(alloc, f, part, &mates)?;
     Ok(Reached {
         kept: List::from_vec(kept(alloc, part, &search.layer)?),
         rank: List::from_vec(ranks(alloc, &search.layer, &search.escape)?),

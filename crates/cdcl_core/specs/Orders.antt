@@ -28,7 +28,7 @@ are_within n vars = list_all (λ v. nat_lt 0 v && nat_le v n) vars
 abbrev pub are_set : List Entry → List ℕ → Bool
 are_set trail vars = list_all (λ v. is_some (assignment_along trail v)) vars
 
--- so many of the first ones are set
+-- the first `place` ones are set
 pub record IsSetTo (trail : List Entry) (vars : List ℕ) (place : ℕ) : Type 0 where
   pub within : place ≤ length vars
   pub set : IsTrue (are_set trail (take place vars))

@@ -25,18 +25,18 @@ abbrev pub led_by : Schedule → ℕ → Schedule
 led_by schedule place =
     if place == 1 then record schedule { by = schedule.second; second = schedule.by } else (if place == 2 then led_by_third schedule schedule.third else schedule)
 
--- a search that has learned at most so many clauses, in steps that are numbered from `next`
+-- a search that has learned at most `pause` clauses, in steps that are numbered from `next`
 pub record IsWithin (over : Crossed) (next pause : ℕ) (s : Search) : Type 0 where
   pub search : IsSearch over s
   pub first : s.log.first ≡ next
   pub few : length s.log.steps ≤ pause
 
--- it has learned exactly so many, and can go on from a further conflict
+-- a search that has learned exactly `pause` clauses, and can go on from a further conflict
 pub record IsPaused (over : Crossed) (next pause : ℕ) (s : Search) : Type 0 where
   pub search : IsSearch over s
   pub stopped : IsStoppedOver over next pause s.log
 
--- it has paused within the budget, and if the slices are at the end of the budget, there
+-- a search that has paused within the budget, and if the slices are at the end of the budget, there
 pub record HasPaused (over : Crossed) (next pause budget : ℕ) (s : Search) : Type 0 where
   pub learned : ℕ
   pub paused : IsPaused over next learned s
@@ -48,11 +48,11 @@ abbrev pub WentOn : Crossed → ℕ → ℕ → ℕ → Search → Option End �
 WentOn over next pause budget s (Some end) = IsDecided over next budget (decided_by s.log end)
 WentOn over next pause budget s None = HasPaused over next pause budget s
 
--- each of the searches has learned at most so many
+-- each of the searches has learned at most `pause` clauses
 abbrev pub AreWithin : Crossed → ℕ → ℕ → List Player → Type 0
 AreWithin over next pause players = AllWithin (λ (p : Player). IsWithin over next pause p.search) players 0 (length players)
 
--- those before a place have paused
+-- the searches before a place have paused
 abbrev pub ArePausedBefore : ℕ → Crossed → ℕ → ℕ → ℕ → List Player → Type 0
 ArePausedBefore place over next pause budget players = AllWithin (λ (p : Player). HasPaused over next pause budget p.search) players 0 place
 

@@ -83,7 +83,7 @@ pub(crate) fn decided_by(log: Log, end: End) -> Outcome
     }
 }
 
-/// Searches on, until so many clauses are learned in all.
+/// Searches on, at most until `budget` clauses are learned in all.
 pub(crate) fn run(
     search: &mut Search,
     alloc: Global,

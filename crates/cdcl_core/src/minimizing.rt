@@ -20,7 +20,7 @@ use lk_model::{Lit, OutOfMemory, Turn, VarSet};
 use std::alloc::Global;
 use watch_prop::Propagator;
 
-/// Of the trail so many literals are looked at, the last ones: a long one costs no conflict more than that.
+/// Of the trail this many literals are looked at, the last ones: a long one costs no conflict more than that.
 const LOOKED_AT: usize = 4096;
 
 /// The turns from a false clause above level 0 to the one that is learned, and if it is wanted on to a shorter one. The

@@ -13,10 +13,10 @@ use crate::signs::Signs;
 use lk_model::{Crossed, OutOfMemory};
 use std::alloc::Global;
 
-/// Beside a search by activity the others learn one clause where it learns so many.
+/// Beside a search by activity the others learn one clause where it learns this many.
 const SHARE: u64 = 4;
 
-/// A run by activity learns so many clauses, or a multiple of them, if its slice does not end before.
+/// A run by activity learns this many clauses, or a multiple of them, if its slice does not end before.
 const SHORTEST_RUN: u64 = 50;
 
 /// Which steps a search may make.
@@ -102,7 +102,7 @@ fn begin(
     Ok(())
 }
 
-/// Alternates. If all use up the budget, the one at place 0 tells so.
+/// Alternates. If all use up the budget, the one at place 0 reports so.
 fn alternate(
     players: &mut Vec<Player>,
     alloc: Global,
@@ -133,7 +133,7 @@ fn alternate(
     }
 }
 
-/// Lets one search after the other go on, until so many clauses are learned by each, fewer by the slow ones, or one ends.
+/// Lets one search after the other go on, until each has learned `pause` clauses, the slow ones fewer, or one ends.
 fn go_on_each(
     players: &mut Vec<Player>,
     alloc: Global,
@@ -196,7 +196,7 @@ impl Player {
         })
     }
 
-    /// Searches on until so many clauses are learned in all, or fewer if it is slow. Where a further one would be
+    /// Searches on until `pause` clauses are learned in all, or fewer if it is slow. Where a further one would be
     /// learned, it pauses.
     fn go_on(
         &mut self,

@@ -2,7 +2,7 @@
 //!
 //! No order of the variables is good for all clauses, and one that is bad may take thousands of times as long as
 //! another. So searches, each with an order of its own, alternate. Each goes on from where it paused, but by activity
-//! from level 0. None learns from the others: what is answered is what one of them answers by itself (algorithms that are run
+//! from level 0. None learns from the others: the result is what one of them finds by itself (algorithms that are run
 //! side by side: Huberman, Lukose and Hogg, "An Economics Approach to Hard Computational Problems", 1997).
 ghost use Rattle.std.specs.Prelude.{◌≡◌, ◌+◌, ◌-◌, ◌<◌, ◌^◌, length, Some, None, IfOk, OnErr};
 ghost use Rattle.lk_model.specs.Held.VariableSets.{IsCrossed};
@@ -27,14 +27,14 @@ const FURTHER_SLICES: u64 = 512;
 /// An order in which variables are decided, and the values with which they are.
 #[derive(Clone, Copy)]
 pub enum By {
-    /// That of their numbers, true first.
+    /// The order of their numbers, true first.
     Number,
-    /// That of their connection, with the values that they last had.
+    /// The order of their connection, with the values that they last had.
     Connection,
-    /// That of how often they occur, with the values that they last had.
+    /// The order of how often they occur, with the values that they last had.
     Occurrences,
-    /// That of what they had to do with conflicts, with the values that they last had. Each run begins at level 0, with
-    /// all that is learned.
+    /// The order of what they had to do with conflicts, with the values that they last had. Each run begins at level 0,
+    /// with all that is learned.
     Activity,
 }
 
@@ -133,9 +133,9 @@ impl Schedule {
         }
     }
 
-    /// The orders of `for_cores`, of these lengths, that keep values of variables up to n. All orders decide with the last values,
-    /// and each begins with those that are kept: true at first, and then those of the search that answered the call
-    /// before.
+    /// The orders of `for_cores`, of these lengths, that keep values of variables up to n. All orders decide with the
+    /// last values, and each begins with those that are kept: true at first, and then those of the search whose result
+    /// the call before returned.
     pub fn keeping(alloc: Global, n: u32, first: u64, further: u64) -> Result<Schedule, OutOfMemory>
         ensures by { IfOk result (λ schedule. schedule.by ≡ By.Occurrences) }
         ensures second { IfOk result (λ schedule. schedule.second ≡ By.Connection) }
@@ -170,7 +170,7 @@ impl Schedule {
         }
     }
 
-    /// Keeps the values of the search that answered, if values are kept.
+    /// Keeps the values of the search whose result is returned, if values are kept.
     fn keep(&mut self, signs: Signs)
         ensures lengths { HasLengthsOf self.new self.old }
         ensures others { self.new ≡ record self.old { kept = self.new.kept } }
@@ -201,10 +201,10 @@ impl Schedule {
     }
 }
 
-/// As `decide`, by orders that alternate: each learns at most `budget` clauses, and if all do, the answer is that of
-/// the order that began. If `budget` is at most the first slice, only that one is tried. The order that answered begins
-/// in a further call with this schedule, with its values if they are kept. (No clause says which order answers, which one
-/// begins, and which values are kept; tests do.) Where a call fails, the schedule is as it was.
+/// As `decide`, by orders that alternate: each learns at most `budget` clauses, and if all use that up, the result is
+/// that of the order that began. If `budget` is at most the first slice, only that one is tried. The order whose result
+/// is returned begins in a further call with this schedule, with its values if they are kept. (No clause says which
+/// order that is, which one begins, and which values are kept; tests do.) If a call fails, the schedule is as it was.
 pub fn decide_by_schedule(
     alloc: Global,
     over: &Crossed,

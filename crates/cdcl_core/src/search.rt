@@ -62,7 +62,7 @@ impl Search {
         })
     }
 
-    /// Sets an unset variable at a new level, and answers whether there was one.
+    /// Sets an unset variable at a new level, and returns whether there was one.
     pub fn assign_next(
         &mut self,
         over: &Crossed,

@@ -44,7 +44,7 @@ learned_line count = comment (codes "learned") (number_words (count ∷ []))
 abbrev pub head_lines : Draft → List (List Word)
 head_lines d = first_lines (part_word d.part) d.vars d.clauses d.protect
 
--- and those after it, up to the body
+-- the lines after that of the protected variables, up to the body
 abbrev pub middle_lines : Draft → List (List Word)
 middle_lines d = if is_finished d.part then keep_line d.kept ∷ set_line d.set ∷ [] else learned_line d.learned ∷ []
 
@@ -128,7 +128,7 @@ next_at Learned d words = next_learned d words
 next_at Body d words = next_body d words
 next_at Clauses d words = next_text d words
 
--- what a line of these words leads to, if one may come
+-- what a line of these words leads to, if one may come next
 abbrev pub next_draft : Draft → List Word → Option Draft
 next_draft d words = next_at d.due d words
 

@@ -95,7 +95,7 @@ fn take_unit(
     Ok(true)
 }
 
-/// The position of the last dual, or 0 where there is none.
+/// The position of the last dual, or 0 if there is none.
 fn last_pos(dual: &[Dual]) -> u32
     ensures { result ≡ last_or 0 (map (λ (y : Dual). y.pos) dual.now) }
 {
@@ -105,7 +105,7 @@ fn last_pos(dual: &[Dual]) -> u32
     }
 }
 
-/// The variable of the last unit, or 0 where there is none.
+/// The variable of the last unit, or 0 if there is none.
 fn last_var(units: &[Unit]) -> u32
     ensures { result ≡ last_or 0 (map (λ (u : Unit). u.var) units.now) }
 {

@@ -61,7 +61,7 @@ fn take_row(part: &mut MatchingPart, rest: &[u8], n: u32, m: u32) -> Result<bool
     Ok(true)
 }
 
-/// The position of the last own clause, or 0 where there is none.
+/// The position of the last own clause, or 0 if there is none.
 fn last_pos(own: &[Own]) -> u32
     ensures { result ≡ last_or 0 (map (λ (o : Own). o.pos) own.now) }
 {
@@ -71,7 +71,7 @@ fn last_pos(own: &[Own]) -> u32
     }
 }
 
-/// The variable of the last row, or 0 where there is none.
+/// The variable of the last row, or 0 if there is none.
 fn last_var(rows: &[MatchRow]) -> u32
     ensures { result ≡ last_or 0 (map (λ (r : MatchRow). r.var) rows.now) }
 {

@@ -53,7 +53,7 @@ fn take_order(alloc: Global, part: &mut PurePart, line: &[u8], n: u32) -> Result
     Ok(true)
 }
 
-/// The variable of the last pair, or 0 where there is none.
+/// The variable of the last pair, or 0 if there is none.
 fn last_var(pairs: &[Pair]) -> u32
     ensures { result ≡ last_or 0 (map (λ (q : Pair). q.var) pairs.now) }
 {

@@ -50,7 +50,7 @@ impl LineReader for DocumentReader {
 }
 
 /// The document that has this text. Other bytes are refused with the first line in which no document's
-/// text can go on, counted from 1. A last line without its byte 10 is such a line; where the text ends too
+/// text can go on, counted from 1. A last line without its byte 10 is such a line; if the text ends too
 /// early, so is the line after its last one. The other error says that memory ran out.
 pub fn read(alloc: Global, bytes: &[u8]) -> Result<Document, ReadStop>
     ensures document { IfOk result (IsTextOfDocument bytes.now) }

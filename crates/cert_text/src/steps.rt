@@ -20,8 +20,8 @@ use std::mem;
 /// The greatest number of learned clauses.
 const MAX_LEARNED: u64 = (1 << 63) - 1;
 
-/// Takes the line that is to come next, or answers that this line is none. The clause is one over the
-/// draft's variables without a literal, and is so again where the line was taken.
+/// Takes the line that is to come next, or reports that this line is no such line. The clause is one over the
+/// draft's variables without a literal, and has none again if the line was taken.
 pub(crate) fn take_line(
     alloc: Global,
     draft: &mut Draft,

@@ -1,4 +1,4 @@
--- What tables tell of the lines of a linear document.
+-- What tables say of the lines of a linear document.
 use Rattle.std.specs.Prelude.{◌≡◌, ◌≤◌, ◌-◌, ◌+◌, ℕ, zero, suc, Bool, true, false, if◌then◌else◌, not, ◌&&◌, ◌||◌, ◌==◌, List, [], ◌∷◌, ◌++◌, length, map, find, min, ℤ, pos, negsuc, neg_ℤ, int_lt, Option, Some, None, slice_index, slice_index_or}
 use Rattle.std.specs.List.{list_any}
 use Rattle.std.specs.Option.{option_map_or}
@@ -36,7 +36,7 @@ abbrev pub numbers_in : ℤ → List ℤ → ℕ → List ℤ
 numbers_in y [] v = []
 numbers_in y (l ∷ clause) v = if variable l == v then signed l y ∷ numbers_in y clause v else numbers_in y clause v
 
--- those of numbers at positions
+-- the numbers that the literals of clauses give a variable, where the clauses at positions have these numbers
 abbrev pub numbers_at : Cnf → List (ℕ × ℤ) → ℕ → List ℤ
 numbers_at F [] v = []
 numbers_at F ((p, y) ∷ ys) v = numbers_in y (clause_at F p) v ++ numbers_at F ys v
@@ -50,7 +50,7 @@ pub record AreNumbers (F : Cnf) (ys : List (ℕ × ℤ)) (table : List (List ℤ
   pub size : length table ≡ F.vars
   pub told : (v : ℕ) → 1 ≤ v → v ≤ F.vars → numbers_of table v ≡ numbers_at F ys v
 
--- those of one clause more
+-- the lists, with the numbers of one clause more
 pub record AddsNumbers (n : ℕ) (y : ℤ) (clause : List ℤ) (before after : List (List ℤ)) : Type 0 where
   pub size : length after ≡ length before
   pub added : (v : ℕ) → 1 ≤ v → v ≤ n → numbers_of after v ≡ numbers_of before v ++ numbers_in y clause v
@@ -71,7 +71,7 @@ abbrev pub first_stage : ℕ → List Stage → ℕ → ℕ
 first_stage k [] v = k
 first_stage k (s ∷ stages) v = if is_nonzero (weighting_of s v) then k else first_stage (k + 1) stages v
 
--- and the weight there; 0 where all are 0
+-- the weight of the variable in the first stage that is not 0 on it; 0 where all are 0
 abbrev pub first_weight : List Stage → ℕ → ℤ
 first_weight [] v = pos 0
 first_weight (s ∷ stages) v = if is_nonzero (weighting_of s v) then weighting_of s v else first_weight stages v
@@ -90,7 +90,7 @@ pub record NotesStage (n k : ℕ) (stage : List Weight) (places_before : List �
   pub place : (v : ℕ) → 1 ≤ v → v ≤ n → slice_index_or places (v - 1) 0 ≡ (if is_nonzero (weight_in stage v) then k else slice_index_or places_before (v - 1) 0)
   pub weight : (v : ℕ) → 1 ≤ v → v ≤ n → slice_index_or weights (v - 1) (pos 0) ≡ (if is_nonzero (weight_in stage v) then weight_in stage v else slice_index_or weights_before (v - 1) (pos 0))
 
--- the sign of a number, where it is not 0
+-- the sign of a number, if it is not 0
 abbrev pub sign_of : ℤ → Option Bool
 sign_of (pos zero) = None
 sign_of (pos (suc k)) = Some true
@@ -159,7 +159,7 @@ unit_line units k = if k == 0 then None else Some (unit_numbered units k)
 abbrev pub HasUnitPlaces : ℕ → List Unit → List ℕ → List ℕ → Type 0
 HasUnitPlaces n units numbers table = IsFirstTable n (λ k. (unit_numbered units k).var) (λ k. k) 0 0 numbers table
 
--- and so of all units
+-- of all units the number of each variable's unit; 0 where the variable has none
 abbrev pub AreUnitPlaces : ℕ → List Unit → List ℕ → Type 0
 AreUnitPlaces n units table = HasUnitPlaces n units (up_to (length units)) table
 

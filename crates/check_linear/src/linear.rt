@@ -218,7 +218,7 @@ fn is_bad_sign(values: &Partial, weights: &[i128], v: u32) -> bool
     !is_same_value(values.value(v), sign_at(weights, v))
 }
 
-/// The sign of a variable's weight, where it is not 0.
+/// The sign of a variable's weight, if it is not 0.
 fn sign_at(weights: &[i128], v: u32) -> Option<bool>
     requires first { 0 < v }
     requires weights { v ≤ length weights.now }

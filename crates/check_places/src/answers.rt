@@ -4,7 +4,7 @@ ghost use Rattle.check_places.specs.FirstAnswers.{first_answer};
 
 use lk_model::OutOfMemory;
 
-/// The first answer that tells a place or an error.
+/// The first answer that is a place or an error.
 pub fn first_answer<P: Copy>(
     answers: &[Result<Option<P>, OutOfMemory>],
 ) -> Result<Option<P>, OutOfMemory>

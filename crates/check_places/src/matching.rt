@@ -63,7 +63,7 @@ fn makes_true(values: &Partial, l: Lit) -> bool
 }
 
 /// Whether the escape of a row of this rank is the own position of a row whose rank is not lower. The table has for each
-/// position one more than the greatest rank of the rows with this own position, and 0 where there is none.
+/// position one more than the greatest rank of the rows with this own position, and 0 if there is none.
 pub fn is_misranked(bounds: &[u64], rank: u32, escape: u32) -> bool
     ensures { result ≡ is_misranked bounds.now rank escape }
 {

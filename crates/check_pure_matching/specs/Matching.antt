@@ -1,4 +1,4 @@
--- What tables tell of the lines of a matching document.
+-- What tables say of the lines of a matching document.
 use Rattle.std.specs.Prelude.{◌≡◌, ◌≤◌, ◌-◌, ◌+◌, ℕ, Bool, false, if◌then◌else◌, not, ◌&&◌, ◌||◌, ◌==◌, nat_lt, List, [], ◌∷◌, length, max, ℤ, Option, Some, None, slice_index, slice_index_or}
 use Rattle.std.specs.List.{list_any}
 use Rattle.std.specs.Option.{option_map_or}
@@ -31,7 +31,7 @@ AreRows n rows table = IsFirstTable n (λ (r : MatchRow). r.var) (λ (r : MatchR
 abbrev pub AreFirstRows : ℕ → ℕ → List MatchRow → List ℕ → Type 0
 AreFirstRows m n rows table = IsFirstTable m (λ (r : MatchRow). r.own) (λ (r : MatchRow). r.var) 0 n rows table
 
--- one more than the greatest rank of the rows with this own position; 0 where there is none
+-- one more than the greatest rank of the rows with this own position; 0 if there is none
 abbrev pub rank_bound : List MatchRow → ℕ → ℕ
 rank_bound [] p = 0
 rank_bound (r ∷ rows) p = if r.own == p then max (rank_bound rows p) (r.rank + 1) else rank_bound rows p
@@ -56,7 +56,7 @@ pub record AreNamedThere (F : Cnf) (ps : List ℕ) (table : List (Option MatchRo
   pub size : length set ≡ F.vars
   pub told : (v : ℕ) → 1 ≤ v → v ≤ F.vars → is_in set v ≡ list_any (λ p. names (row_in table v) p && mentions (clause_at F p) v) ps
 
--- the same, of the clause at one position more
+-- the set, with those of the variables of the clause at one position more that have such a row
 pub record NotesNamed (n : ℕ) (clause : List ℤ) (position : ℕ) (table : List (Option MatchRow)) (names : Option MatchRow → ℕ → Bool) (before after : List Bool) : Type 0 where
   pub size : length after ≡ length before
   pub noted : (v : ℕ) → 1 ≤ v → v ≤ n → is_in after v ≡ (is_in before v || (names (row_in table v) position && mentions clause v))

@@ -28,7 +28,7 @@ first_broken order (c ∷ cs) = min (broken_place order c) (first_broken order c
 abbrev pub is_unsound : List ℤ → List ℤ → ℤ → Bool
 is_unsound set earlier l = contains earlier l || not (contains set l)
 
--- So many first literals of the order are each new and in the set line, and the next one, where there is one, is not.
+-- The first k literals of the order are each new and in the set line, and the next one, if there is one, is not.
 pub record IsSoundCount (set order : List ℤ) (k : ℕ) : Type 0 where
   pub within : k ≤ length order
   pub sound : (i : ℕ) → i < k → is_unsound set (take i order) (slice_index_or order i (pos 0)) ≡ false

@@ -48,7 +48,7 @@ pub fn bad_owner<R: Threads + Sync, G: Gate>(
     workers.least_place(m, &|p| is_bad_owner(f, &values, kept, &owners, p))
 }
 
-/// The tables of the own lines over so many variables and positions.
+/// The tables of the own lines over n variables and m positions.
 fn owners_of(alloc: Global, n: u32, m: u32, own: &[Own]) -> Result<Owners, OutOfMemory>
     requires { IsTrue (are_own n m own.now) }
     ensures of_position { IfOk result (λ owners. AreOwners m own.now owners.of_position.items) }
@@ -65,7 +65,7 @@ fn owners_of(alloc: Global, n: u32, m: u32, own: &[Own]) -> Result<Owners, OutOf
 }
 
 /// What the rows say: the row of each variable, the first variable whose row has each own position, the
-/// last of all where none has it, and one more than the greatest rank of these rows, 0 where there is none.
+/// last of all if none has it, and one more than the greatest rank of these rows, 0 if there is none.
 #[derive(Drop)]
 struct Rows {
     of_variable: Vec<Option<MatchRow>>,
@@ -104,7 +104,7 @@ pub fn bad_row<R: Threads + Sync, G: Gate>(
     workers.least_place(n, &|v| is_bad_row(v, &tables, &seen))
 }
 
-/// The tables of the rows over so many variables and positions.
+/// The tables of the rows over n variables and m positions.
 fn row_tables(alloc: Global, n: u32, m: u32, lines: &[MatchRow]) -> Result<Rows, OutOfMemory>
     requires { IsTrue (are_rows n m lines.now) }
     ensures of_variable { IfOk result (λ rows. AreRows n lines.now rows.of_variable.items) }

@@ -22,7 +22,7 @@ abbrev pub first_block : Cnf → ℕ → List Round → ℕ → ℕ
 first_block F k [] v = k
 first_block F k (r ∷ rounds) v = if blocks F r v then k else first_block F (k + 1) rounds v
 
--- that number for each variable
+-- the table has for each variable the first of the rounds that blocks it, by this number
 pub record AreBlocks (F : Cnf) (k : ℕ) (rounds : List Round) (table : List ℕ) : Type 0 where
   pub size : length table ≡ F.vars
   pub told : (v : ℕ) → 1 ≤ v → v ≤ F.vars → slice_index table (v - 1) ≡ first_block F k rounds v

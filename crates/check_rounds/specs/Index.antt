@@ -23,7 +23,7 @@ abbrev pub IsListed : List ℕ → List (List ℕ) → List ℤ → ℕ → Type
 IsListed blocks lists clause number = (k : ℕ) → is_empty (crossed_out (is_before k blocks) clause) ≡ false
     → (l : ℤ) × (contains (crossed_out (is_before k blocks) clause) l ≡ true) × (among (list_of lists l) number ≡ true)
 
--- so of the clauses of a formula, by the position of one of those that are equal
+-- the clause at a position of a formula is listed, by the position of one of the clauses that are equal to it
 pub record IsClauseListed (blocks : List ℕ) (lists : List (List ℕ)) (F : Cnf) (p : ℕ) : Type 0 where
   pub at : ℕ
   pub least : 1 ≤ at
@@ -42,7 +42,7 @@ is_clause_of F p c = is_between 1 (length F.clauses) p && is_same_list (clause_a
 abbrev pub AreLast : List ℕ → List (List ℕ) → Cnf → List ℕ → Type 0
 AreLast blocks lists F table = All (λ p. 1 ≤ p → p ≤ length F.clauses → IsListed blocks lists (clause_at F p) p) table
 
--- and of those of steps, by their numbers
+-- the clauses of steps are listed, by the numbers of the steps
 abbrev pub AreStepsListed : List ℕ → List (List ℕ) → List Step → Type 0
 AreStepsListed blocks lists steps = All (λ (s : Step). IsListed blocks lists s.clause s.number) steps
 

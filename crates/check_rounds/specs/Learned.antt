@@ -32,7 +32,7 @@ pub record IsKnown (over : RoundAt) (known : Known) : Type 0 where
   pub clauses : AreClausesListed over.blocked_at.now known.clauses over.formula.now (length over.formula.now.clauses)
   pub steps : AreStepsListed over.blocked_at.now known.steps over.steps.now
 
--- so of all rounds
+-- the steps at hand are over all positions, and those of all rounds; what is known finds all clauses and steps
 pub record AreKnown (over : Rounds) (known : Known) : Type 0 where
   pub part : over.part.now ≡ positions_of over.formula.now
   pub rounds_open : IsTrue (list_all (λ (r : Round). are_open_but_last r.steps) over.rounds.now)

@@ -21,7 +21,7 @@ steps_at rounds k = (slice_index_or rounds k (let none : Round = record { steps 
 abbrev pub is_step_place : List Round → StepPlace → Bool
 is_step_place rounds at = nat_lt at.round (length rounds) && nat_lt at.index (length (steps_at rounds at.round))
 
--- so many places of a round, from an index on
+-- `count` places of a round, from an index on
 abbrev pub places_in_round : ℕ → ℕ → ℕ → List StepPlace
 places_in_round k first count = map (λ i. record { round = k; index = i }) (range_with_len first count)
 

@@ -110,7 +110,7 @@ pub fn misstated_step(
     bad_step_in(alloc, &over, places.as_slice())
 }
 
-/// The number of the first such step of those at some places.
+/// The number of the first step of those at some places that does not state the clause of its chain, or none.
 fn bad_step_in(
     alloc: Global,
     over: &Rounds,
@@ -125,7 +125,7 @@ fn bad_step_in(
     first_misstated(over, places, &mut work, &mut repeated)
 }
 
-/// The same, by a work that is empty before, while no clause is kept.
+/// What `bad_step_in` returns, by a work that is empty before, while no clause is kept.
 fn first_misstated(
     over: &Rounds,
     places: &[StepPlace],

@@ -38,7 +38,7 @@ pub(crate) fn step_places(alloc: Global, rounds: &[Round]) -> Result<Vec<StepPla
     Ok(places)
 }
 
-/// Adds so many places of a round.
+/// Adds the first `count` places of a round.
 fn add_places(round: usize, count: usize, places: &mut Vec<StepPlace>) -> Result<(), OutOfMemory>
     ensures { OnOk result (places.new.items ≡ places.old.items ++ places_in_round round 0 count) }
 {
@@ -62,7 +62,7 @@ pub(crate) fn turn_count(rounds: &[Round]) -> usize {
     count
 }
 
-/// So many the chains of steps have.
+/// How many turns the chains of steps have together, or the greatest number.
 fn turns_of(steps: &[Step]) -> usize {
     let mut count: usize = 0;
     for step in steps {

@@ -8,7 +8,7 @@ use denote.Ref.{Bor}
 use Rattle.lk_model.specs.declared.list.OutOfMemory.{OutOfMemory}
 use Rattle.check_tables.specs.declared.places.Span.{Span}
 
--- what a search answers: a place, or none
+-- what a search returns: a place, or none
 abbrev pub Answer : Type 0
 Answer = Result (Option ℕ) OutOfMemory
 
@@ -23,7 +23,7 @@ AreCut first n (span ∷ spans) = (span.first ≡ first) × AreCut (first + span
 
 -- HOW MANY PIECES
 
--- How many pieces a search is cut into at most, if each makes tables of so many bytes: two for two items or more; and
+-- How many pieces a search is cut into at most, if each makes tables of `bytes` bytes: two for two items or more; and
 -- one, with one more for each item for every 128 bytes of them.
 abbrev pub pieces_for : ℕ → ℕ → ℕ
 pieces_for items bytes = max (min 2 items) (items / (bytes / 128 + 1) + 1)
@@ -35,7 +35,7 @@ module _ {F : Type 0} (g : Shared F (ℕ × Unit {0}) Bool) (f : F) (first end :
   abbrev pub AcceptsPlaces : Type 0
   AcceptsPlaces = (p : ℕ) → first ≤ p → p < end → g.pre f (p, tt)
 
-  -- and answers there what the test says
+  -- f returns on each of these places what the test says
   abbrev pub Decides : (ℕ → Bool) → Type 0
   Decides by = (p : ℕ) (b : Bool) → first ≤ p → p < end → FnReturns g f (p, tt) b → b ≡ by p
 
@@ -46,7 +46,7 @@ module _ {F : Type 0} (g : Shared F (Span × Unit {0}) Answer) (f : F) (n : ℕ)
   abbrev pub AcceptsSpans : Type 0
   AcceptsSpans = (span : Span) → 0 < span.first → span.first + span.count ≤ n + 1 → g.pre f (span, tt)
 
-  -- and answers the first place there at which the test says yes
+  -- f returns the first place of each of these ranges at which the test says yes
   abbrev pub Finds : (ℕ → Bool) → Type 0
   Finds by = (span : Span) (r : Answer) → 0 < span.first → span.first + span.count ≤ n + 1 → FnReturns g f (span, tt) r → IfOk r (λ place. place ≡ find by (places_in span))
 
@@ -66,6 +66,6 @@ module _ {F T : Type 0} (g : Shared F (Bor (List T) × Unit {0}) Answer) (f : F)
   abbrev pub AcceptsParts : Type 0
   AcceptsParts = (part : Bor (List T)) → IsPart part.now items → g.pre f (part, tt)
 
-  -- and answers what is found of the first item there at which the test says yes
+  -- f returns what is found of the first item of each piece at which the test says yes
   abbrev pub FindsItems : (T → Bool) → (T → ℕ) → Type 0
   FindsItems by tell = (part : Bor (List T)) (r : Answer) → IsPart part.now items → FnReturns g f (part, tt) r → IfOk r (λ place. place ≡ option_map tell (find by part.now))

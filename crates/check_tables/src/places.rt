@@ -1,7 +1,7 @@
 //! The first place at which a check fails, searched for in ranges of places on threads.
 //!
 //! The places from 1 on are cut into a range for each worker. Each range is searched from its front, and of what the
-//! ranges find the first counts, so the answer is the same for every number of workers.
+//! ranges find the first counts, so the result is the same for every number of workers.
 ghost use Rattle.std.specs.Prelude.{◌≡◌, ◌+◌, ◌^◌, ◌<◌, ◌≤◌, ℕ, Bool, find, min, option_map, IfOk};
 ghost use Rattle.std.specs.Fn.{FnReturns};
 ghost use Rattle.lk_model.specs.Lists.{up_to};
@@ -15,7 +15,7 @@ use std::alloc::Global;
 use std::marker::Model;
 use std::thread::Threads;
 
-/// A worker more has to have an item of work for each so many bytes of its tables.
+/// Each further worker has to have an item of work for each part of its tables of this many bytes.
 const BYTES_FOR_ITEM: usize = 128;
 
 /// A range of places: `count` many, from the place `first` on. Places are positions or variables, which
@@ -27,7 +27,7 @@ pub struct Span {
 }
 
 /// Shares the places of a search out among workers, of whom there is at least one. Contracts see how
-/// many there are; what a search answers does not depend on it.
+/// many there are; what a search returns does not depend on it.
 #[derive(Drop)]
 pub struct Workers<'a, R, G> {
     rt: &'a R,
@@ -48,7 +48,7 @@ impl<'a, R, G> Model for Workers<'a, R, G> {
 }
 
 impl<'a, R: Threads + Sync, G: Gate> Workers<'a, R, G> {
-    /// So many workers. In each search the halves of the work enter the gate once, as 0 and as 1, each
+    /// `count` workers. In each search the halves of the work enter the gate once, as 0 and as 1, each
     /// before its first place; no clause says so.
     pub fn new(rt: &'a R, alloc: Global, gate: &'a G, count: u32) -> Workers<'a, R, G>
         requires { 0 < count }
@@ -62,9 +62,9 @@ impl<'a, R: Threads + Sync, G: Gate> Workers<'a, R, G> {
         }
     }
 
-    /// As many of them as have work enough where each makes tables of its own, of so many bytes: at least two for two
-    /// items or more, and at least one. So all these tables together take no more memory than those of two workers and
-    /// some for each item of work.
+    /// As many of them as have work enough if each makes tables of its own, of `bytes` bytes: at least two, if there
+    /// are, for two items or more, and at least one. So all these tables together take no more memory than those of two
+    /// workers and some for each item of work.
     pub fn for_work(&self, items: usize, bytes: usize) -> Workers<'a, R, G>
         ensures { result ≡ min self.now (pieces_for items bytes) }
     {
@@ -95,7 +95,7 @@ impl<R: Threads + Sync, G: Gate> Workers<'_, R, G> {
         self.least_found(n, &|span| first_passing(span, test))
     }
 
-    /// What a search in ranges of the places from 1 to n finds first. The search is to answer the first
+    /// What a search in ranges of the places from 1 to n finds first. The search is to return the first
     /// place of its range at which a test says yes, or none; so this is the first of all places. The
     /// error says that memory ran out, here or in the search.
     pub fn least_found<F: Fn(Span) -> Result<Option<u32>, OutOfMemory> + Sync>(
@@ -122,9 +122,9 @@ impl<R: Threads + Sync, G: Gate> Workers<'_, R, G> {
     }
 
     /// What is found of the first item of a list by a search in pieces of it, of which each worker has one.
-    /// The search is to answer what is found of the first item of its piece at which a test says yes, or
-    /// none; so that of the first such item of all is answered. The error says that memory ran out, here or
-    /// in the search.
+    /// The search is to return what is found of the first item of its piece at which a test says yes, or
+    /// none; so what is found of the first such item of all is returned. The error says that memory ran out,
+    /// here or in the search.
     pub fn first_found<T: Sync, F: Fn(&[T]) -> Result<Option<u64>, OutOfMemory> + Sync>(
         &self,
         items: &[T],

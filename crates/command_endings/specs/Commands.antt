@@ -34,7 +34,7 @@ use Rattle.command_endings.specs.Commands.Deficiency.{WritesDeficiency}
 use Rattle.command_endings.specs.Commands.Edits.{WritesKernels}
 use Rattle.command_endings.specs.Commands.Mus as mus
 
--- With these options it may answer these inputs with this status, where it writes the one text and says the other.
+-- With these options it may end for these inputs with this status, where it writes the one text and says the other.
 abbrev pub Answers : (c : Command) → Options → Values (inputs_of c) → Status → List ℕ → List ℕ → Type 0
 Answers command.ReducePure options values = EndsDone (WritesReduction values.0 Pure options.protect options.pivots)
 Answers command.ReduceMatching options values = EndsDone (WritesReduction values.0 Matching options.protect options.pivots)
@@ -50,7 +50,7 @@ Answers command.Deficiency options values = EndsDone (WritesDeficiency values.0)
 Answers command.Edits options values = EndsDone (WritesKernels (states (live_of values.0) values.1.0))
 Answers command.Mus options values = λ status written said. mus.Answers options values.0 written said status
 
--- these options and inputs decide that it answers with this status
+-- these options and inputs decide that it ends with this status
 abbrev pub Decides : (c : Command) → Options → Values (inputs_of c) → Status → Type 0
 Decides command.ReducePure options values = IsDone
 Decides command.ReduceMatching options values = IsDone

@@ -1,4 +1,4 @@
--- How the code counts clauses of a kind, and holds the rows that tell it.
+-- How the code counts clauses of a kind, and holds the rows that state their numbers.
 use Rattle.std.specs.Prelude.{◌+◌, List, length, count_by, sum_by, ℤ}
 use Rattle.std.specs.Int.{from_bool}
 use Rattle.lk_model.specs.Lists.{is_empty}

@@ -9,6 +9,6 @@ pub record EndsDone (Writes : List ℕ → Type 0) (status : Status) (written sa
   pub writes : Writes written
   pub silent : said ≡ []
 
--- so it does for each input
+-- it ends with status 0, whatever its inputs
 abbrev pub IsDone : Status → Type 0
 IsDone status = status ≡ Done

@@ -1,4 +1,4 @@
-//! What `check` answers.
+//! How `check` ends.
 ghost use Rattle.std.specs.Prelude.{IfOk, IsTrue};
 ghost use Rattle.lk_model.specs.Documents.Form.{is_in_form};
 ghost use Rattle.command_words.specs.OptionRows.{values_of};

@@ -1,4 +1,4 @@
-//! What `deficiency` answers.
+//! How `deficiency` ends.
 ghost use Rattle.std.specs.Prelude.{◌≡◌, ◌++◌, map, IfOk, OnOk};
 ghost use Rattle.std.specs.List.{flat_map};
 ghost use Rattle.lk_model.specs.Texts.PlainText.{line};

@@ -1,4 +1,4 @@
-//! What `demo` answers.
+//! How `demo` ends.
 ghost use Rattle.std.specs.Prelude.{◌≡◌, ◌++◌, length, IfOk, OnOk, IsTrue};
 ghost use Rattle.demo_formula.specs.Demo.{demo_formula};
 ghost use Rattle.lean_checker.specs.Verdicts.{verdict_words};

@@ -1,4 +1,4 @@
-//! What `edits` answers.
+//! How `edits` ends.
 //!
 //! The matching of the live clauses stays maximum from edit to edit by at most one counted search for each, so that what
 //! an edit costs besides the kernel that is written is this search. The counter shows the searches that were made with it;

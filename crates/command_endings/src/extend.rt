@@ -1,4 +1,4 @@
-//! What `extend` answers.
+//! How `extend` ends.
 ghost use Rattle.std.specs.Prelude.{◌≡◌, ◌≤◌, length, map, IfOk, IsTrue};
 ghost use Rattle.lk_model.specs.Lists.{rises_within};
 ghost use Rattle.lk_model.specs.Formulas.Literal.{variable};
@@ -15,8 +15,8 @@ use partial_assign::{Partial, assignment_of, extend_total};
 use status_lines::{Ending, Status};
 use std::alloc::Global;
 
-/// The ending that tells what comes of a model: 5 where the document is unfinished, 8 where a check fails,
-/// and 0 where the model is extended.
+/// The ending that reports what comes of a model: 5 if the document is unfinished, 8 if a check fails,
+/// and 0 if the model is extended.
 pub fn answer(
     alloc: Global,
     f: &Formula,
@@ -38,7 +38,7 @@ pub fn answer(
     }
 }
 
-/// The ending that tells what comes of a model by a finished document.
+/// The ending that reports what comes of a model by a finished document.
 fn told_of_done(
     alloc: Global,
     f: &Formula,
@@ -65,7 +65,7 @@ fn told_of_done(
     })
 }
 
-/// The line that tells the check that fails.
+/// The line that reports the check that fails.
 fn failure_line(alloc: Global, why: Why) -> Result<Vec<u8>, OutOfMemory>
     ensures { IfOk result (λ said. said.items ≡ failure_line why) }
 {

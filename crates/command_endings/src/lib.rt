@@ -1,4 +1,4 @@
-//! How each command ends: what it answers to what was read, the line of each stop, and the statuses.
+//! How each command ends: what it makes of what was read, the line of each stop, and the statuses.
 #![tactic(auto)]
 
 pub mod check;

@@ -1,4 +1,4 @@
-//! What `mus` answers.
+//! How `mus` ends.
 ghost use Rattle.std.specs.Prelude.{◌≡◌, IfOk, IsTrue};
 ghost use Rattle.lk_model.specs.Formulas.Formula.{is_formula, IsWithinLimits};
 ghost use Rattle.lk_model.specs.Formulas.Lean.{are_positions};

@@ -1,4 +1,4 @@
-//! What `reduce` answers, but for the class general.
+//! How `reduce` ends, but for the class general.
 ghost use Rattle.std.specs.Prelude.{◌≡◌, [], IfOk, IsTrue};
 ghost use Rattle.lk_model.specs.Documents.Text.{text_of};
 ghost use Rattle.lk_model.specs.Formulas.Formula.{is_formula, IsWithinLimits};

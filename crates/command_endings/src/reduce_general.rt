@@ -1,4 +1,4 @@
-//! What `reduce general` answers.
+//! How `reduce general` ends.
 ghost use Rattle.std.specs.Prelude.{◌≡◌, IfOk};
 ghost use Rattle.lk_model.specs.Documents.Text.{text_of};
 ghost use Rattle.lk_model.specs.declared.document.Document.TheVariants.{Unfinished};

@@ -1,4 +1,4 @@
-//! What `report` answers.
+//! How `report` ends.
 ghost use Rattle.std.specs.Prelude.{◌≡◌, IfOk};
 ghost use Rattle.lk_model.specs.Formulas.Formula.{occurring_count};
 ghost use Rattle.lk_model.specs.declared.class.Class.TheVariants.{Pure, Matching};

@@ -1,4 +1,4 @@
-//! What `verify` answers.
+//! How `verify` ends.
 ghost use Rattle.std.specs.Prelude.{◌≡◌, length, IfOk, IsTrue};
 ghost use Rattle.lk_model.specs.Documents.Answers.{is_answer};
 ghost use Rattle.command_words.specs.OptionRows.{values_of};

@@ -10,11 +10,12 @@ use Rattle.edit_text.specs.declared.progress.Held.TheVariants.{Going, Stopped}
 use Rattle.edit_text.specs.declared.refusal.EditsRefused.{EditsRefused}
 use Rattle.edit_text.specs.declared.refusal.EditsRefused.TheVariants as refused
 use Rattle.std.specs.Prelude.{IfSome}
-use Rattle.command_inputs.specs.Inputs.{StopsReading, StopsText}
+use Rattle.command_stops.specs.Stops.{StopsText}
+use Rattle.command_inputs.specs.Inputs.{StopsReading}
 use Rattle.command_words.specs.declared.shape.Grammar.TheVariants.{Edits as EditsText}
-use Rattle.command_inputs.specs.Stops.{edits_stop_of}
-use Rattle.command_inputs.specs.declared.stop.Stop.{Stop}
-use Rattle.command_inputs.specs.declared.stop.Stop.TheVariants.{Words, Formula, Document, Model, Answer, Edits, Read, Memory}
+use Rattle.command_stops.specs.Stops.{edits_stop_of}
+use Rattle.command_stops.specs.declared.stop.Stop.{Stop}
+use Rattle.command_stops.specs.declared.stop.Stop.TheVariants.{Edits}
 use Rattle.command_inputs.proofs.Streams.{fewer_left, at_end, in_midst}
 
 -- FEEDING

@@ -10,8 +10,8 @@ use Rattle.cert_text.specs.ReadTexts.{IsOfOneDocument, StopsNowhere}
 use Rattle.command_words.specs.declared.shape.Grammar.{Grammar}
 use Rattle.command_words.specs.declared.shape.Grammar.TheVariants.{Formula, Document, Model, Answer, Edits}
 use Rattle.command_inputs.specs.Inputs.{Told, Known, nothing_known, ValueOf, Values, IsTextOf, known_behind, AreRead, AreTold, IsRefusal, IsFirstBad, HasBad}
-use Rattle.command_inputs.specs.declared.stop.Stop.{Stop}
-use Rattle.command_inputs.specs.declared.stop.Stop.TheVariants as stop
+use Rattle.command_stops.specs.declared.stop.Stop.{Stop}
+use Rattle.command_stops.specs.declared.stop.Stop.TheVariants as stop
 
 -- WHAT IS KNOWN
 

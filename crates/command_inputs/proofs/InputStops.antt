@@ -5,11 +5,12 @@ use Rattle.std.specs.Io.KnownBytes.{Consumes, IsAtEnd}
 use Rattle.dimacs_reader.specs.Faults.{IsRefusalOf, IsSettledAs}
 use Rattle.dimacs_reader.specs.declared.refusal.Refused.{Refused}
 use Rattle.dimacs_reader.specs.declared.refusal.Refused.TheVariants as refused
-use Rattle.command_inputs.specs.Inputs.{nothing_known, StopsReading, StopsText}
+use Rattle.command_stops.specs.Stops.{StopsText}
+use Rattle.command_inputs.specs.Inputs.{nothing_known, StopsReading}
 use Rattle.command_words.specs.declared.shape.Grammar.TheVariants.{Formula as FormulaText}
-use Rattle.command_inputs.specs.Stops.{stop_of}
-use Rattle.command_inputs.specs.declared.stop.Stop.{Stop}
-use Rattle.command_inputs.specs.declared.stop.Stop.TheVariants.{Words, Formula, Document, Model, Answer, Edits, Read, Memory}
+use Rattle.command_stops.specs.Stops.{stop_of}
+use Rattle.command_stops.specs.declared.stop.Stop.{Stop}
+use Rattle.command_stops.specs.declared.stop.Stop.TheVariants.{Formula}
 use Rattle.command_inputs.proofs.Streams.{at_end, in_midst}
 
 -- what stops the bytes of a text stops a formula

@@ -14,11 +14,12 @@ use Rattle.lk_model.specs.Documents.Answers.{is_answer}
 use Rattle.answer_check.specs.ReadAnswers.{ReadsAnswers}
 use Rattle.lk_model.specs.declared.answer.Answer.{Answer as AnyAnswer}
 use Rattle.command_words.specs.declared.shape.Grammar.TheVariants.{Document, Answer}
-use Rattle.command_inputs.specs.Inputs.{nothing_known, StopsReading, StopsText}
+use Rattle.command_stops.specs.Stops.{StopsText}
+use Rattle.command_inputs.specs.Inputs.{nothing_known, StopsReading}
 use Rattle.command_inputs.specs.LineTexts.{IsReadFrom}
-use Rattle.command_inputs.specs.Stops.{read_stop_of, answer_stop_of}
-use Rattle.command_inputs.specs.declared.stop.Stop.{Stop}
-use Rattle.command_inputs.specs.declared.stop.Stop.TheVariants as stop
+use Rattle.command_stops.specs.Stops.{read_stop_of, answer_stop_of}
+use Rattle.command_stops.specs.declared.stop.Stop.{Stop}
+use Rattle.command_stops.specs.declared.stop.Stop.TheVariants as stop
 use Rattle.command_inputs.proofs.LineStreams.{told_value}
 
 -- DOCUMENTS

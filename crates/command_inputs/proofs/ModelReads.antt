@@ -15,10 +15,11 @@ use Rattle.model_text.specs.declared.progress.Held.{Held}
 use Rattle.model_text.specs.declared.progress.Held.TheVariants.{Going, Stopped}
 use Rattle.command_words.specs.declared.shape.Grammar.{Grammar}
 use Rattle.command_words.specs.declared.shape.Grammar.TheVariants.{Formula, Document, Model}
-use Rattle.command_inputs.specs.Inputs.{Told, Known, nothing_known, known_behind, AreRead, IsModelRead, IsFirstBad, IsAilingOn, StopsReading, StopsText, StopsOn}
-use Rattle.command_inputs.specs.Stops.{model_stop_of}
-use Rattle.command_inputs.specs.declared.stop.Stop.{Stop}
-use Rattle.command_inputs.specs.declared.stop.Stop.TheVariants as stop
+use Rattle.command_stops.specs.Stops.{StopsText}
+use Rattle.command_inputs.specs.Inputs.{Told, Known, nothing_known, known_behind, AreRead, IsModelRead, IsFirstBad, IsAilingOn, StopsReading, StopsOn}
+use Rattle.command_stops.specs.Stops.{model_stop_of}
+use Rattle.command_stops.specs.declared.stop.Stop.{Stop}
+use Rattle.command_stops.specs.declared.stop.Stop.TheVariants as stop
 use Rattle.command_inputs.proofs.Streams.{fewer_left, at_end, in_midst}
 
 -- FEEDING

@@ -16,8 +16,8 @@ use Rattle.edit_text.specs.declared.edit.Edit.{Edit}
 use Rattle.lk_model.specs.declared.answer.Answer.{Answer as AnyAnswer}
 use Rattle.command_words.specs.declared.shape.Grammar.{Grammar}
 use Rattle.command_words.specs.declared.shape.Grammar.TheVariants.{Formula, Document, Model, Answer, Edits}
-use Rattle.command_inputs.specs.declared.stop.Stop.{Stop}
-use Rattle.command_inputs.specs.declared.stop.Stop.TheVariants as stop
+use Rattle.command_stops.specs.declared.stop.Stop.{Stop}
+use Rattle.command_stops.specs.declared.stop.Stop.TheVariants as stop
 
 -- the bytes under each name, where a shelf tells them
 abbrev pub Told : Type 0
@@ -84,7 +84,7 @@ pub record IsModelRead (told : Option (List ℕ)) (known : Known) (values : List
 
 -- WHAT IS OUTSIDE ITS GRAMMAR
 
--- the stop that tells where the bytes, if they are told, are outside the grammar
+-- the stop that says where the bytes, if they are told, are outside the grammar
 abbrev pub IsRefusal : Grammar → Known → Option (List ℕ) → Stop → Type 0
 IsRefusal Formula known bytes (stop.Formula r) = IfSome bytes (λ b. refusal_of b ≡ Some r)
 IsRefusal Document known bytes (stop.Document line) = IfSome bytes (λ b. documents.StopsAt b line)
@@ -115,12 +115,6 @@ StopsReading grammar known bytes ailing stop.Read = IsTrue ailing
 StopsReading grammar known bytes ailing stop.Memory = ⊤
 StopsReading grammar known bytes ailing s = IsRefusal grammar known bytes s
 
--- while bytes are read, nothing is refused
-abbrev pub StopsText : Bool → Stop → Type 0
-StopsText ailing stop.Read = IsTrue ailing
-StopsText ailing stop.Memory = ⊤
-StopsText ailing _ = ⊥
-
 -- the shelf is ailing on one of the inputs, and those before it are read
 abbrev pub IsAilingOn : Told → Known → List Grammar → List Word → Bool → Option (List ℕ) → Type 0
 IsAilingOn told known (grammar ∷ grammars) (name ∷ names) ailing current =
@@ -133,9 +127,3 @@ abbrev pub StopsOn : Told → Known → List Grammar → List Word → Bool → 
 StopsOn told known grammars names ailing current stop.Read = IsAilingOn told known grammars names ailing current
 StopsOn told known grammars names ailing current stop.Memory = ⊤
 StopsOn told known grammars names ailing current s = IsFirstBad told known grammars names s
-
--- the stop tells of a failed call, or that memory ran out
-abbrev pub IsFailure : Stop → Type 0
-IsFailure stop.Read = ⊤
-IsFailure stop.Memory = ⊤
-IsFailure _ = ⊥

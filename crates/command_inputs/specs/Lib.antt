@@ -1,3 +1,2 @@
 pub mod Inputs
-pub mod Stops
 pub mod LineTexts

@@ -12,15 +12,16 @@ ghost use Rattle.line_text.specs.LineReading.{CanComplete};
 ghost use Rattle.lk_outside.specs.Reads.{ReadTakes};
 ghost use Rattle.lk_outside.specs.Causes.{HasCause, TellsTheSame};
 ghost use Rattle.command_inputs.specs.LineTexts.{IsReadAs};
-ghost use Rattle.command_inputs.specs.Inputs.{nothing_known, AreRead, IsModelRead, StopsReading, StopsText, StopsOn};
-ghost use Rattle.command_inputs.specs.Inputs.{IsFailure};
+ghost use Rattle.command_stops.specs.Stops.{StopsText};
+ghost use Rattle.command_inputs.specs.Inputs.{nothing_known, AreRead, IsModelRead, StopsReading, StopsOn};
+ghost use Rattle.command_stops.specs.Stops.{IsFailure};
 ghost use Rattle.command_words.specs.declared.shape.Grammar.TheVariants.{Formula as FormulaText};
 ghost use Rattle.command_words.specs.declared.shape.Grammar.TheVariants.{Document as DocumentText, Model as ModelText};
 ghost use Rattle.command_words.specs.declared.shape.Grammar.TheVariants.{Answer as AnswerText, Edits as EditsText};
 
-use crate::stop::Stop;
 use answer_check::{Answer, answer_reader};
 use cert_text::document_reader;
+use command_stops::{Stop, read_piece, start_text};
 use dimacs_reader::Reader;
 use edit_text::{Edit, EditsReader};
 use line_pieces::PieceReader;
@@ -47,35 +48,6 @@ pub fn read_formula<H: Shelf>(alloc: Global, shelf: &mut H, name: &str) -> Resul
     let mut piece = vec![in alloc; 0u8; PIECE]?;
     start_text(shelf, name)?;
     read_started(alloc, shelf, piece.as_mut_slice())
-}
-
-/// Starts a text.
-fn start_text<H: Shelf>(shelf: &mut H, name: &str) -> Result<(), Stop>
-    ensures told { TellsTheSame (H.told shelf.old) (H.told shelf.new) }
-    ensures started { OnOk result (IsTrue (H.started shelf.new)) }
-    ensures unread { OnOk result (H.unread shelf.new ≡ H.told shelf.old name.now) }
-    ensures stop { IfErr result (StopsText (H.ailing shelf.new)) }
-    ensures current { result ≢ Err Stop.Memory → H.current shelf.new ≡ Some name.now }
-    ensures cause { HasCause (H.faults shelf.old) (H.faults shelf.new) (IsErrAnd result (λ s. s ≡ Stop.Read)) }
-    ensures well { IsTrue (H.ailing shelf.new) → IsErrAnd result IsFailure }
-{
-    shelf.start(name).map_err(|e| Stop::from(e))
-}
-
-/// Reads the next bytes of the started text, and answers how many they are: 0 at its end.
-fn read_piece<H: Shelf>(shelf: &mut H, piece: &mut [u8]) -> Result<usize, Stop>
-    requires started { IsTrue (H.started shelf.old) }
-    requires room { 0 < length piece.old }
-    ensures told { TellsTheSame (H.told shelf.old) (H.told shelf.new) }
-    ensures bound { IfOk result (λ count. count ≤ length piece.new) }
-    ensures bytes { IfOk result (λ count. ReadTakes (H.unread shelf.old) (H.unread shelf.new) count piece.new) }
-    ensures started { OnOk result (IsTrue (H.started shelf.new)) }
-    ensures stop { IfErr result (λ s. (s ≡ Stop.Read) × IsTrue (H.ailing shelf.new)) }
-    ensures current { H.current shelf.new ≡ H.current shelf.old }
-    ensures cause { HasCause (H.faults shelf.old) (H.faults shelf.new) (IsErrAnd result (λ s. s ≡ Stop.Read)) }
-    ensures well { IsTrue (H.ailing shelf.new) → IsErrAnd result IsFailure }
-{
-    Ok(shelf.read(piece)?)
 }
 
 /// Reads what is left of the started text.

@@ -1,10 +1,8 @@
-//! The inputs of a command: whole texts, read in the order of the words, and why that stops.
+//! The inputs of a command: whole texts, read in the order of the words.
 #![tactic(auto)]
 
 mod input;
-mod stop;
 
 pub use input::{
     Answered, Checked, Edited, read_answered, read_checked, read_edited, read_formula, read_values,
 };
-pub use stop::Stop;

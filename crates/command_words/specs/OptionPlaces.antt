@@ -35,12 +35,12 @@ refused_place keys before (word ∷ value ∷ words) = if is_new keys before wor
 abbrev pub is_new_behind : List Key → List Word → Word → Bool
 is_new_behind keys earlier word = is_word_of keys word && not (is_some (value_behind word earlier))
 
--- so is the first of the others
+-- the first of the others is an option's, and no value is given for it among the earlier words
 abbrev pub is_new_first : List Key → List Word → List Word → Bool
 is_new_first keys earlier [] = false
 is_new_first keys earlier (word ∷ others) = is_new_behind keys earlier word
 
--- so is the word at a place
+-- the word at a place is an option's, and no value is given for it among the words before it
 abbrev pub is_new_at : List Key → List Word → ℕ → Bool
 is_new_at keys words place = is_new_first keys (take place words) (drop place words)
 

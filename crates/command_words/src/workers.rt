@@ -22,7 +22,7 @@ impl Model for Workers {
 }
 
 impl Workers {
-    /// So many threads, if they may work.
+    /// `count` threads, if that many may work.
     pub fn new(count: u64) -> Option<Workers>
         ensures some { IsSome result ↔ ((0 < count) × (count ≤ 64)) }
         ensures value { IfSome result (λ w. w ≡ count) }

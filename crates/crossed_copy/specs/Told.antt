@@ -13,7 +13,7 @@ pub record Refutes (F : Cnf) (b : Variables) (part : List ℕ) (last : ℕ) (r :
   pub refutation : IsCrossedRefutation F b part last r.round.steps
   pub used : r.used ≡ used_positions F r.round
 
--- what is told of the part, with as many steps
+-- what is restated for the part, with as many steps
 pub record IsTold (over : Crossed) (last : ℕ) (r told : CrossedRefutation) : Type 0 where
   pub refutes : Refutes over.formula.now (is_in over.blocked.now) over.part.now last told
   pub count : length told.round.steps ≡ length r.round.steps

@@ -1,7 +1,7 @@
 //! Some crossed clauses of a part as a formula by itself.
 //!
-//! A search makes tables as long as its formula. So what a few clauses of a long part refute is sought in a formula of
-//! these clauses alone, whose variables are numbered without a gap.
+//! A search makes tables as long as its formula. So whether a few clauses of a long part have a refutation is asked of a
+//! formula of these clauses alone, whose variables are numbered without a gap.
 ghost use Rattle.std.specs.Prelude.{IfOk, IsTrue};
 ghost use Rattle.std.specs.List.{list_all};
 ghost use Rattle.lk_model.specs.Held.VariableSets.{IsCrossed};
@@ -67,7 +67,7 @@ fn copy_of(alloc: Global, over: &Crossed, positions: Vec<u32>) -> Result<Crossed
     })
 }
 
-// Those of some positions that are of the part, but for those of long clauses.
+// The positions of these that are of the part, but for those of long clauses.
 fn short_ones(
     alloc: Global,
     over: &Crossed,

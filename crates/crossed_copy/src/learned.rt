@@ -13,7 +13,7 @@ use lk_model::{Crossed, Lit, Step};
 use unit_refutations::Units;
 
 /// Whether each step's clause is empty, or contains no complementary pair, no crossed clause of the part that is not
-/// empty, and no clause of an earlier step. It may answer false for a crossed clause outside the part.
+/// empty, and no clause of an earlier step. It may return false because of a crossed clause outside the part.
 pub(crate) fn are_learned(units: &Units, over: &Crossed, steps: &[Step]) -> bool
     requires crossed { IsCrossed over.now }
     requires kept { IsKept over.now.formula.now over.now.blocked.now units.now }

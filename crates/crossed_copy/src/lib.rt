@@ -1,4 +1,4 @@
-//! Some crossed clauses of a part under numbers of their own, and what refutes them there, told of the part.
+//! Some crossed clauses of a part under numbers of their own, and what refutes them there, restated for the part.
 #![tactic(auto)]
 
 mod copying;

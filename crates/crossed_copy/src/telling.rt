@@ -1,4 +1,4 @@
-//! Refutations of a copy, told of the part.
+//! Refutations of a copy, restated for the part.
 //!
 //! What refutes all clauses of a copy refutes the crossed clauses, under their numbers. But a search over the part learns
 //! no clause that contains one which the copy does not have. So each clause is asked whether it is learned.
@@ -27,7 +27,7 @@ pub struct CrossedRefutation {
 
 impl CrossedCopy {
     /// The refutation over the crossed clauses that one of all clauses of the copy is, with steps numbered from the number
-    /// after `last` on; none where one of its clauses may not be learned.
+    /// after `last` on; none if one of its clauses may not be learned.
     pub fn learned(
         &self,
         alloc: Global,
@@ -53,7 +53,7 @@ impl CrossedCopy {
         }
     }
 
-    // The same, whether or not its clauses are learned.
+    // The refutation of `learned`, whether or not its clauses are learned.
     fn told(
         &self,
         alloc: Global,

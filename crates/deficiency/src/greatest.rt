@@ -27,12 +27,12 @@ pub struct Deficiency {
     pub value: u32,
     /// The positions of the matching kernel, ascending, which have this value.
     pub kept: List<u32>,
-    /// All but so many positions, ascending, with a variable of their clause each; none stands twice.
+    /// All but `value` positions, ascending, with a variable of their clause each; none stands twice.
     pub own: List<Own>,
 }
 
-/// The maximal deficiency of the formula, with the matching kernel, which has it, and a matching that leaves so many
-/// clauses. It costs a maximum matching and a search.
+/// The maximal deficiency of the formula, with the matching kernel, which has it, and a matching of all clauses but
+/// that many. It costs a maximum matching and a search.
 pub fn max_deficiency(alloc: Global, f: &Formula) -> Result<Deficiency, OutOfMemory>
     ensures value { IfOk result (λ d. IsMaxDeficiency f.now d.value) }
     ensures kept { IfOk result (λ d. Kernel TheMatching f.now d.kept) }
@@ -45,7 +45,7 @@ pub fn max_deficiency(alloc: Global, f: &Formula) -> Result<Deficiency, OutOfMem
     by_matching(alloc, f, part.as_slice(), &m)
 }
 
-// The same by a maximum matching of all clauses.
+// As `max_deficiency`, by a maximum matching of all clauses.
 fn by_matching(
     alloc: Global,
     f: &Formula,

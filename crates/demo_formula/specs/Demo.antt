@@ -13,11 +13,11 @@ use Rattle.rand_pcg.specs.Pcg.{pcg32, multiplier_64}
 abbrev pub four_clauses : ℕ → ℕ → List (List ℤ)
 four_clauses a b = (pos a ∷ pos b ∷ []) ∷ (pos a ∷ neg_ℤ (pos b) ∷ []) ∷ (neg_ℤ (pos a) ∷ pos b ∷ []) ∷ (neg_ℤ (pos a) ∷ neg_ℤ (pos b) ∷ []) ∷ []
 
--- those over the variables 2i - 1 and 2i
+-- the four clauses over the variables 2i - 1 and 2i
 abbrev pub clauses_of_pair : ℕ → List (List ℤ)
 clauses_of_pair i = four_clauses (2 * i - 1) (2 * i)
 
--- those of the first so many pairs
+-- the clauses of the first `pairs` pairs
 unfoldable pub first_clauses : ℕ → List (List ℤ)
 first_clauses pairs = flat_map clauses_of_pair (up_to pairs)
 
@@ -49,7 +49,7 @@ drawn_clause g = with_literal (with_literal (drawn_variable g ∷ []) (drawn_lit
 unfoldable pub after_clause : Lcg → Lcg
 after_clause g = rest (rest (rest (rest (rest g))))
 
--- so many clauses, one after another
+-- as many clauses as the number says, one after another
 unfoldable pub drawn_clauses : ℕ → Lcg → List (List ℤ)
 drawn_clauses zero g = []
 drawn_clauses (suc n) g = drawn_clause g ∷ drawn_clauses n (after_clause g)

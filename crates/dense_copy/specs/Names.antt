@@ -5,7 +5,7 @@ use Rattle.lk_model.specs.Lists.{among, rises_within}
 use Rattle.lk_model.specs.Formulas.Literal.{variable}
 use Rattle.lk_model.specs.Formulas.Formula.{Cnf, clause_at, variable_occurs}
 
--- the same numbers, which rise between any bounds that all of them are between
+-- `rising` has the same numbers, which rise between any bounds that all of them are between
 pub record AreInOrder (numbers rising : List ℕ) : Type 0 where
   pub same : (k : ℕ) → among rising k ≡ among numbers k
   pub rise : (low high : ℕ) → ((k : ℕ) → IsTrue (among numbers k) → (low < k) × (k ≤ high)) → IsTrue (rises_within low high rising)

@@ -37,7 +37,7 @@ pub fn dense_formula(
     Ok(dense)
 }
 
-// The formula of so many variables without a clause.
+// The formula of n variables without a clause.
 fn over_variables(alloc: Global, n: u32) -> Result<Formula, OutOfMemory>
     requires { n ≤ max_vars }
     ensures vars { IfOk result (λ f. f.vars ≡ n) }

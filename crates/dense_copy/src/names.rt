@@ -21,7 +21,7 @@ pub fn names_of(alloc: Global, f: &Formula, part: &[u32]) -> Result<Vec<u32>, Ou
     Ok(in_order(names))
 }
 
-/// Numbers, ascending, each once.
+/// Numbers above 0, ascending, each once.
 pub fn in_order(numbers: Vec<u32>) -> Vec<u32>
     ensures { AreInOrder numbers.items result.items }
 {

@@ -40,7 +40,7 @@ pub record IsWritten (n : ℕ) (words : List Word) (F : Cnf) : Type 0 where
   pub few_clauses : length F.clauses ≤ max_clauses
   pub few_literals : count_by is_nonzero numbers ≤ max_literals
 
--- the words of bytes that stand in a line after so many bytes of the text
+-- the words of bytes that stand in a line after `before` bytes of the text
 abbrev pub words_after : ℕ → List ℕ → List Piece
 words_after before bytes = filter (λ word. not (is_empty word.bytes)) (placed_after before (slice_split is_blank bytes))
 

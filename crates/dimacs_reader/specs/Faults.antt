@@ -35,7 +35,7 @@ abbrev pub IsRefusalOf : List ℕ → Refused → Type 0
 IsRefusalOf text refused.OutOfMemory = Unit {0}
 IsRefusalOf text refusal = refusal_of text ≡ Some refusal
 
--- and so it is however the bytes go on
+-- the refusal is such a one however the bytes go on
 abbrev pub IsSettledAs : List ℕ → Refused → Type 0
 IsSettledAs bytes refusal = (more : List ℕ) → IsRefusalOf (bytes ++ more) refusal
 
@@ -61,7 +61,7 @@ shows_at_once kind.TooFewClauses = true
 shows_at_once kind.Limit = false
 shows_at_once kind.TooLong = true
 
--- the fault must have been reported when so many bytes were fed
+-- the fault must have been reported when `size` bytes were fed
 abbrev pub is_due : ℕ → Fault → Bool
 is_due size fault = nat_lt fault.place size || (shows_at_once fault.kind && nat_le fault.place size)
 

@@ -19,7 +19,7 @@ problem_line_kind (Some (vars, clauses)) = if nat_lt max_vars vars || nat_lt max
 abbrev pub BeginsAs : List ℕ → List Word → List ℕ → Type 0
 BeginsAs bytes words last = (more : List ℕ) → words_in (bytes ++ more) ≡ words ++ words_in (last ++ more)
 
--- the same, with one or two numbers
+-- `BeginsAs` for words with the digits of one number, or of two
 abbrev pub BeginsWithVars : List ℕ → ℕ → (List ℕ → List Word) → (List ℕ → List ℕ) → Type 0
 BeginsWithVars bytes vars words last = (v : List ℕ) × AreDigits v vars × BeginsAs bytes (words v) (last v)
 

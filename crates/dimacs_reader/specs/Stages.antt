@@ -26,7 +26,7 @@ IsInLine fed = line_number fed (length fed) ≡ count_by is_newline fed + 1
 
 -- BEFORE THE NUMBERS
 
--- what the bytes of a text come to that stand after so many others, where these are the pieces between the bytes 10,
+-- what the bytes of a text come to that stand after `before` others, where these are the pieces between the bytes 10,
 -- and `part` is what was read of a problem line
 abbrev pub head_outcome : HeadLine → List ℕ → ℕ → List (List ℕ) → ℕ → Outcome
 head_outcome head.Start part before parts over = outcome_from (placed_after before parts) over
@@ -61,7 +61,8 @@ IsWithinLimits (Stated vars clauses) = (vars ≤ max_vars) × (clauses ≤ max_c
 
 -- AFTER THE PROBLEM LINE
 
--- the same, where these words were read, and word is what was read of one more
+-- what the bytes of a text come to that stand after `before` others, where these words were read, and word is what was
+-- read of one more
 abbrev pub number_outcome : NumberLine → ℕ → ℕ → List Piece → List ℕ → ℕ → List (List ℕ) → ℕ → Outcome
 number_outcome numbers.Start vars clauses earlier word before parts over = outcome_behind vars clauses earlier (placed_after before parts) over
 number_outcome numbers.Comment vars clauses earlier word before [] over = outcome_behind vars clauses earlier [] over

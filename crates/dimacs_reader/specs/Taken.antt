@@ -15,8 +15,8 @@ use Rattle.dimacs_reader.specs.declared.reading.Held.TheVariants.{Going, Stopped
 abbrev pub too_long : Fault
 too_long = record { kind = TooLong; place = max_bytes + 1 }
 
--- the fault of a step after so many bytes, or that the next byte is one too many, where the step goes on or has a fault
--- after it
+-- the fault of a step after `before` bytes, or that the next byte is one too many, where the step goes on or has a
+-- fault after it
 abbrev pub IsFirstOf : Result (Unit {0}) Stop → ℕ → Fault → Type 0
 IsFirstOf (Ok u) before f = (f ≡ too_long) × (max_bytes ≤ before)
 IsFirstOf (Err stop.OutOfMemory) before f = ⊥

@@ -29,7 +29,7 @@ pub(crate) enum HeadStep {
     Stated { vars: u32, clauses: u32 },
 }
 
-/// Takes the next byte after so many.
+/// Takes the next byte, after `before` bytes.
 pub(crate) fn head_step(line: HeadLine, byte: u8, before: usize) -> Result<HeadStep, Fault>
     requires { before < usize.MAX }
     ensures limits { IfOk result IsWithinLimits }
@@ -44,7 +44,7 @@ pub(crate) fn head_step(line: HeadLine, byte: u8, before: usize) -> Result<HeadS
     }
 }
 
-/// Takes the end of the line, after so many bytes.
+/// Takes the end of the line, after `before` bytes.
 fn end_line(line: HeadLine, before: usize) -> Result<HeadStep, Fault>
     ensures limits { IfOk result IsWithinLimits }
     ensures ok { (fed : List ℕ) → length fed ≡ before → StandsInHead fed line →

@@ -25,7 +25,7 @@ pub(crate) enum NumberLine {
     Ended,
 }
 
-/// Takes the next byte after so many.
+/// Takes the next byte, after `before` bytes.
 pub(crate) fn number_step(
     state: &mut ReadState,
     line: NumberLine,
@@ -47,7 +47,7 @@ pub(crate) fn number_step(
     }
 }
 
-/// Takes the end of the line, after so many bytes.
+/// Takes the end of the line, after `before` bytes.
 fn end_line(state: &mut ReadState, line: NumberLine, before: usize) -> Result<NumberLine, Stop>
     requires { Fits state.old }
     ensures fits { OnOk result (Fits state.new) }
@@ -66,7 +66,7 @@ fn end_line(state: &mut ReadState, line: NumberLine, before: usize) -> Result<Nu
     }
 }
 
-/// Takes a blank, after so many bytes.
+/// Takes a blank, after `before` bytes.
 fn with_blank(state: &mut ReadState, line: NumberLine, before: usize) -> Result<NumberLine, Stop>
     requires { Fits state.old }
     ensures fits { OnOk result (Fits state.new) }
@@ -86,7 +86,7 @@ fn with_blank(state: &mut ReadState, line: NumberLine, before: usize) -> Result<
     }
 }
 
-/// Takes a byte of a word, after so many bytes.
+/// Takes a byte of a word, after `before` bytes.
 fn with_byte(
     state: &ReadState,
     line: NumberLine,

@@ -48,11 +48,11 @@ impl Reader {
         }
     }
 
-    /// Takes the next piece of the text. It is refused only where however the bytes fed so far go on, their
-    /// first fault is this one, with its line; or where memory runs out. It must be refused once a byte
+    /// Takes the next piece of the text. It is refused only if the first fault is this one, with its line,
+    /// however the bytes fed so far go on; or if memory runs out. It must be refused once a byte
     /// after a faulty word or problem line was fed, and for another fault once its own byte was fed: the
     /// first one of a line, an end mark, or byte number 2^30 + 1. After a refusal the reader holds nothing
-    /// but the refusal, which each later call answers.
+    /// but the refusal, which each later call returns.
     pub fn feed(&mut self, piece: &[u8]) -> Result<(), Refused>
         ensures ok { (fed : List ℕ) → HasBeenFed fed self.old → OnOk result (HasBeenFed (fed ++ piece.now) self.new) }
         ensures fits { (fed : List ℕ) → HasBeenFed fed self.old → OnOk result (length (fed ++ piece.now) ≤ max_bytes) }
@@ -73,8 +73,8 @@ impl Reader {
         }
     }
 
-    /// The formula that the bytes spell. Unless memory runs out it is refused exactly where the bytes are
-    /// no text of a formula, with their first fault; a reader that has refused answers that refusal again.
+    /// The formula that the bytes spell. Unless memory runs out it is refused exactly if the bytes are
+    /// no text of a formula, with their first fault; a reader that has refused returns that refusal again.
     pub fn finish(self) -> Result<Formula, Refused>
         ensures ok { (fed : List ℕ) → HasBeenFed fed self → IfOk result (Spells fed) }
         ensures cause { (fed : List ℕ) → HasBeenFed fed self → IfErr result (IsRefusalOf fed) }

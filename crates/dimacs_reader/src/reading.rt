@@ -48,7 +48,7 @@ pub(crate) enum Held {
     Stopped(Refused),
 }
 
-/// Takes the next byte after so many.
+/// Takes the next byte, after `before` bytes.
 fn step(stage: &mut Stage, alloc: Global, byte: u8, before: usize) -> Result<(), Stop>
     requires sound { IsSound stage.old }
     requires room { before < usize.MAX }
@@ -70,7 +70,7 @@ fn step(stage: &mut Stage, alloc: Global, byte: u8, before: usize) -> Result<(),
     Ok(())
 }
 
-/// The fault of a step after so many bytes, or else the one that the bytes are too many.
+/// The fault of a step after `before` bytes, or else the fault that the bytes are too many.
 fn fault_of_step(taken: Result<(), Stop>, before: usize) -> Result<(), Stop>
     ensures ok { OnOk result ((taken ≡ Ok tt) × (before < max_bytes)) }
     ensures fault { IfErr result (λ s. ForFault s (IsFirstOf taken before)) }

@@ -21,7 +21,7 @@ pub enum Refused {
     BadToken { line: u64 },
     /// The variable of a literal is past V.
     BeyondStated { line: u64 },
-    /// A number comes when C clauses are closed.
+    /// A number occurs when C clauses are closed.
     TooManyClauses { line: u64 },
     /// There are fewer than C clauses at the end mark or at the end of the text.
     TooFewClauses { line: u64 },

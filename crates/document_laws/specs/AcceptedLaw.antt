@@ -6,7 +6,7 @@ use Rattle.lk_model.specs.Checks.Checks.{AcceptsUnder, Accepts}
 use Rattle.lk_model.specs.Reduction.{IsReductionUnder, IsReduction}
 use Rattle.lk_model.specs.declared.document.DoneDocument.{DoneDocument}
 
--- Of each class, and with any protected variables of the formula; so with those of the document.
+-- A document that the checks accept is a reduction: under any protected variables of the formula, and under its own.
 pub record AcceptedLaw : Type 0 where
   pub under : (P : Variables) (F : Cnf) (d : DoneDocument) → IsTrue (is_formula F) → AreVariables F P → AcceptsUnder P F d → IsReductionUnder P F d
   pub reduces : (F : Cnf) (d : DoneDocument) → IsTrue (is_formula F) → Accepts F d → IsReduction F d

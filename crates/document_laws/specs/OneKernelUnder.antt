@@ -5,6 +5,6 @@ use Rattle.lk_model.specs.Formulas.Formula.{Cnf}
 use Rattle.lk_model.specs.Formulas.Crossed.{Variables}
 use Rattle.lk_model.specs.Formulas.Protected.{KernelUnder}
 
--- so the kept positions are determined by the formula, the class and the protected variables
+-- the kept positions are determined by the formula, the class and the protected variables
 abbrev pub HasOneKernelUnder : Type 0
 HasOneKernelUnder = (P : Variables) (class : Class) (F : Cnf) (ps qs : List ℕ) → KernelUnder P class F ps → KernelUnder P class F qs → ps ≡ qs

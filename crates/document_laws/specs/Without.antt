@@ -7,6 +7,6 @@ use Rattle.lk_model.specs.declared.document.OpenDocument.{OpenDocument}
 abbrev pub document_without : DoneDocument → Variables → DoneDocument
 document_without d P = record d { texts = formula_without d.texts P }
 
--- and so for an unfinished one
+-- the unfinished document with its clause lines crossed out, and all other lines as they are
 abbrev pub open_without : OpenDocument → Variables → OpenDocument
 open_without d P = record d { texts = formula_without d.texts P }

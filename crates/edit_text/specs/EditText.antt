@@ -94,7 +94,7 @@ edits_of F text = unless_faulty (faults F text) (edits_in F.vars (word_lines tex
 abbrev pub IsEdits : Cnf → List Edit → List ℕ → Type 0
 IsEdits F edits text = edits_of F text ≡ Ok edits
 
--- it is none, with this fault at this line
+-- the text is no text of edits of the formula, with this fault at this line
 abbrev pub IsFaultyAt : Cnf → List ℕ → ℕ → EditFault → Type 0
 IsFaultyAt F text line fault = edits_of F text ≡ Err (line, fault)
 

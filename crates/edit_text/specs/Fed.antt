@@ -26,7 +26,7 @@ use Rattle.edit_text.specs.declared.progress.Held.TheVariants.{Going, Stopped}
 
 -- THE LINES SO FAR
 
--- the draft tells what is live, and the edits that led there
+-- the draft says what is live, and which edits led there
 pub record Tells (s : LiveClauses) (edits : List Edit) (draft : Draft) : Type 0 where
   pub vars : draft.clause.vars ≡ s.held.vars
   pub numbers : length draft.live.items ≡ length s.held.clauses
@@ -60,7 +60,8 @@ TakesLine s edits words (Some fault) next = line_fault s words ≡ Some fault
 
 -- THE BYTES SO FAR
 
--- The lines before the open one have no fault, and the draft tells what they led to. However the bytes go on, so does the open line.
+-- The lines before the open one have no fault, and the draft says what they led to. However the bytes go on, the open
+-- line goes on with them.
 pub record StandsInLine (F : Cnf) (fed : List ℕ) (line : ℕ) (open_line : OpenLine) : Type 0 where
   pub before : List (List Word)
   pub count : line ≡ length before + 1
@@ -122,6 +123,6 @@ abbrev pub IsRefusalOf : Cnf → List ℕ → EditsRefused → Type 0
 IsRefusalOf F text (Line line fault) = IsFaultyAt F text line fault
 IsRefusalOf F text OutOfMemory = Unit {0}
 
--- and so it is however the bytes go on
+-- the refusal is such a one however the bytes go on
 abbrev pub IsSettledAs : Cnf → List ℕ → EditsRefused → Type 0
 IsSettledAs F bytes refused = (more : List ℕ) → IsRefusalOf F (bytes ++ more) refused

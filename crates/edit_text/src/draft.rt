@@ -48,7 +48,7 @@ fn literals_of(f: &Formula) -> usize
     literals
 }
 
-/// Adds the clause of the current line, or tells what is wrong with it.
+/// Adds the clause of the current line, or reports what is wrong with it.
 pub(crate) fn add(draft: &mut Draft) -> Result<Option<EditFault>, OutOfMemory>
     requires { IsSoundDraft draft.old }
     ensures sound { OnOk result (IsSoundDraft draft.new) }
@@ -66,7 +66,7 @@ pub(crate) fn add(draft: &mut Draft) -> Result<Option<EditFault>, OutOfMemory>
     Ok(None)
 }
 
-/// Removes the clause of a number, or tells what is wrong with that. A number past 2^127 is given as 2^127.
+/// Removes the clause of a number, or reports what is wrong with that. A number past 2^127 is given as 2^127.
 pub(crate) fn remove(draft: &mut Draft, number: u128) -> Result<Option<EditFault>, OutOfMemory>
     requires sound { IsSoundDraft draft.old }
     requires first { 0 < number }

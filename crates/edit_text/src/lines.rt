@@ -18,7 +18,7 @@ use crate::edit::EditFault;
 use lk_model::{Lit, OpenClause, OutOfMemory};
 use lk_text::{NumberWord, classify, next_word, read_natural};
 
-/// Takes the next line, or tells what is wrong with it.
+/// Takes the next line, or reports what is wrong with it.
 pub(crate) fn take_line(draft: &mut Draft, line: &[u8]) -> Result<Option<EditFault>, OutOfMemory>
     requires sound { IsSoundDraft draft.old }
     requires line { IsTrue (is_one_line line.now) }
@@ -42,7 +42,7 @@ pub(crate) fn take_line(draft: &mut Draft, line: &[u8]) -> Result<Option<EditFau
     Ok(Some(EditFault::NotAnEdit))
 }
 
-/// Adds the clause that the words from there on write, or tells what is wrong with them.
+/// Adds the clause that the words from there on write, or reports what is wrong with them.
 fn take_added(draft: &mut Draft, line: &[u8], from: usize) -> Result<Option<EditFault>, OutOfMemory>
     requires sound { IsSoundDraft draft.old }
     requires within { from ≤ length line.now }
@@ -60,7 +60,7 @@ fn take_added(draft: &mut Draft, line: &[u8], from: usize) -> Result<Option<Edit
     add(draft)
 }
 
-/// Removes the clause whose number is the word from there on, or tells what is wrong with that.
+/// Removes the clause whose number is the word from there on, or reports what is wrong with that.
 fn take_removed(
     draft: &mut Draft,
     line: &[u8],
@@ -101,8 +101,8 @@ fn removed_number(line: &[u8], from: usize) -> Option<u128>
     Some(number)
 }
 
-/// Reads the literals up to the 0 that is the last word into a clause without one; repeats are dropped.
-/// Answers whether the words are such a clause; where they are none, it may contain some.
+/// Reads the literals up to the 0 that is the last word into a clause without literals; repeats are dropped.
+/// Returns whether the words are such a clause; if they are not, it may contain some.
 fn read_clause(clause: &mut OpenClause, line: &[u8], begin: usize) -> Result<bool, OutOfMemory>
     requires empty { clause.old.literals ≡ [] }
     requires within { begin ≤ length line.now }

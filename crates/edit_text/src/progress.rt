@@ -139,7 +139,7 @@ fn go_on(open_line: &mut OpenLine, byte: u8) -> Result<(), OutOfMemory>
     Ok(())
 }
 
-/// Ends the open line, or tells what is wrong with it.
+/// Ends the open line, or reports what is wrong with it.
 fn end_line(open_line: &mut OpenLine) -> Result<Option<EditFault>, OutOfMemory>
     requires { IsSoundLine open_line.old }
     ensures sound { OnOk result (IsSoundLine open_line.new) }

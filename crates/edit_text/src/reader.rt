@@ -48,7 +48,7 @@ impl EditsReader {
 
     /// Takes the next piece of the text. It is refused only if memory runs out, or with byte number 2^30 + 1,
     /// whatever stands before and after it: other faults are reported at the end. After a refusal the reader
-    /// holds nothing but the refusal, which each later call answers.
+    /// holds nothing but the refusal, which each later call returns.
     pub fn feed(&mut self, piece: &[u8]) -> Result<(), EditsRefused>
         ensures ok { (F : Cnf) (fed : List ℕ) → HasBeenFed F fed self.old →
             OnOk result (HasBeenFed F (fed ++ piece.now) self.new) }
@@ -72,8 +72,8 @@ impl EditsReader {
     }
 
     /// The edits that the bytes write: they can be made one after the other. Unless memory runs out it is
-    /// refused exactly where the bytes are no text of edits of the formula, with the first line that has a
-    /// fault; a reader that has refused answers that refusal again.
+    /// refused exactly if the bytes are no text of edits of the formula, with the first line that has a
+    /// fault; a reader that has refused returns that refusal again.
     pub fn finish(self) -> Result<List<Edit>, EditsRefused>
         ensures ok { (F : Cnf) (fed : List ℕ) → HasBeenFed F fed self → IfOk result (λ edits. IsEdits F edits fed) }
         ensures made { (F : Cnf) (fed : List ℕ) → HasBeenFed F fed self → IfOk result (CanBeMade (live_of F)) }

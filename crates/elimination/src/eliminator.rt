@@ -104,8 +104,8 @@ impl Eliminator {
         Ok(())
     }
 
-    /// Makes the next clause of the literals that are not false, unless it contains a live clause. False where there is no
-    /// room for it.
+    /// Makes the next clause of the literals that are not false, unless it contains a live clause. Returns false if
+    /// there is no room for it.
     fn derive(&mut self, first: u32) -> Result<bool, OutOfMemory> {
         self.resolve_false()?;
         if self

@@ -5,9 +5,9 @@
 //! through Variable and Clause Elimination", 2005). Formulas that tools write of circuits lose nine tenths of their
 //! variables so.
 //!
-//! Nothing that is found here is promised: whoever tells a refutation or a model of the formula tests it. Each clause
-//! that comes has a chain of resolutions, so that a refutation of what is left becomes one of the formula; the clauses
-//! that a variable goes with are kept, so that a model of what is left can be extended.
+//! Nothing that is found here is promised: whoever reports a refutation or a model of the formula tests it. Each
+//! clause that is added has a chain of resolutions, so that a refutation of what is left becomes one of the formula;
+//! the clauses that a variable goes with are kept, so that a model of what is left can be extended.
 #![tactic(auto)]
 
 mod allowance;

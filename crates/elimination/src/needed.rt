@@ -24,8 +24,8 @@ struct Needed<'a> {
     numbers: Vec<u64>,
 }
 
-/// The needed chains of a refutation that ends with the last one. The derived clauses are numbered after the formula's, of
-/// which there are so many.
+/// The needed chains of a refutation that ends with the last one. The derived clauses are numbered after the formula's,
+/// of which there are `positions`.
 pub(crate) fn needed_chains(
     alloc: Global,
     positions: usize,

@@ -3,13 +3,17 @@
 //! The table is the log of an elimination: the clauses of the formula have their positions as numbers, and each derived
 //! clause has the next one. None is taken out; a clause that others replace dies. Each literal has the list of its
 //! clauses. Besides, each clause stands in one single list, that of its rarest literal, in which clauses are looked for
-//! that another one contains. Signatures of 64 bits tell most clauses apart without a look at them.
+//! that another one contains. Signatures of 64 bits tell most clauses apart without a look at them. A list of which most
+//! clauses are dead is freed of these before it is gone through, so that they do not make it long again and again.
 use crate::allowance::Allowance;
 use crate::literals::literals_in;
 use crate::marks::{Marks, ranks};
 use lk_model::{Formula, FormulaError, Lit, OpenClause, OutOfMemory};
 use std::alloc::Global;
 use std::mem;
+
+/// A list that is no longer than this is not freed of dead clauses.
+const FEW: usize = 16;
 
 /// A clause in the list of a literal.
 #[derive(Clone, Copy)]
@@ -36,7 +40,7 @@ pub(crate) struct Table {
     states: Vec<State>,
     /// By the rank of a literal: the clauses with it, dead ones among them.
     lists: Vec<Vec<Entry>>,
-    /// Those that stand in this list alone.
+    /// By the rank of a literal: the clauses that stand in this list alone.
     single_lists: Vec<Vec<Entry>>,
     /// How many live clauses have the literal.
     counts: Vec<u32>,
@@ -77,17 +81,14 @@ impl Table {
         self.clauses.len()
     }
 
-    /// The clause of a number, and the empty one where there is none.
+    /// The clause of a number, or the empty one if there is none.
     pub fn clause(&self, number: u32) -> &[Lit] {
         clause_of(&self.clauses, number)
     }
 
     /// Whether a clause is live.
     pub fn is_live(&self, number: u32) -> bool {
-        match self.states.get((number as usize).wrapping_sub(1)) {
-            Some(state) => state.is_live,
-            None => false,
-        }
+        is_live(self.states.as_slice(), number)
     }
 
     /// How many live clauses have a literal.
@@ -117,6 +118,8 @@ impl Table {
     /// The live clauses with a literal.
     pub fn live(&mut self, alloc: Global, l: Lit) -> Result<Vec<u32>, OutOfMemory> {
         let mut numbers = Vec::new(alloc);
+        let live = self.count(l);
+        sweep(&mut self.lists, l, live, self.states.as_slice());
         let count = self.list_len(l);
         self.allowance.spend(count);
         for i in 0..count {
@@ -225,6 +228,8 @@ impl Table {
         marks.mark_only(clause);
         let signature = signature(clause);
         for l in clause {
+            let live = self.count(*l);
+            sweep(&mut self.single_lists, *l, live, self.states.as_slice());
             let count = self.single_len(*l);
             self.allowance.spend(count);
             if self.has_single(*l, clause.len(), signature, marks) {
@@ -266,12 +271,30 @@ fn lists(alloc: Global, n: u32) -> Result<Vec<Vec<Entry>>, OutOfMemory> {
     Ok(lists)
 }
 
-/// The clause of a number, and the empty one where there is none.
+/// The clause of a number, or the empty one if there is none.
 fn clause_of(clauses: &Formula, number: u32) -> &[Lit] {
     if number == 0 || number > clauses.len() {
         return &[];
     }
     clauses.clause(number)
+}
+
+/// Whether the clause of a number is live.
+fn is_live(states: &[State], number: u32) -> bool {
+    match states.get((number as usize).wrapping_sub(1)) {
+        Some(state) => state.is_live,
+        None => false,
+    }
+}
+
+/// Takes dead clauses out of the list of a literal, of whose clauses at most `live` are live, if they are most of it.
+fn sweep(lists: &mut Vec<Vec<Entry>>, l: Lit, live: u32, states: &[State]) {
+    let most = (live as usize).saturating_mul(2).saturating_add(FEW);
+    if let Some(list) = lists.get_mut(l.rank()) {
+        if list.len() > most {
+            list.retain(|entry| is_live(states, entry.number));
+        }
+    }
 }
 
 /// A length in 32 bits.

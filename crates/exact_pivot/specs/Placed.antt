@@ -22,7 +22,7 @@ multiple_of l k row = int_div l (denominator k row) *ℤ numerator k row
 abbrev pub made_in_multiple : ℤ → ℕ → Row → List Wide
 made_in_multiple l k row = made Product (int_div l (denominator k row)) (numerator k row) ∷ []
 
--- the same times a sign
+-- the multiple times a sign
 abbrev pub signed_of : ℤ → ℤ → ℕ → Row → ℤ
 signed_of sign l k row = sign *ℤ multiple_of l k row
 
@@ -33,7 +33,7 @@ sum_with l k row = l +ℤ multiple_of l k row
 abbrev pub made_in_sum : ℤ → ℕ → Row → List Wide
 made_in_sum l k row = made Product (int_div l (denominator k row)) (numerator k row) ∷ made Sum l (multiple_of l k row) ∷ []
 
--- of numbers beside rows that of the first row with this basic column, or another number where there is none
+-- of numbers beside rows, that of the first row with this basic column, or another number if there is none
 abbrev pub placed_at : ℤ → List Row → List ℤ → ℕ → ℤ
 placed_at d [] zs c = d
 placed_at d (row ∷ rows) [] c = d

@@ -65,7 +65,7 @@ pub record ReachedRows (start t : TableauRows) : Type 0 where
   pub unit_apart : (i : ℕ) → IsRowOf t i → entry (row_at t i).entries (unit_column t) ≡ pos 0
   -- each row combines the starting ones
   pub combined : (i : ℕ) → IsRowOf t i → IsCombined start (entry (row_at t i).entries)
-  -- so does the cost row, less its unit times the artificial cost
+  -- the cost row, less its unit times the artificial cost, combines the starting rows
   pub cost_combined : IsCombined start (λ k. entry t.cost k -ℤ entry t.cost (unit_column t) *ℤ entry (artificial_cost t) k)
   -- what solves the starting rows solves these
   pub solves : (us : List (ℕ × ℤ)) → Solves us start → Solves us t
@@ -89,5 +89,5 @@ pub record LeavingLaw : Type 0 where
   -- in the second phase a row whose basic column is artificial has 0 on its right side
   pub stands : (F : Cnf) (S : List ℕ) (t : TableauRows) (i : ℕ) → IsReached F S t → IsFalse (in_first_phase t) → IsRowOf t i → m_of t < (row_at t i).basic
       → entry (row_at t i).entries (right_column t) ≡ pos 0
-  -- so each pivot of a run is on a row, with a positive entry
+  -- each pivot of a run is on a row, with a positive entry
   pub pivots : (F : Cnf) (S : List ℕ) (t : TableauRows) (i k : ℕ) → IsReached F S t → next t ≡ PivotOn i k → IsPivot t i k

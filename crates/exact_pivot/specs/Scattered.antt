@@ -7,11 +7,11 @@ use Rattle.lk_model.specs.Formulas.Balance.{incidence}
 use Rattle.exact_rows.specs.declared.sparse.Entry.{Entry}
 use Rattle.exact_rows.specs.Sparse.{entries_of}
 
--- with a number in a column behind all of them, where it is not 0
+-- the entries with a number in a column behind all of them, if it is not 0
 abbrev pub with_number : List Entry → ℕ → ℤ → List Entry
 with_number es k x = if is_zero x then es else es ++ record { column = k; value = x } ∷ []
 
--- the column of the last entry, or 0 where there is none
+-- the column of the last entry, or 0 if there is none
 abbrev pub last_column : List Entry → ℕ
 last_column es = (slice_index_or es (length es - 1) (record { column = 0; value = pos 0 })).column
 

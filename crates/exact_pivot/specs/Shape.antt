@@ -5,7 +5,7 @@ use Rattle.lk_model.specs.Formulas.Formula.{Cnf}
 use Rattle.lk_model.specs.Linear.Rows.{Row, TableauRows, entry, r_of, right_column}
 use Rattle.exact_pivot.specs.Reached.{IsReached}
 
--- a row of so many columns, with a basic column before the cost unit, in which it is positive
+-- a row of this many columns, with a basic column before the cost unit, in which it is positive
 pub record IsRow (columns : ℕ) (row : Row) : Type 0 where
   pub width : length row.entries ≡ columns
   pub least : 0 < row.basic

@@ -13,6 +13,6 @@ pub record AreSmallEntries (es : List Entry) : Type 0 where
   pub units : All (λ (e : Entry). unsigned_abs e.value ≤ 1) es
   pub few : length es ≤ 4_000_000
 
--- of so many clauses and these rows
+-- the cost row of m clauses and these rows
 abbrev pub cost_of : ℕ → List Row → List ℤ
 cost_of m rows = map (less_column rows) (up_to m) ++ replicate (length rows) (pos 0) ++ pos 1 ∷ less_column rows (m + length rows + 2) ∷ []

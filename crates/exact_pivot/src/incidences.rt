@@ -83,7 +83,7 @@ pub fn incidences(alloc: Global, f: &Formula, kept: &[u32]) -> Result<Vec<Growin
     Ok(rows)
 }
 
-// So many rows without an entry.
+// `count` rows without an entry.
 fn empty(alloc: Global, count: usize) -> Result<Vec<Growing>, OutOfMemory>
     ensures size { IfOk result (λ rows. length rows.items ≡ count) }
     ensures value { IfOk result (λ rows. All (λ es. es ≡ []) rows.items) }

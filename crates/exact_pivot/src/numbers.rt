@@ -85,7 +85,7 @@ impl Numbers {
         combine_sparse(alloc, &mut self.row, &by.row, by.entry(k), here)
     }
 
-    /// The same where it is wanted, and else nothing.
+    /// Makes the entry in a column 0 by another row if that is wanted, and does nothing otherwise.
     pub fn clear_if(
         &mut self,
         wanted: bool,

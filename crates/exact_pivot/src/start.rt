@@ -138,7 +138,7 @@ fn push_times(row: &mut Vec<Entry>, entries: &[Entry], sign: i128) -> Result<(),
     Ok(())
 }
 
-// Appends a number in a column behind all entries, where it is not 0.
+// Appends a number in a column behind all entries, if it is not 0.
 fn push_number(row: &mut Vec<Entry>, column: usize, value: i128) -> Result<(), OutOfMemory>
     ensures { OnOk result (row.new.items ≡ with_number row.old.items column value) }
 {
@@ -148,7 +148,7 @@ fn push_number(row: &mut Vec<Entry>, column: usize, value: i128) -> Result<(), O
     Ok(())
 }
 
-/// The cost row, for so many clauses.
+/// The cost row, for m clauses.
 pub fn start_cost(alloc: Global, m: u32, rows: &[Equation]) -> Result<Numbers, OutOfMemory>
     requires size { m + length rows.now + 2 < 2 ^ 32 }
     requires widths { All (λ (row : Row). length row.entries ≡ m + length rows.now + 2) rows.now }
@@ -160,7 +160,7 @@ pub fn start_cost(alloc: Global, m: u32, rows: &[Equation]) -> Result<Numbers, O
     Ok(Numbers::of(SparseRow::of(alloc, &cost)?))
 }
 
-// Writes the cost row of so many clauses over zeros. The sums stay in the columns of the clauses and on the right side;
+// Writes the cost row of m clauses over zeros. The sums stay in the columns of the clauses and on the right side;
 // each variable's own column is 0, and the cost unit 1.
 fn write_cost(cost: &mut [i128], m: usize, rows: &[Equation])
     requires none { cost.old ≡ replicate (m + length rows.now + 2) (pos 0) }

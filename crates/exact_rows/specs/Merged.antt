@@ -10,7 +10,7 @@ next_column [] (y ∷ ys) = Some y.column
 next_column (x ∷ xs) [] = Some x.column
 next_column (x ∷ xs) (y ∷ ys) = Some (min x.column y.column)
 
--- the number in a column before which there is none, and the entries after it
+-- the number in a column, if no entry is in an earlier one, and the entries after it
 abbrev pub first_number : List Entry → ℕ → ℤ
 first_number [] k = pos 0
 first_number (e ∷ es) k = if e.column == k then e.value else pos 0

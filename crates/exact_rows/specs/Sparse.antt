@@ -25,7 +25,7 @@ entries_of row = map (λ (k, x). record { column = k; value = x }) (filter (λ (
 abbrev pub IsEntry : Entry → Type 0
 IsEntry e = IsTrue (is_nonzero e.value) × IsTrue (is_in_range e.value)
 
--- entries of a row with so many columns: their columns rise, and no number is 0
+-- entries of a row with n columns: their columns rise, and no number is 0
 pub record AreEntries (n : ℕ) (es : List Entry) : Type 0 where
   pub rise : IsTrue (rises_within 0 n (map (λ (e : Entry). e.column) es))
   pub each : All IsEntry es
@@ -40,7 +40,7 @@ abbrev pub IsStop : List Operands → SparseStop → Type 0
 IsStop results (Wide w) = first_wide results ≡ Some w
 IsStop results OutOfMemory = ⊤
 
--- it ends well where all of them are in range
+-- how such a call ends: well only if all of them are in range
 abbrev pub EndsBy : {X : Type 0} → List Operands → Result X SparseStop → Type 0
 EndsBy results (Ok x) = first_wide results ≡ None
 EndsBy results (Err stop) = IsStop results stop

@@ -13,7 +13,7 @@ pub fn gcd(a: i128, b: i128) -> i128
     gcd_unsigned(a.unsigned_abs(), b.unsigned_abs()) as i128
 }
 
-/// The same of numbers without a sign, by Euclid's algorithm.
+/// The greatest common divisor of two numbers without a sign, by Euclid's algorithm.
 fn gcd_unsigned(a: u128, b: u128) -> u128
     ensures value { result ≡ gcd a b }
     ensures most { result ≤ max a b }

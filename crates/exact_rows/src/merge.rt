@@ -86,7 +86,7 @@ fn next_column(left: &[Entry], right: &[Entry]) -> Option<usize>
     }
 }
 
-// The number in a column before which there is none.
+// The number in a column, if no entry is in an earlier one.
 fn first_number(entries: &[Entry], column: usize) -> i128
     ensures { result ≡ first_number entries.now column }
 {

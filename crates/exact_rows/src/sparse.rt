@@ -89,7 +89,7 @@ impl SparseRow {
         Ok(SparseRow::with_entries(row.len(), entries_of(alloc, row)?))
     }
 
-    /// The row of so many columns with these entries, whose columns rise. No number is 0.
+    /// The row of this many columns with these entries, whose columns rise. No number is 0.
     pub fn with_entries(columns: usize, entries: Vec<Entry>) -> SparseRow
         requires { AreEntries columns entries.items }
         ensures { result ≡ row_of columns entries.items }

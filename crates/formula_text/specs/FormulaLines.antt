@@ -13,11 +13,11 @@ has_room count texts clause = nat_lt (length texts.clauses) count && nat_le (lit
 abbrev pub put_clause : ℕ → Cnf → List ℤ → Option Cnf
 put_clause count texts clause = if has_room count texts clause then Some (with_clause texts clause) else None
 
--- what a line of these words leads to, where there are to be so many clauses
+-- what a line of these words leads to, where there are to be `count` clauses
 abbrev pub next_clause : ℕ → Cnf → List Word → Option Cnf
 next_clause count texts words = option_and_then (put_clause count texts) (clause_from texts.vars [] words)
 
--- a clause that grows, over so many variables, with no literal yet
+-- a clause that grows, over n variables, with no literal yet
 abbrev pub IsReady : ℕ → Growing → Type 0
 IsReady n growing = growing ≡ record { vars = n; literals = [] }
 

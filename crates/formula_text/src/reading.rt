@@ -22,15 +22,15 @@ pub fn has_sizes(line: &[u8], first: &[u8], second: &[u8], vars: u32, clauses: u
     }
 }
 
-/// Whether the line is the problem line of so many clauses.
+/// Whether the line is the problem line with these numbers of variables and clauses.
 pub fn is_problem(line: &[u8], vars: u32, clauses: usize) -> bool
     ensures { result ≡ is_problem vars clauses (fields line.now) }
 {
     has_sizes(line, b"p", b"cnf", vars, clauses)
 }
 
-/// Takes the line of a clause, where there are to be so many, by an open clause that has no literal before and
-/// after. The answer is whether the line was taken; nothing is used again otherwise. Fails only if memory
+/// Takes the line of a clause, where there are to be `count` clauses, by an open clause that has no literal before
+/// and after. Returns whether the line was taken; nothing is used again otherwise. Fails only if memory
 /// runs out.
 pub fn take_clause(
     texts: &mut Formula,

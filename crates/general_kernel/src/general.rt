@@ -6,9 +6,9 @@
 //! lean set.
 //!
 //! What unit propagation alone refutes comes first in each round, and then what the clauses around one refute. Only
-//! where neither is found, all clauses of the part are searched, by orders of the variables that alternate; the one that
-//! answered begins in the next such search. A refutation is kept with what it uses of it, so that the kernel can be
-//! checked without a search.
+//! where neither is found, all clauses of the part are searched, by orders of the variables that alternate; the one
+//! that ended a search begins in the next such search. A refutation is kept with what it uses of it, so that the kernel
+//! can be checked without a search.
 ghost use Rattle.std.specs.Prelude.{◌≡◌, ◌<◌, ◌^◌, length, IfOk, IsTrue};
 ghost use Rattle.lk_model.specs.Formulas.Lean.{are_positions};
 ghost use Rattle.lk_model.specs.Formulas.Formula.{variable_occurs};
@@ -35,8 +35,8 @@ use std::alloc::Global;
 use unit_refutations::{UnitRefutation, Units};
 
 /// Looks for the general kernel in the part of a formula at some positions, which ascend and count from 1, by at most
-/// so many learned clauses. The steps are numbered from the formula's number of clauses plus 1. It ends unfinished only
-/// where conflicts is below n * 3^n for the n variables of the formula. The error is that there is no memory.
+/// `conflicts` learned clauses. The steps are numbered from the formula's number of clauses plus 1. It ends unfinished
+/// only if `conflicts` is below n * 3^n for the n variables of the formula. The error is that there is no memory.
 pub fn general_kernel(
     alloc: Global,
     f: &Formula,
@@ -49,7 +49,7 @@ pub fn general_kernel(
     general_kernel_by_lists(alloc, f, part, OccurrenceLists::new(alloc, f)?, conflicts)
 }
 
-/// The same, where the lists of the formula are there.
+/// As `general_kernel`, where the lists of the formula are there.
 pub fn general_kernel_by_lists(
     alloc: Global,
     f: &Formula,

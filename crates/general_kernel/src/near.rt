@@ -2,8 +2,8 @@
 //!
 //! A part may have thousands of small refutations, and a search costs as much as its part is long. So the clauses around
 //! one of few unset literals are searched first, then those around the next one, each time in a copy as small as they
-//! are. What is found there is told of the part. Searches in vain are limited by a credit of clauses, which searches of
-//! the whole part and refutations found here add to.
+//! are. What is found there is restated for the part. Searches in vain are limited by a credit of clauses, which
+//! searches of the whole part and refutations found here add to.
 ghost use Rattle.std.specs.Prelude.{◌+◌, ◌-◌, ◌<◌, ◌^◌, length, IfOk, IfSome, IsTrue};
 ghost use Rattle.lk_model.specs.Formulas.Formula.{is_formula};
 ghost use Rattle.lk_model.specs.Held.VariableSets.{IsCrossed};
@@ -16,13 +16,13 @@ use lk_model::{Crossed, Decided, Formula, OutOfMemory, VarSet};
 use std::alloc::Global;
 use unit_refutations::{Around, Units};
 
-/// A part of at most so many clauses is searched as a whole.
+/// A part of at most this many clauses is searched as a whole.
 const LEAST: usize = 64;
 
 /// How many clauses are learned around one at most.
 const MOST_LEARNED: u64 = 64;
 
-/// How many literals of a seed are unset: at first at most so many, and at last.
+/// How many literals of a seed are unset at most: at first, and at last.
 const SHORT: u32 = 2;
 
 const LONGEST: u32 = 4;
@@ -30,13 +30,13 @@ const LONGEST: u32 = 4;
 /// A search of the whole part pays for searches in vain among this share of its clauses, and among `GAIN` more.
 const SHARE: usize = 8;
 
-/// A refutation pays for searches in vain among so many clauses.
+/// A refutation pays for searches in vain among this many clauses.
 const GAIN: usize = 128;
 
 /// Where more clauses are gathered they are not searched.
 const MOST_GATHERED: usize = 1024;
 
-/// Where the next one is searched.
+/// Where the next refutation is looked for.
 #[derive(Drop)]
 pub(crate) struct Nearby {
     around: Around,
@@ -131,7 +131,7 @@ impl Nearby {
 }
 
 /// Looks for a refutation around one clause after another, with steps numbered from `next` and at most `budget` learned
-/// clauses. No clause says that there is none where it answers none.
+/// clauses. No clause says that there is none if it returns none.
 pub(crate) fn refute_near(
     alloc: Global,
     over: &Crossed,

@@ -33,8 +33,8 @@ pub record IsDone (F : Cnf) (part : List ℕ) (conflicts : ℕ) (r : GeneralResu
   pub most : length (learned_steps r.rounds) ≤ conflicts
   pub needed : AreNeeded F no_variable r.rounds
 
--- Rounds over the part with as many learned clauses as were allowed, which are fewer than such rounds can learn. The last one
--- is not at its end.
+-- Rounds over the part with as many learned clauses as were allowed, which are fewer than n * 3^n for the n variables
+-- of the formula. The last one is not at its end.
 pub record IsUnfinished (F : Cnf) (part : List ℕ) (conflicts : ℕ) (rounds : List Round) : Type 0 where
   pub result : IsOpenResult F part rounds
   pub all : length (learned_steps rounds) ≡ conflicts

@@ -1,4 +1,4 @@
--- What the general reducer finds in a part of a formula, and the document that tells it.
+-- What the general reducer finds in a part of a formula, and the document that states it.
 use Rattle.std.specs.Prelude.{◌≡◌, ℕ, ◌+◌, ◌^◌, ◌<◌, ◌||◌, List, [], ◌∷◌, ⊤, sum_by, map, length, IsTrue, ℤ, None}
 use Rattle.std.specs.Bool.{IsFalse}
 use Rattle.std.specs.List.{list_any}

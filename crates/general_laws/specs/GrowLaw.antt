@@ -1,4 +1,4 @@
--- Rounds to which one more comes.
+-- Rounds to which one more is added.
 use Rattle.std.specs.Prelude.{◌≡◌, ℕ, ◌+◌, not, ◌||◌, List, [], ◌∷◌, ◌++◌, map, length, None, IsTrue}
 use Rattle.std.specs.List.{list_all}
 use Rattle.lk_model.specs.Lists.{is_empty}

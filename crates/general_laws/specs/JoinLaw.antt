@@ -24,7 +24,7 @@ renumbered f s = record { number = f s.number; clause = s.clause; first = f s.fi
 abbrev pub renumbered_round : (ℕ → ℕ) → Round → Round
 renumbered_round f r = record { steps = map (renumbered f) r.steps }
 
--- a number past m, moved up by so many; that of a position stays
+-- a number past m, moved up by `up`; that of a position stays
 abbrev pub moved : ℕ → ℕ → ℕ → ℕ
 moved m up k = if nat_le k m then k else k + up
 

@@ -1,4 +1,4 @@
--- What the general reducer has where it stops, and the document that tells it.
+-- What the general reducer has where it stops, and the document that states it.
 use Rattle.std.specs.Prelude.{◌≡◌, ℕ, ◌^◌, ◌<◌, List, length, None, IsTrue}
 use Rattle.lk_model.specs.Formulas.Formula.{Cnf, is_formula, IsWithinLimits}
 use Rattle.lk_model.specs.Formulas.Crossed.{no_variable}

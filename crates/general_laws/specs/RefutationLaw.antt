@@ -6,6 +6,6 @@ use Rattle.lk_model.specs.Formulas.Minimal.{IsUnsatisfiable}
 use Rattle.lk_model.specs.Checks.RoundChecks.{IsRefutation}
 use Rattle.lk_model.specs.declared.document.Round.{Round}
 
--- So no assignment satisfies the clauses at the positions.
+-- No assignment satisfies the clauses at the positions, if a round refutes them.
 pub record RefutationLaw : Type 0 where
   pub no_model : (F : Cnf) (part : List ℕ) (r : Round) → IsRefutation F part r → IsUnsatisfiable F (among part)

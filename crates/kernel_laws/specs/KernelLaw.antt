@@ -18,8 +18,8 @@ pub record IsInLean (P : Variables) (class : Class) (F : Cnf) (p : ℕ) : Type 0
 abbrev pub HasKernel : Variables → Class → Cnf → Type 0
 HasKernel P class F = (kept : List ℕ) × KernelUnder P class F kept
 
--- Two lean sets are lean together. So where it is decided of each position whether a lean set has it, there is a kernel; and
--- that there is none is refuted.
+-- Two lean sets together are lean. So there is a kernel if it is decided of each position whether a lean set has it;
+-- and that there is none is refuted.
 pub record KernelLaw : Type 0 where
   pub together : (P : Variables) (class : Class) (F : Cnf) (S T : Positions) → IsLeanUnder P class F S
       → IsLeanUnder P class F T

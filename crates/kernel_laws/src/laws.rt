@@ -8,7 +8,7 @@ pub fn one_kernel()
     ensures { HasOneKernel }
 {}
 
-/// Two lean sets are lean together, so it is refuted that a formula has no kernel of a class.
+/// Two lean sets together are lean, so it is refuted that a formula has no kernel of a class.
 #[tactic(auto, using(crate::proofs::KernelLaws::kernel_law))]
 pub fn kernel_law()
     ensures { KernelLaw }

@@ -37,7 +37,7 @@ pub record IsFirstStop (answers : List Decision) (r : Round) : Type 0 where
   pub answers_are : answers ≡ models before ++ Stopped r ∷ behind
   pub others : AreNotRefuted behind
 
--- all models, or the first refutation, or where there is none the first round that stopped
+-- all models, or the first refutation, or, if there is none, the first round that stopped
 abbrev pub IsGathered : List Decision → Decided (List (List ℤ)) Round Round → Type 0
 IsGathered answers (Model sets) = answers ≡ models sets
 IsGathered answers (Refuted r) = IsFirstRefutation answers r

@@ -59,8 +59,8 @@ pub record StopsIn (F : Cnf) (conflicts : ℕ) (part : List ℕ) (r : Round) : T
   pub names : IsTrue (names_within F part (r ∷ []))
   pub wants : WantsMore F no_variable part (r ∷ [])
 
--- No clause is empty. The round learned exactly so many clauses, over the whole formula, which are fewer than all that can
--- be learned. The document that tells them is sound for the formula, and has progress.
+-- No clause is empty. The round learned as many clauses as were allowed, over the whole formula, which are fewer than
+-- 3^n for its n variables. The document that states them is sound for the formula, and has progress.
 pub record IsUndecidedWithin (F : Cnf) (conflicts : ℕ) (r : Round) : Type 0 where
   pub filled : first_empty F ≡ None
   pub learning : IsOpenResult F (positions_of F) (r ∷ [])

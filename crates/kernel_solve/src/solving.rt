@@ -20,8 +20,8 @@ use std::alloc::Global;
 use std::marker::Sync;
 use std::thread::Threads;
 
-/// Whether a formula has a model, by at most so many learned clauses for each part of its matching kernel, and at
-/// most so many threads. Steps are numbered from the formula's number of clauses plus 1. An empty clause refutes
+/// Whether a formula has a model, by at most `conflicts` learned clauses for each part of its matching kernel, and at
+/// most `workers` threads. Steps are numbered from the formula's number of clauses plus 1. An empty clause refutes
 /// by itself: then the answer is the one step of the first such clause. Else, in the order of the parts, the first
 /// refuted one gives the refutation, and without one the first that stopped gives the open round. So it ends
 /// unfinished only if the budget is below 3^n, for the n variables of the formula.
@@ -31,8 +31,8 @@ use std::thread::Threads;
 /// many learned clauses as were allowed, and is not at its end.
 ///
 /// With two workers or more, two parts of the formula or more are worked on in halves: the left half enters the
-/// gate as 0 and the right one as 1, each before its matching kernel is looked for. So it is again with the parts
-/// of the kernel, each half before its search. (No clause speaks of halves and of the gate, or says that every
+/// gate as 0 and the right one as 1, each before its matching kernel is looked for. The parts of the kernel are
+/// halved in the same way, each half before its search. (No clause speaks of halves and of the gate, or says that every
 /// number of workers gives the same answer; tests do.) The error is that there is no memory; more steps than have
 /// numbers of 64 bits count as that.
 pub fn solve<R: Threads + Sync, G: Gate>(

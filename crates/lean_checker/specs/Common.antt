@@ -5,7 +5,7 @@ use Rattle.lk_model.specs.Formulas.Formula.{Cnf, clause_at}
 use Rattle.lk_model.specs.Checks.Check.{Check}
 use Rattle.lk_model.specs.declared.verdict.Kind.TheVariants.{KeptClause, ProtectedSet, NotAutarky, NotExactlyRemoved}
 
--- those behind that of the numbers, by their places
+-- the checks behind that of the numbers, by their places
 abbrev pub common_checks : Option ℕ → Option ℕ → Option ℕ → Option ℕ → List Check
 common_checks changed protected unsatisfied misplaced =
     record { kind = KeptClause; place = changed }

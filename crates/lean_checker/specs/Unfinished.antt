@@ -8,11 +8,11 @@ use Rattle.lk_model.specs.Checks.RoundChecks.{every_clause, bad_count, bad_step,
 use Rattle.lk_model.specs.declared.document.Round.{Round}
 use Rattle.lk_model.specs.declared.document.OpenDocument.{OpenDocument}
 
--- those of its numbers and clause lines
+-- the checks of its numbers and clause lines
 abbrev pub text_checks : Cnf → OpenDocument → List Check
 text_checks F d = other_formula F d.vars d.clauses ∷ every_clause F d ∷ bad_count d ∷ []
 
--- and those of its steps, under the set P
+-- the checks of its steps, under the set P
 abbrev pub step_checks : Variables → Cnf → List Round → List Check
 step_checks P F rounds = bad_step P F (positions_of F) rounds ∷ not_learned P F (positions_of F) rounds ∷ []
 

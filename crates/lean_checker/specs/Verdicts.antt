@@ -1,4 +1,4 @@
--- What the checker answers, and the line that tells it.
+-- What the checker reports, and the line that states it.
 use Rattle.std.specs.Prelude.{◌≡◌, ℕ, ◌-◌, List, [], ◌∷◌, ◌++◌, codes, decimal, length, replicate, Option, Some, None}
 use Rattle.lk_model.specs.Formulas.Formula.{Cnf}
 use Rattle.lk_model.specs.Texts.Lines.{Word}

@@ -1,7 +1,7 @@
 //! The whole check.
 //!
 //! The checks are made one after another: first those of every document, and then those of its class. The first one
-//! that fails is the answer.
+//! that fails is reported.
 ghost use Rattle.std.specs.Prelude.{◌≡◌, ◌<◌, ℕ, None, IfOk, IsTrue};
 ghost use Rattle.lk_model.specs.Formulas.Formula.{is_formula};
 ghost use Rattle.lk_model.specs.Formulas.Crossed.{no_variable, protected_by};
@@ -32,7 +32,7 @@ use std::thread::Threads;
 
 /// What the checks say of a document and a formula: the first failing check, or that none fails. The
 /// document may be anybody's, finished or not, of every class, with protected variables or without, if it
-/// is in form, as every document is that was read from a text. The answer is the same for each number of
+/// is in form, as every document is that was read from a text. The verdict is the same for each number of
 /// workers.
 ///
 /// Where it is `Accepted`, the kept clauses are the kernel of the document's class, the set line is an

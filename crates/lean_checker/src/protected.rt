@@ -42,7 +42,8 @@ pub(crate) fn without_protected(
     }
 }
 
-/// The same for the variables of a list.
+/// The formula without the literals on the variables of a list; None where it is the formula itself, since
+/// the list is empty.
 fn without_listed(alloc: Global, f: &Formula, vars: &[u32]) -> Result<Option<Formula>, OutOfMemory>
     requires { IsTrue (rises_within 0 f.now.vars vars.now) }
     ensures { IfOk result (λ rest. unwrap_or rest f.now ≡ formula_without f.now (among vars.now)) }

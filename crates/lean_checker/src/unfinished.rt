@@ -118,7 +118,7 @@ fn is_other_clause(f: &Formula, texts: &Formula, p: u32) -> bool
     !is_same_list(texts.clause(p), f.clause(p))
 }
 
-/// Whether so many steps have a clause that is not empty.
+/// Whether exactly `learned` steps have a clause that is not empty.
 fn has_learned(rounds: &[Round], learned: u64) -> bool
     ensures { result ≡ (length (learned_steps rounds.now) == learned) }
 {

@@ -1,4 +1,4 @@
-//! What the checker answers.
+//! What the checker reports.
 ghost use Rattle.std.specs.Prelude.{◌≡◌, ◌+◌, ◌-◌, ◌≤◌, ◌++◌, length, decimal};
 ghost use Rattle.lk_model.specs.Texts.PlainText.{line};
 ghost use Rattle.lk_model.specs.Documents.KindWords.{kind_word};
@@ -26,7 +26,7 @@ pub struct VerdictText {
     pub len: usize,
 }
 
-/// The line that tells a verdict: `accepted`, `unfinished` with how many clauses were learned, or
+/// The line that states a verdict: `accepted`, `unfinished` with how many clauses were learned, or
 /// `refused` with the kind and the place. It takes no memory.
 pub fn put_verdict(v: &Verdict) -> VerdictText
     ensures { HasLine result (line (verdict_words v.now)) }

@@ -7,7 +7,7 @@ use std::env;
 use std::io::ErrorKind;
 use std::process::ExitCode;
 
-/// The status where a word of the command line is no text. No line tells of it.
+/// The status if a word of the command line is no text. No line reports it.
 const WORDS: u8 = 1;
 
 /// The status if memory runs out for the words. No line says so.

@@ -15,7 +15,7 @@ use Rattle.watch_prop.specs.Propagation.{Propagation, is_quiet, crossed_clauses}
 abbrev pub stands_at : List Entry → ℕ → ℤ → Bool
 stands_at trail level l = option_map_or (λ k. k == level) (level_of trail (variable l)) false
 
--- or at most at it
+-- the variable of the literal was set at the level or at a lower one
 abbrev pub stands_up_to : List Entry → ℕ → ℤ → Bool
 stands_up_to trail level l = option_map_or (λ k. nat_le k level) (level_of trail (variable l)) false
 
@@ -29,7 +29,7 @@ pub record IsQuietBelow (p : Propagation) : Type 0 where
   pub quiet : (level : ℕ) → level < present_level p.trail → IsTrue (is_quiet (assignment_along (up_to_level level p.trail)) p.clauses)
 
 -- A clause that is false under the trail, with just one literal of the present level, and the highest level among the others,
--- 0 where there is none.
+-- 0 if there is none.
 pub record IsLearnedFor (trail : List Entry) (c : List ℤ) (u : ℤ) (level : ℕ) : Type 0 where
   pub falsified : IsTrue (are_false_in trail c)
   pub there : IsTrue (contains c u)

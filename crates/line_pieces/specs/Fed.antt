@@ -62,7 +62,7 @@ Extends {R} completes before after piece = (first : R) (fed : List ℕ) → Stan
 abbrev pub IsSettledAs : (List ℕ → Type 0) → List ℕ → ReadStop → Type 0
 IsSettledAs Texts fed stop = (more : List ℕ) → IsStopOf Texts (fed ++ more) stop
 
--- whatever was read before, so is the stop with these bytes
+-- whatever was read before, the stop is that of the text with these bytes, however it goes on
 abbrev pub Refuses : {R V : Type 0} → (R → Grammar V) → Progress R → List ℕ → ReadStop → Type 0
 Refuses {R} completes before piece stop = (first : R) (fed : List ℕ) → Stands completes first fed before → IsSettledAs (IsAdmitted (completes first)) (fed ++ piece) stop
 
@@ -72,7 +72,7 @@ Refuses {R} completes before piece stop = (first : R) (fed : List ℕ) → Stand
 abbrev pub EndsLine : {R V : Type 0} → (R → Grammar V) → Progress R → Progress R → List ℕ → Type 0
 EndsLine completes before after rest = LeadsOn (completes before.reader) (completes after.reader) ((before.unended.items ++ rest) ++ 10 ∷ [])
 
--- it leads nowhere, and the stop is at its number; memory may run out anywhere
+-- the open line, ended by these bytes, leads nowhere, and the stop is at its number; memory may run out anywhere
 abbrev pub RefusesLine : {R V : Type 0} → (R → Grammar V) → Progress R → List ℕ → ReadStop → Type 0
 RefusesLine completes before rest (read.Line line) =
     (line ≡ before.lines + 1) × LeadsNowhere (completes before.reader) ((before.unended.items ++ rest) ++ 10 ∷ [])

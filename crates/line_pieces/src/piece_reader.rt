@@ -51,7 +51,7 @@ impl<R: LineReader + Drop> PieceReader<R> {
     /// Takes the next piece of the text. The text is refused as soon as a line has ended with which none goes
     /// on, with the number of this line, counted from 1, whatever stands after it. The other error says that
     /// memory ran out; with it a text of 2^63 bytes is refused too. After a refusal the reader holds nothing but the
-    /// refusal, which each later call answers.
+    /// refusal, which each later call returns.
     pub fn feed(&mut self, alloc: Global, piece: &[u8]) -> Result<(), ReadStop>
         ensures fed { (first : R) (fed : List ℕ) → HasBeenFed R.completes first fed self.old
             → OnOk result (HasBeenFed R.completes first (fed ++ piece.now) self.new) }
@@ -75,9 +75,9 @@ impl<R: LineReader + Drop> PieceReader<R> {
     }
 
     /// The value of the text that ends here. Other bytes are refused with the first line with which no text
-    /// goes on, counted from 1. A last line without its byte 10 is such a line; where the text ends too early,
+    /// goes on, counted from 1. A last line without its byte 10 is such a line; if the text ends too early,
     /// so is the line after its last one. The other error says that memory ran out. A reader that has refused
-    /// answers that refusal again.
+    /// returns that refusal again.
     pub fn finish(self) -> Result<R::Value, ReadStop>
         ensures value { (first : R) (fed : List ℕ) → HasBeenFed R.completes first fed self
             → IfOk result (IsReadBy (R.completes first) fed) }

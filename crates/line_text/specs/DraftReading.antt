@@ -7,7 +7,7 @@ use Rattle.lk_model.specs.Texts.PlainText.{line}
 pub record DraftReader (D V : Type 0) : Type 0 where
   -- of which no line was read
   pub fresh : D
-  -- what a line of these words leads to, if one may come
+  -- what a line of these words leads to, if one may come next
   pub next : D → List Word → Option D
   -- the lines that were read
   pub lines : D → List (List Word)

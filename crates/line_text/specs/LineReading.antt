@@ -45,7 +45,7 @@ pub record LeadsOn {V : Type 0} (Before After : Grammar V) (line : List ℕ) : T
 abbrev pub LeadsNowhere : {V : Type 0} → Grammar V → List ℕ → Type 0
 LeadsNowhere {V} Before line = (value : V) (more : List (List ℕ)) → Before value (line ∷ more) → ⊥
 
--- the line was taken, or may not come
+-- the line was taken, or may not come next
 abbrev pub TakesLine : {V : Type 0} → Grammar V → Grammar V → List ℕ → Bool → Type 0
 TakesLine Before After line true = LeadsOn Before After (line ++ 10 ∷ [])
 TakesLine Before After line false = LeadsNowhere Before (line ++ 10 ∷ [])

@@ -21,7 +21,7 @@ pub trait LineReader {
     /// These lines, each with its byte 10, complete what it has read to a text of the value.
     ghost completes: { Self → Self.Value → List (List ℕ) → Type 0 };
 
-    /// Takes the next line, which is passed without its byte 10, or answers that no text goes on with it:
+    /// Takes the next line, which is passed without its byte 10, or reports that no text goes on with it:
     /// then the reader is spent. Fails only if memory runs out.
     fn take(&mut self, alloc: Global, line: &[u8]) -> Result<bool, OutOfMemory>
         requires fits { fits self.old }
@@ -40,7 +40,7 @@ pub trait LineReader {
 
 /// The value of a text, by a reader that has read nothing yet. Bytes that are no text of this reader are
 /// refused with the first line with which none goes on, counted from 1. A last line without its byte 10 is
-/// such a line; where the text ends too early, so is the line after its last one. The other error says
+/// such a line; if the text ends too early, so is the line after its last one. The other error says
 /// that memory ran out.
 pub fn read_lines<R: LineReader + Drop>(
     alloc: Global,

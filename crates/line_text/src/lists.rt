@@ -72,8 +72,8 @@ fn may_follow(literal: Lit, last: u32, rising: bool) -> bool
     !rising || last < literal.var()
 }
 
-/// Reads the literals of a line into a clause without one, and answers whether the line is a clause:
-/// no literal stands twice. Where it is none, the clause may contain some. Fails only if memory runs out.
+/// Reads the literals of a line into a clause without literals, and returns whether the line is a clause:
+/// no literal stands twice. If it is not, the clause may contain some. Fails only if memory runs out.
 pub fn read_clause(clause: &mut OpenClause, line: &[u8]) -> Result<bool, OutOfMemory>
     requires { clause.old.literals ≡ [] }
     ensures read { IfOk result

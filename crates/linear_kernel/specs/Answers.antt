@@ -1,4 +1,4 @@
--- What the reducer answers for a formula and a number of pivots. It may run out of memory at any time.
+-- What the reducer returns for a formula and a number of pivots. It may run out of memory at any time.
 use Rattle.std.specs.Prelude.{◌≡◌, ⊤, ℕ, false, length, Result, Ok, Err, IsTrue}
 use Rattle.lk_model.specs.Formulas.Formula.{Cnf, occurring_count}
 use Rattle.lk_model.specs.Linear.LinearRun.{RunDone, RunWide, RunBudget, linear_run, is_too_large}

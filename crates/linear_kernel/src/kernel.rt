@@ -20,7 +20,7 @@ use std::alloc::Global;
 /// How many entries the rows may have.
 const MAX_ENTRIES: u64 = 1 << 24;
 
-/// The linear kernel of a formula, by the linear run with at most so many pivots.
+/// The linear kernel of a formula, by the linear run with at most `pivots` pivots.
 ///
 /// - `kept` has the positions of the kernel, ascending and counted from 1.
 /// - `stages` has the weightings of the run, in its order. A variable has the sign of the first of them
@@ -29,8 +29,8 @@ const MAX_ENTRIES: u64 = 1 << 24;
 /// - `units` has for each variable of the kept clauses, ascending, shares of them that balance to a
 ///   number other than 0 in it and to 0 in the others.
 ///
-/// `TooLarge` comes before anything is done, exactly by the size of the rows. `Budget` and `TooWide` come
-/// exactly where the run meets them first; of one pivot the budget is asked first.
+/// `TooLarge` is reported before anything is done, exactly by the size of the rows. `Budget` and `TooWide` are
+/// reported exactly where the run meets them first; of one pivot the budget is asked first.
 pub fn linear_kernel(alloc: Global, f: &Formula, pivots: u64) -> Result<LinearResult, LinearStop>
     ensures { AnswersRun f.now pivots result }
 {
@@ -49,7 +49,7 @@ pub fn linear_kernel(alloc: Global, f: &Formula, pivots: u64) -> Result<LinearRe
     }
 }
 
-// Whether the rows for so many variables and clauses have too many entries.
+// Whether the rows for these numbers of variables and clauses have too many entries.
 fn is_too_large(vars: u32, clauses: u32) -> bool
     requires vars { vars ≤ max_vars }
     requires clauses { clauses ≤ max_clauses }

@@ -64,7 +64,7 @@ impl Run {
         })
     }
 
-    /// One move of a run that may make so many pivots.
+    /// One move of a run that may make `budget` pivots.
     pub fn advance(self, f: &Formula, budget: u64) -> Result<Progress, LinearStop>
         requires within { IsWithin f.now budget self }
         requires positions { IsTrue (are_positions f.now self.rows.positions) }
@@ -139,7 +139,7 @@ impl Run {
     }
 }
 
-// Appends the stage that stands, and answers which of the positions it leaves.
+// Appends the stage that stands, and returns which of the positions it leaves.
 fn push_stage(
     stages: &mut List<Stage>,
     alloc: Global,

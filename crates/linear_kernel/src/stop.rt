@@ -13,7 +13,7 @@ pub enum LinearStop {
     /// occur, and the cost row, with an entry for each clause, for each of the variables, for the cost
     /// unit and for the right side.
     TooLarge { vars: u32, clauses: u32 },
-    /// After so many pivots a result lies outside ±(2^127 - 1): its operands.
+    /// After `pivots` pivots a result lies outside ±(2^127 - 1): its operands.
     TooWide { pivots: u64, wide: Wide },
     /// The run wants one more pivot than the stated number.
     Budget { pivots: u64 },
@@ -22,7 +22,7 @@ pub enum LinearStop {
 }
 
 impl LinearStop {
-    // Why the run stops that has made so many pivots.
+    // Why the run stops that has made `pivots` pivots.
     pub(crate) fn after(pivots: u64, stop: PivotStop) -> LinearStop
         ensures { result ≡ stop_of pivots stop }
     {

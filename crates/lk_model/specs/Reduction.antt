@@ -54,7 +54,7 @@ pub record ReducesTo (text : List ℕ) (class : Class) (listed : Option (List �
   pub spells : Spells text formula
   pub writes : WritesReduction formula class listed pivots written
 
--- What is written is the text of a sound unfinished document of the formula, with progress and so many learned clauses.
+-- The text is that of a sound unfinished document of the formula, with progress and `learned` learned clauses.
 pub record IsUnfinishedText (F : Cnf) (listed : Option (List ℕ)) (learned : ℕ) (written : List ℕ) : Type 0 where
   pub document : OpenDocument
   pub written_is : written ≡ text_of (Unfinished document)

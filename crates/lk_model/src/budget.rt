@@ -22,7 +22,7 @@ impl Model for Budget {
 }
 
 impl Budget {
-    /// The budget of so many learned clauses, if it is one.
+    /// The budget of `conflicts` learned clauses, if that number can be one.
     pub fn new(conflicts: u64) -> Option<Budget>
         ensures some { IsSome result ↔ ((0 < conflicts) × (conflicts < 2 ^ 63)) }
         ensures value { IfSome result (λ b. b ≡ conflicts) }

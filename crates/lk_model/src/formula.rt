@@ -82,7 +82,7 @@ impl Formula {
         }
     }
 
-    /// The same formula once more.
+    /// A copy of the formula.
     pub fn copy(&self, alloc: Global) -> Result<Formula, OutOfMemory>
         ensures { IfOk result (λ f. f ≡ self.now) }
     {
@@ -122,7 +122,7 @@ impl Formula {
         list_at(&self.literals, &self.ends, k as usize - 1)
     }
 
-    /// Whether one more clause, of so many literals, passes no limit.
+    /// Whether one more clause, with this number of literals, passes no limit.
     pub fn has_room(&self, literals: usize) -> bool
         ensures limit { IsFalse result
             ↔ ((max_clauses ≤ length self.now.clauses) ⊎ (max_literals < literal_count self.now + literals)) }

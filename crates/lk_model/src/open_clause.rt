@@ -10,7 +10,7 @@ use crate::lit_table::LitTable;
 use std::alloc::Global;
 use std::marker::Model;
 
-// Up to so many literals a clause is searched: a flag lies at a random place in memory, and most
+// A clause of up to this many literals is searched: a flag lies at a random place in memory, and most
 // clauses are short.
 const SEARCHED: usize = 16;
 
@@ -21,7 +21,7 @@ const SEARCHED: usize = 16;
 pub struct OpenClause {
     vars: u32,
     literals: Vec<Lit>,
-    // so many of the literals have their flags up, from the first on, and no other literal has
+    // this many of the literals, from the first on, have their flags up, and no other literal has
     flagged: usize,
     flags: LitTable<bool>,
 }

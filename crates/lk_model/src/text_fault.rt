@@ -13,7 +13,7 @@ pub enum FaultKind {
     BadToken,
     /// The variable of a literal is past V.
     BeyondStated,
-    /// A number comes when C clauses are closed.
+    /// A number occurs when C clauses are closed.
     TooManyClauses,
     /// There are fewer than C clauses at the end.
     TooFewClauses,

@@ -45,7 +45,7 @@ impl Model for MemorySink {
 
 impl MemorySink {
     /// A sink that took nothing yet, with memory for all its room. `fail` has the numbers of the
-    /// writes that are to fail. `OutOfMemory` where there is no memory for the room.
+    /// writes that are to fail. `OutOfMemory` if there is no memory for the room.
     pub fn new(
         alloc: Global,
         room: usize,

@@ -11,7 +11,7 @@ ghost use Rattle.lk_outside.specs.declared.shelf.StartStop.TheVariants.{OutOfMem
 
 use lk_model::OutOfMemory;
 
-/// A call on the outside failed. The method that answers it says in what state that leaves the object.
+/// A call on the outside failed. The method that returns it says in what state that leaves the object.
 #[derive(Clone, Copy, Debug, PartialEq, Eq)]
 pub struct Failed;
 

@@ -20,7 +20,7 @@ impl Model for Name {
 }
 
 impl Name {
-    /// Copies a name. `OutOfMemory` where there is no memory for it.
+    /// Copies a name. `OutOfMemory` if there is no memory for it.
     pub fn of(alloc: Global, text: &str) -> Result<Name, OutOfMemory>
         ensures { IfOk result (λ name. name ≡ text.now) }
     {
@@ -52,7 +52,7 @@ impl Model for Bytes {
 }
 
 impl Bytes {
-    /// Copies a text. `OutOfMemory` where there is no memory for it.
+    /// Copies a text. `OutOfMemory` if there is no memory for it.
     pub fn of(alloc: Global, bytes: &[u8]) -> Result<Bytes, OutOfMemory>
         ensures { IfOk result (λ text. text ≡ bytes.now) }
     {

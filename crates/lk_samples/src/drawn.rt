@@ -39,7 +39,7 @@ impl Numbers {
         Ok(Lit::from_var(var, self.below(2) == 0))
     }
 
-    /// One to so many literals of the variables from 1 to n, some of which may be equal.
+    /// One to `most` literals of the variables from 1 to n, some of which may be equal.
     pub fn literals(&mut self, alloc: Global, n: u32, most: u32) -> Result<Vec<Lit>, Fail>
         requires some { 0 < n }
         requires few { n ≤ 1000000 }
@@ -53,7 +53,7 @@ impl Numbers {
     }
 }
 
-/// A formula over the variables from 1 to n with so many clauses at most, of one to three literals
+/// A formula over the variables from 1 to n with at most `count` clauses, of one to three literals
 /// each, drawn from a seed.
 pub fn drawn_formula(alloc: Global, n: u32, seed: u32, count: u32) -> Result<Formula, Fail>
     requires some { 0 < n }

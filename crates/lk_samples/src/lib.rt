@@ -1,5 +1,5 @@
 //! Literals, clauses, formulas and assignments for tests, from numbers, from texts or drawn from a seed, and what
-//! the calls ask of them, as tests that answer a Boolean; and gates that hold a half of the work.
+//! the calls ask of them, as tests that return a Boolean; and gates that hold a half of the work.
 #![tactic(auto)]
 
 mod assigned;

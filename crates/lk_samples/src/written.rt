@@ -30,7 +30,7 @@ fn signed_number_of(word: &str) -> Result<i32, Fail> {
     }
 }
 
-/// The number that is so many further from 0 than another one.
+/// The number that is `by` further from 0 than another one.
 fn moved(number: i32, by: i32) -> i32 {
     if number > 0 {
         number.saturating_add(by)
@@ -78,8 +78,8 @@ fn go_on(lits: &mut [Lit], by: i32) {
     }
 }
 
-/// Appends so many clauses, each over the variables after those of the one before, or before them where the count
-/// is negative.
+/// Appends as many clauses as the count says, each over the variables after those of the one before, or before
+/// them if the count is negative.
 fn push_row(formula: &mut Formula, lits: &mut [Lit], count: i32) -> Result<(), Fail>
     ensures { formula.new.vars ≡ formula.old.vars }
 {
@@ -115,8 +115,8 @@ fn append_texts(alloc: Global, formula: &mut Formula, text: &str) -> Result<(), 
 }
 
 /// The formula over the variables from 1 to n with the clauses that a text has, with commas between
-/// them. A blank text has no clause, and `CLAUSE * COUNT` has so many, each over the variables after those of
-/// the one before, or before them where the count is negative.
+/// them. A blank text has no clause, and `CLAUSE * COUNT` has COUNT clauses, each over the variables after those
+/// of the one before, or before them if the count is negative.
 pub fn formula_of_text(alloc: Global, n: u32, text: &str) -> Result<Formula, Fail>
     ensures { IfOk result (λ f. f.vars ≡ n) }
 {

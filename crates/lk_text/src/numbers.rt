@@ -23,7 +23,7 @@ pub enum NumberWord {
 /// From here on the numbers do not fit.
 const PAST: u128 = 1 << 127;
 
-/// So many digits fit 64 bits.
+/// Each number of this many digits fits 64 bits.
 const SHORT: usize = 18;
 
 /// Appends the shortest decimal spelling of a number: digits without a leading zero, after a

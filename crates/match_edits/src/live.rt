@@ -69,8 +69,8 @@ impl Live {
         })
     }
 
-    /// Adds a clause over the variables in which no literal stands twice, and answers its number. The error is `Limit`,
-    /// whatever memory there is, where the clauses ever held would be more than 4,000,000 with it, or their literals
+    /// Adds a clause over the variables in which no literal stands twice, and returns its number. The error is `Limit`,
+    /// whatever memory there is, if the clauses ever held would be more than 4,000,000 with it, or their literals
     /// more than 20,000,000. After an error all is as it was.
     pub fn add<L>(
         &mut self,
@@ -106,7 +106,7 @@ impl Live {
         Ok(number)
     }
 
-    /// Removes the live clause of a number. The error is `NoClause` where there is none. After an error all is as it
+    /// Removes the live clause of a number. The error is `NoClause` if there is none. After an error all is as it
     /// was.
     pub fn remove<L>(
         &mut self,
@@ -151,8 +151,8 @@ impl Live {
         self.pairs.reached_positions(alloc, &self.held, &mut marks)
     }
 
-    /// The same numbers, by a search that marks what it visits in what is kept for this. So it costs the clauses of the
-    /// kernel, and not a table of all variables; what is live does not change.
+    /// The numbers that `kernel` returns, by a search that marks what it visits in what is kept for this. So it costs
+    /// the clauses of the kernel, and not a table of all variables; what is live does not change.
     pub fn kernel_by_marks(&mut self, alloc: Global) -> Result<List<u32>, OutOfMemory>
         ensures kernel { IfOk result (λ numbers. IsLiveKernel self.old numbers) }
         ensures largest { IfOk result (λ numbers. KernelWithin TheMatching self.old.held self.old.live numbers) }

@@ -67,7 +67,7 @@ pub fn go_unmatched(pairs: &mut Pairs, index: usize)
     let _ = pairs.unmatched.remove(index);
 }
 
-/// A clause goes, and its variable looks for another one. Where each clause has a variable there is none to look for.
+/// A clause goes, and its variable looks for another one. If each clause has a variable, there is none to look for.
 /// Without memory all is as it was.
 pub fn let_go<L>(
     alloc: Global,

@@ -20,8 +20,8 @@ pub fn set_of_own(alloc: Global, f: &Formula, own: &[Own]) -> Result<List<Lit>, 
     Ok(List::from_vec(table.iter().filter_map(|entry| *entry).collect(alloc)?))
 }
 
-// The same literals, each at the place of its variable. From the last line on, so that of two lines with
-// one variable the first stays.
+// The literals that own lines make true, each at the place of its variable. The lines are taken from the last
+// one on, so that of two lines with one variable the first stays.
 fn own_literals(alloc: Global, f: &Formula, own: &[Own]) -> Result<Vec<Option<Lit>>, OutOfMemory>
     requires own { (o : AnOwn) → Contains own.now o → IsOwn f.now o }
     ensures { IfOk result (λ table. IsFirstTable f.now.vars (λ (o : AnOwn). o.var)

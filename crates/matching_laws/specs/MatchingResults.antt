@@ -1,4 +1,4 @@
--- What the matching reducer finds in a part of a formula (Kullmann 2003), and the document that tells it.
+-- What the matching reducer finds in a part of a formula (Kullmann 2003), and the document that states it.
 use Rattle.std.specs.Prelude.{◌≡◌, ℕ, ◌<◌, ◌^◌, not, ◌&&◌, ◌==◌, List, length, filter, map, find, Contains, IsTrue, ℤ, Option, None}
 use Rattle.std.specs.Bool.{IsFalse}
 use Rattle.std.specs.List.{filter_map}

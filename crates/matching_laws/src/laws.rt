@@ -11,7 +11,7 @@ pub fn matching_law()
 {}
 
 /// What the matching reducer finds in a part is the matching kernel of the part, and the document that
-/// tells it is in form and passes the checks there.
+/// states it is in form and passes the checks there.
 #[tactic(auto, using(crate::proofs::MatchingReductions::matching_result_law))]
 pub fn matching_result_law()
     ensures { MatchingResultLaw }

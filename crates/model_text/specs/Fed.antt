@@ -18,7 +18,7 @@ pub record AreRead (n : ℕ) (lines : List (List Word)) (draft : ModelDraft) : T
   pub lawful : IsTrue (list_all (is_model_line n) lines)
   pub gives : Gives (flat_map line_numbers lines) draft
 
--- so many lines ended and were read; however the bytes go on, so does the open line
+-- this many lines ended and were read; however the bytes go on, the open line goes on with them
 pub record StandsAt (n : ℕ) (fed unended : List ℕ) (lines : ℕ) (draft : ModelDraft) : Type 0 where
   pub before : List (List Word)
   pub count : lines ≡ length before

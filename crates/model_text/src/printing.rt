@@ -6,7 +6,7 @@ use line_text::{put, put_clause_line};
 use lk_model::{Lit, OutOfMemory};
 use std::alloc::Global;
 
-/// The line that tells a model as solvers do: `v`, its literals, and 0. Fails only if memory for the
+/// The line that states a model as solvers do: `v`, its literals, and 0. Fails only if memory for the
 /// text runs out.
 pub fn print_model(alloc: Global, literals: &[Lit]) -> Result<Vec<u8>, OutOfMemory>
     ensures { IfOk result (λ text. text.items ≡ line (codes "v" ∷ literal_words literals.now)) }

@@ -99,7 +99,7 @@ fn go_on(unended: &mut Vec<u8>, byte: u8) -> Result<(), OutOfMemory>
     Ok(())
 }
 
-/// Takes the line that ends here and forgets it, or answers that it is faulty.
+/// Takes the line that ends here and forgets it, or reports that it is faulty.
 fn end_line(draft: &mut ModelDraft, unended: &mut Vec<u8>) -> bool
     requires { IsTrue (is_one_line unended.old.items) }
     ensures vars { length draft.new.values ≡ length draft.old.values }

@@ -44,7 +44,7 @@ impl ModelReader {
     /// Takes the next piece of the text. The text is refused as soon as a line has ended with which it is no
     /// model text, with the number of this line, counted from 1, whatever stands after it. The other error says
     /// that memory ran out; with it a text of 2^63 bytes is refused too. After a refusal the reader holds nothing
-    /// but the refusal, which each later call answers.
+    /// but the refusal, which each later call returns.
     pub fn feed(&mut self, piece: &[u8]) -> Result<(), ReadStop>
         ensures fed { (n : ℕ) (fed : List ℕ) → HasBeenFed n fed self.old →
             OnOk result (HasBeenFed n (fed ++ piece.now) self.new) }
@@ -69,7 +69,7 @@ impl ModelReader {
 
     /// The values that the text gives that ends here. Its last line may lack its byte 10. Other bytes are
     /// refused with the first line with which they are no model text, counted from 1. The other error says
-    /// that memory ran out. A reader that has refused answers that refusal again.
+    /// that memory ran out. A reader that has refused returns that refusal again.
     pub fn finish(self) -> Result<Partial, ReadStop>
         ensures model { (n : ℕ) (fed : List ℕ) → HasBeenFed n fed self → IfOk result (IsModelRead fed n) }
         ensures stop { (n : ℕ) (fed : List ℕ) → HasBeenFed n fed self → IfErr result (IsModelStop fed n) }

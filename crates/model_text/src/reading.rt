@@ -18,7 +18,7 @@ pub(crate) struct ModelDraft {
     pub closed: bool,
 }
 
-/// Takes the next line, or answers that it is faulty.
+/// Takes the next line, or reports that it is faulty.
 pub(crate) fn take_line(draft: &mut ModelDraft, line: &[u8]) -> bool
     requires { IsTrue (is_one_line line.now) }
     ensures vars { length draft.new.values ≡ length draft.old.values }
@@ -56,7 +56,7 @@ fn says_satisfiable(line: &[u8], from: usize) -> bool
     &line[word.begin..word.end] == b"SATISFIABLE".as_slice()
 }
 
-/// Takes the words from there on, or answers that one of them is faulty.
+/// Takes the words from there on, or reports that one of them is faulty.
 fn take_words(draft: &mut ModelDraft, line: &[u8], begin: usize) -> bool
     requires within { begin ≤ length line.now }
     requires one_line { IsTrue (is_one_line line.now) }
@@ -74,7 +74,7 @@ fn take_words(draft: &mut ModelDraft, line: &[u8], begin: usize) -> bool
     true
 }
 
-/// Takes a word after `v`, or answers that it is faulty: no number, one after the 0, or a literal
+/// Takes a word after `v`, or reports that it is faulty: no number, one after the 0, or a literal
 /// whose complement was given.
 fn take_word(draft: &mut ModelDraft, word: &[u8]) -> bool
     ensures vars { length draft.new.values ≡ length draft.old.values }

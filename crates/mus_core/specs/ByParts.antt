@@ -18,7 +18,7 @@ use Rattle.mus_core.specs.declared.mus.Mus.{Mus}
 abbrev pub IsStop : Cnf → ℕ → Stop → Type 0
 IsStop F conflicts s = IsStoppedAt F conflicts s.part s.open.texts s.open.round
 
--- a refutation of the clauses at its positions, by at most so many learned clauses
+-- a refutation of the clauses at its positions, by at most `conflicts` learned clauses
 pub record IsRefutedSet (F : Cnf) (conflicts : ℕ) (r : Refutation) : Type 0 where
   pub positions : IsTrue (are_positions F r.used)
   pub refuted : IsPartRefuted F r.used conflicts r.round
@@ -38,7 +38,7 @@ pub record IsFirstStop (F : Cnf) (conflicts : ℕ) (parts : List (List ℕ)) (s 
   pub models : AllByRecursion (λ p. IsSatisfiable F (among p)) before
   pub others : AllByRecursion (IsNotRefuted F conflicts) behind
 
--- a model of the formula, a refutation of some of its clauses, or the answer that the search stopped
+-- a model of the formula, a refutation of some of its clauses, or the result that the search stopped
 abbrev pub IsDecidedByParts : Cnf → ℕ → Decided (List ℤ) Refutation Mus → Type 0
 IsDecidedByParts F conflicts (Model lits) = IsPartModel F (positions_of F) lits
 IsDecidedByParts F conflicts (Refuted r) = IsRefutedSet F conflicts r

@@ -1,4 +1,4 @@
--- What the search for a minimally unsatisfiable core answers.
+-- What the search for a minimally unsatisfiable core returns.
 use Rattle.std.specs.Prelude.{◌≡◌, ◌⊎◌, ℕ, ◌^◌, ◌<◌, ◌≤◌, ◌==◌, not, List, [], ◌∷◌, ◌++◌, map, filter, find, length, ℤ, IfSome, IsTrue}
 use Rattle.std.specs.List.{AllByRecursion}
 use Rattle.lk_model.specs.Lists.{among, is_empty}
@@ -23,7 +23,7 @@ pub record IsWholeModel (F : Cnf) (lits : List ℤ) : Type 0 where
   pub total : map variable lits ≡ variables_to F.vars
   pub satisfied : IsModel F (all_of F) (assignment_of lits)
 
--- a core whose refutation has at most so many learned clauses, where each step is reached backwards from the last one
+-- a core whose refutation has at most `conflicts` learned clauses, each step reached backwards from the last one
 pub record IsCoreWithin (F : Cnf) (conflicts : ℕ) (r : MusResult) : Type 0 where
   pub core : IsCore F r.core r.round r.without
   pub needed : IsTrue (is_trimmed r.round)
@@ -31,8 +31,8 @@ pub record IsCoreWithin (F : Cnf) (conflicts : ℕ) (r : MusResult) : Type 0 whe
 
 -- WHERE THE BUDGET IS USED UP
 
--- The texts are the clauses at the positions. Over them as a formula of their own the open round has learned exactly so many
--- clauses, which are fewer than can be learned over the variables, and it is not at its end.
+-- The texts are the clauses at the positions. Over them as a formula of their own the open round has learned as many
+-- clauses as were allowed, which are fewer than 3^n for the n variables of the formula, and it is not at its end.
 pub record IsStoppedAt (F : Cnf) (conflicts : ℕ) (part : List ℕ) (texts : Cnf) (r : Round) : Type 0 where
   pub positions : IsTrue (are_positions F part)
   pub texts_are : texts ≡ clauses_at F part
@@ -79,7 +79,7 @@ IsMus F conflicts (Core r) = IsCoreWithin F conflicts r
 IsMus F conflicts (Model lits) = IsWholeModel F lits
 IsMus F conflicts (Unfinished part texts round) = IsUndecidedAt F conflicts part texts round
 
--- the answer is a core of these positions
+-- the result is a core of these positions
 abbrev pub HasCore : List ℕ → Mus → Type 0
 HasCore ps (Core r) = r.core ≡ ps
 HasCore ps (Model lits) = ⊥

@@ -1,4 +1,4 @@
--- A refuted set with witnesses for some of its places, and what comes when a clause is left out.
+-- A refuted set with witnesses for some of its places, and what follows when a clause is left out.
 use Rattle.std.specs.Prelude.{◌≡◌, ℕ, ◌<◌, ◌≤◌, Bool, true, false, List, Option, filter, map, length, is_some, IsTrue}
 use Rattle.lk_model.specs.Lists.{among}
 use Rattle.lk_model.specs.Formulas.Formula.{Cnf, positions_of}
@@ -12,7 +12,7 @@ use Rattle.mus_core.specs.declared.shrinking.LeftOut.TheVariants.{Kept, On, Ende
 use Rattle.mus_core.specs.Found.{IsMus}
 use Rattle.mus_core.specs.WitnessValues.{witness_at, AreHeld, is_open}
 
--- A refutation of the clauses at places of a copy, in the formula's numbers, by at most so many learned clauses.
+-- A refutation of the clauses at places of a copy, in the formula's numbers, by at most `conflicts` learned clauses.
 pub record IsRefutedWithin (c : Copy) (conflicts : ℕ) (r : Refuted) : Type 0 where
   pub places : IsTrue (are_positions c.clauses r.used)
   pub refuted : IsPartRefuted c.formula (map (nth c.part) r.used) conflicts r.round

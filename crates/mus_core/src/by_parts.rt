@@ -21,7 +21,7 @@ use std::alloc::Global;
 /// How many clauses each order may learn of a part when all parts are searched for the first time.
 const FIRST_BUDGET: u64 = 1_000;
 
-/// What is decided of a formula of which no clause is empty, where the search in each part may learn so many clauses.
+/// What is decided of a formula of which no clause is empty, if the search in each part may learn `conflicts` clauses.
 pub(crate) fn decide_by_parts(
     alloc: Global,
     f: &Formula,

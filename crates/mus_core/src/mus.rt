@@ -1,4 +1,4 @@
-//! What the search for a core answers.
+//! What the search for a core returns.
 use lk_model::{Formula, List, Lit, MusResult, Round};
 
 /// What is found of a formula.

@@ -57,7 +57,7 @@ impl Walk {
         })
     }
 
-    // Takes up a place, and tells whether it was not known.
+    // Takes up a place if it is not known, and returns whether it did.
     fn come_to(&mut self, p: u32) -> Result<bool, OutOfMemory>
         ensures { (t : ℕ → Bool) → IsTrue (t p) → IsTrue (list_all t self.old.places.items) →
             IsTrue (list_all t self.new.places.items) }

@@ -15,11 +15,11 @@ use part_formula::Refuted;
 use partial_assign::{Partial, assignment_of, extend_total};
 use std::alloc::Global;
 
-/// A minimally unsatisfiable core of a formula, or a model of it, where each single decision may learn so many clauses.
-/// So many has the refutation of the core at most, and none of its steps is needless. The search is unfinished only
-/// where these are fewer than 3^n, for the n variables of the formula, and no part of the formula is refuted, or a core
-/// was being made smaller. Where a clause is empty, the first such clause is the core. The error is that there is no
-/// memory; more steps than have numbers of 64 bits count as that.
+/// A minimally unsatisfiable core of a formula, or a model of it, where each single decision may learn `conflicts`
+/// clauses. The refutation of the core has at most that many learned clauses, and none of its steps is needless. The
+/// search is unfinished only if `conflicts` is below 3^n, for the n variables of the formula, and no part of the
+/// formula is refuted, or a core was being made smaller. If a clause is empty, the first such clause is the core. The
+/// error is that there is no memory; more steps than have numbers of 64 bits count as that.
 pub fn minimal(alloc: Global, f: &Formula, conflicts: Budget) -> Result<Mus, OutOfMemory>
     ensures found { IfOk result (IsMus f.now conflicts) }
     ensures empty { IfOk result (TakesEmpty f.now) }

@@ -1,4 +1,4 @@
-//! A core, told in the numbers of the formula.
+//! A core, stated in the numbers of the formula.
 ghost use Rattle.std.specs.Prelude.{◌≡◌, ℕ, None, find, not, is_some, length, IfOk, IfSome, IsTrue};
 ghost use Rattle.lk_model.specs.Formulas.Formula.{variable_occurs};
 ghost use Rattle.lk_model.specs.Formulas.Lean.{are_positions};

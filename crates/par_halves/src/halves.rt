@@ -9,7 +9,7 @@ use std::alloc::Global;
 use std::marker::{Send, Sync};
 use std::thread::{Threads, join};
 
-/// For each index and item what f may answer on it, in their order. The clauses name no gate and no number
+/// For each index and item what f may return on it, in their order. The clauses name no gate and no number
 /// of workers.
 pub fn map_halves<
     R: Threads + Sync,
@@ -26,7 +26,7 @@ pub fn map_halves<
     Ok(List::from_vec(in_halves(rt, alloc, Some(gate), 0, items, workers, f)?))
 }
 
-// The same for items that stand from an index on. With two workers or more and two items or more the items
+// As `map_halves`, for items that stand from an index on. With two workers or more and two items or more the items
 // are halved, and so are the workers. Where there is a gate, the left half enters it as 0 and the right half
 // as 1, each before its first item; further splits have none.
 #[cycle(halves)]
@@ -81,7 +81,7 @@ fn enter_gate<G: Gate>(gate: Option<&G>, half: u32) {
     }
 }
 
-// The answers on the left half, and then those on the right one.
+// What was returned on the left half, and then what was returned on the right one.
 fn appended<U: Drop>(left: Vec<U>, right: Vec<U>) -> Result<Vec<U>, OutOfMemory>
     ensures { IfOk result (λ v. v.items ≡ left.items ++ right.items) }
 {

@@ -13,8 +13,8 @@ pub record IsDisjointCover (F : Cnf) (groups : List (List ℕ)) : Type 0 where
   pub apart : (j k v : ℕ) → IsTrue (variable_occurs F (slice_index_or groups j []) v)
       → IsTrue (variable_occurs F (slice_index_or groups k []) v) → j ≡ k
 
--- The same, where each position stands in one group only, and there once, as groups ascend. Of a clause with a literal
--- this follows, since its variables occur in one group only; of an empty clause it does not.
+-- Such groups, where each position stands in one group only, and there once, as groups ascend. Of a clause with a
+-- literal this follows, since its variables occur in one group only; of an empty clause it does not.
 pub record IsPartition (F : Cnf) (groups : List (List ℕ)) : Type 0 where
   pub cover : IsDisjointCover F groups
   pub once : (j k p : ℕ) → IsTrue (among (slice_index_or groups j []) p)

@@ -30,7 +30,7 @@ none_found clauses vars = record { labels = replicate (clauses + 1) 0; owners = 
 abbrev pub labelled : ℕ → ℕ → Found → Found
 labelled part p s = cond (slice_index s.labels p == 0) (record s { labels = slice_set s.labels p part; pending = s.pending ++ p ∷ [] }) s
 
--- so do all positions of a list
+-- the positions of a list that have no number get this one
 abbrev pub all_labelled : ℕ → List ℕ → Found → Found
 all_labelled part [] s = s
 all_labelled part (p ∷ ps) s = all_labelled part ps (labelled part p s)
@@ -61,7 +61,7 @@ pub record IsSearching (F : Cnf) (s : Found) (hand : List ℕ) : Type 0 where
   pub least : (p : ℕ) → slice_index s.labels p ≢ 0 → slice_index_or s.roots (slice_index s.labels p - 1) 0 ≤ p
   -- where a variable was passed, all clauses that mention it have its number
   pub owned : (v p : ℕ) → slice_index_or s.owners v 0 ≢ 0 → mentions (clause_at F p) v ≡ true → slice_index s.labels p ≡ slice_index_or s.owners v 0
-  -- and where a position was passed, so were its variables
+  -- where a position with a number is not at hand, its variables were passed with this number
   pub passed : (v p : ℕ) → slice_index s.labels p ≢ 0 → mentions (clause_at F p) v ≡ true → (among hand p ≡ true) ⊎ (slice_index_or s.owners v 0 ≡ slice_index s.labels p)
   pub now : (p : ℕ) → among hand p ≡ true → slice_index s.labels p ≡ length s.roots
   pub before : (p : ℕ) → 0 < p → p < slice_index_or s.roots (length s.roots - 1) 0 → slice_index s.labels p ≢ 0
@@ -104,6 +104,6 @@ pub record AreLabels (F : Cnf) (labels roots : List ℕ) : Type 0 where
 abbrev pub positions_with : List ℕ → ℕ → List ℕ
 positions_with labels k = filter (λ p. slice_index labels p == k) (up_to (length labels - 1))
 
--- those of each number
+-- the positions with each number up to `count`
 abbrev pub gathered : List ℕ → ℕ → List (List ℕ)
 gathered labels count = map (positions_with labels) (up_to count)

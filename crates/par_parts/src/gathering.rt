@@ -19,7 +19,7 @@ pub fn parts(alloc: Global, f: &Formula) -> Result<List<List<u32>>, OutOfMemory>
     parts_by_lists(alloc, f, &OccurrenceLists::new(alloc, f)?)
 }
 
-/// The same, where the lists of the formula are there.
+/// As `parts`, where the lists of the formula are there.
 pub fn parts_by_lists(
     alloc: Global,
     f: &Formula,
@@ -52,7 +52,7 @@ pub(crate) fn gather(
     Ok(parts)
 }
 
-// So many lists without an item.
+// `count` lists without an item.
 fn empty_lists(alloc: Global, count: usize) -> Result<Vec<List<u32>>, OutOfMemory>
     ensures { IfOk result (λ v. v.items ≡ replicate count []) }
 {

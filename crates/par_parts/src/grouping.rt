@@ -12,7 +12,7 @@ use lk_model::{Formula, List, OutOfMemory};
 use occurrence_lists::OccurrenceLists;
 use std::alloc::Global;
 
-/// The parts of a formula, whole, in at most so many groups. Each group is ascending, and each position
+/// The parts of a formula, whole, in at most `most` groups. Each group is ascending, and each position
 /// stands in exactly one, that of an empty clause too.
 pub fn part_groups(alloc: Global, f: &Formula, most: u32) -> Result<List<List<u32>>, OutOfMemory>
     requires { 1 ≤ most }

@@ -22,7 +22,7 @@ sets_only lits = record { kept = []; set = lits; rounds = [] }
 abbrev pub IsPartModel : Cnf → List ℕ → List ℤ → Type 0
 IsPartModel F part lits = IsGeneralResult F part (sets_only lits)
 
--- A refutation of the part's clauses, with at most so many learned clauses. No step is needless.
+-- A refutation of the part's clauses, with at most `conflicts` learned clauses. No step is needless.
 pub record IsPartRefuted (F : Cnf) (part : List ℕ) (conflicts : ℕ) (r : Round) : Type 0 where
   pub refutation : IsRefutation F part r
   pub needed : AreNeeded F no_variable (r ∷ [])

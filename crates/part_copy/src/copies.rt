@@ -18,8 +18,8 @@ use std::alloc::Global;
 use std::marker::Model;
 
 /// The clauses of a formula at some positions, copied in their order into a formula whose variables are numbered from 1
-/// without a gap, so that tables for the copy are as long as the part. What is found in all of the copy is told in the
-/// formula's numbers: variables, positions, and steps, which count on from the formula's number of clauses plus 1.
+/// without a gap, so that tables for the copy are as long as the part. What is found in all of the copy is stated in
+/// the formula's numbers: variables, positions, and steps, which count on from the formula's number of clauses plus 1.
 ///
 /// Contracts see the formula, the positions, the names of the copy's variables in the formula, and the copied clauses.
 #[derive(Drop)]
@@ -141,7 +141,7 @@ impl<'a> PartCopy<'a> {
         self.renaming().only(alloc, round)
     }
 
-    /// A round that is open, told of the clauses that were copied as a formula of their own. Its steps are to have
+    /// A round that is open, stated for the clauses that were copied as a formula of their own. Its steps are to have
     /// numbers of 64 bits.
     pub fn open_alone(&self, alloc: Global, round: Round) -> Result<OpenRound, OutOfMemory>
         ensures texts { IfOk result (λ o. o.texts ≡ clauses_at self.now.formula self.now.part) }

@@ -1,4 +1,5 @@
-//! Clauses of a formula, copied under numbers of their own, and what is found in the copy, told in the formula's numbers.
+//! Clauses of a formula, copied under numbers of their own, and what is found in the copy, stated in the formula's
+//! numbers.
 #![tactic(auto)]
 
 mod copies;

@@ -14,7 +14,7 @@ use Rattle.part_formula.specs.declared.deciding.Refuted.{Refuted as Refutation}
 abbrev pub Decision : Type 0
 Decision = Decided (List ℤ) Round Round
 
--- So many steps with a literal a refutation may have: those that a search learns, and three of an elimination for each
+-- How many steps with a literal a refutation may have: those that a search learns, and three of an elimination for each
 -- literal of the formula.
 abbrev pub most_steps : Cnf → ℕ → ℕ
 most_steps F conflicts = conflicts + 3 * literal_count F
@@ -32,7 +32,7 @@ pub record IsRefuted (F : Cnf) (conflicts : ℕ) (r : Refutation) : Type 0 where
   pub positions : IsTrue (are_positions F r.used)
   pub refuted : IsPartRefuted F r.used conflicts r.round
 
--- likewise of all clauses
+-- a model of all clauses, a refutation of them, or an open round of as many learned clauses as were allowed
 abbrev pub IsDecided : Cnf → ℕ → Decided (List ℤ) Refutation Round → Type 0
 IsDecided F conflicts (Model lits) = IsPartModel F (positions_of F) lits
 IsDecided F conflicts (Refuted r) = IsRefuted F conflicts r

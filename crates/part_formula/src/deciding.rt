@@ -30,7 +30,7 @@ pub struct Refuted {
 }
 
 /// Looks for a model of the clauses of a formula at some positions, which ascend and count from 1, by at most
-/// so many learned clauses. None of the clauses is empty. Variables, positions and steps have the formula's
+/// `conflicts` learned clauses. None of the clauses is empty. Variables, positions and steps have the formula's
 /// numbers; steps are numbered from its number of clauses plus 1. Time and memory are those of the part's
 /// clauses. The error is that there is no memory; more steps than have numbers of 64 bits count as that.
 pub fn decide_part(
@@ -66,8 +66,9 @@ fn decide_all(alloc: Global, f: &Formula, conflicts: Budget) -> Result<Decision,
     }
 }
 
-/// The same of all clauses of a formula, in tables as long as it is, and by the schedule that is handed in. A
-/// refutation comes with the positions that it uses.
+/// Looks for a model of all clauses of a formula, none of which is empty, by at most `conflicts` learned clauses, in
+/// tables as long as the formula is, and by the schedule that is handed in. A refutation comes with the positions
+/// that it uses.
 pub fn decide_clauses(
     alloc: Global,
     f: &Formula,

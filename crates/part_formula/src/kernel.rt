@@ -15,7 +15,7 @@ use part_copy::PartCopy;
 use std::alloc::Global;
 
 /// What `general_kernel` finds in the part of a formula at some positions, which ascend and count from 1, by
-/// at most so many learned clauses. Variables, positions and steps have the formula's
+/// at most `conflicts` learned clauses. Variables, positions and steps have the formula's
 /// numbers. Time and memory are those of the part's clauses. The error is that there is no memory; more steps
 /// than have numbers of 64 bits count as that.
 pub fn kernel_of_part(
@@ -36,8 +36,8 @@ pub fn kernel_of_part(
     copy.general(alloc, found)
 }
 
-/// The same, where the lists of the formula are there. A search where the part stands has them; else they are gone
-/// before the copy is made.
+/// As `kernel_of_part`, where the lists of the formula are there. A search where the part stands has them; else they
+/// are gone before the copy is made.
 pub fn kernel_of_only_part(
     alloc: Global,
     f: &Formula,

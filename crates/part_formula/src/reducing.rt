@@ -1,7 +1,7 @@
 //! Whether the clauses of a formula have a model, by elimination of variables and a search of what is left.
 //!
-//! Nothing of an elimination is proved. Its refutations are made anew over the formula, chain by chain, and its models are
-//! tested clause by clause; what does not stand the test is no answer.
+//! Nothing of an elimination is proved, nor of the search of what it leaves, which forgets clauses. Refutations are made
+//! anew over the formula, chain by chain, and models are tested clause by clause; what does not stand the test is no answer.
 ghost use Rattle.std.specs.Prelude.{◌≡◌, ◌<◌, ◌+◌, ◌^◌, IfOk, IfSome, IsTrue, find, length, not};
 ghost use Rattle.lk_model.specs.Formulas.Assignment.{satisfies};
 ghost use Rattle.lk_model.specs.Formulas.Formula.{clause_at, positions_of};
@@ -9,8 +9,7 @@ ghost use Rattle.lk_model.specs.Held.PartialValues.{assignment_by};
 ghost use Rattle.part_copy.specs.Found.{are_filled, IsPartModel, IsPartRefuted};
 ghost use Rattle.part_formula.specs.Decisions.{IsDecision, most_steps};
 
-use crate::deciding::{Decision, decide_clauses};
-use cdcl_core::Schedule;
+use crate::deciding::Decision;
 use elimination::{Eliminated, literals_in};
 use general_kernel::set_of;
 use lk_model::{Budget, Crossed, Decided, Formula, List, Lit, OutOfMemory, Round, VarSet};
@@ -81,13 +80,13 @@ fn search(
     if !is_less(rest.clauses(), f) {
         return Ok(Found::Nothing);
     }
-    match decide_clauses(alloc, rest.clauses(), &mut Schedule::new(), conflicts)? {
-        Decided::Model(literals) => Ok(Found::Model(rest.literals(literals))),
-        Decided::Refuted(found) => Ok(Found::Refutation(Some(rest.refutation(
-            alloc,
-            found.round,
-        )?))),
-        Decided::Stopped(_) => Ok(Found::Nothing),
+    match quick_search::decide(alloc, rest.clauses(), conflicts)? {
+        Decided::Model(values) => match tested_model(alloc, rest.clauses(), &values)? {
+            Some(literals) => Ok(Found::Model(rest.literals(literals))),
+            None => Ok(Found::Nothing),
+        },
+        Decided::Refuted(round) => Ok(Found::Refutation(Some(rest.refutation(alloc, round)?))),
+        Decided::Stopped(()) => Ok(Found::Nothing),
     }
 }
 
@@ -97,7 +96,7 @@ fn is_less(rest: &Formula, f: &Formula) -> bool {
         && is_within(rest.len(), f.len(), MOST_CLAUSES_LEFT)
 }
 
-/// Whether a number is at most so many hundredths of another one.
+/// Whether a number is at most this many hundredths of another one.
 fn is_within(part: u32, whole: u32, hundredths: u64) -> bool {
     u64::from(part).saturating_mul(100) <= u64::from(whole).saturating_mul(hundredths)
 }

@@ -52,14 +52,14 @@ pub record MadeLaw : Type 0 where
 
 -- WHAT THAT SHOWS
 
--- What the reducer finds in all positions, by rounds of which nothing is needless, with at most so many learned clauses for
--- each part.
+-- What the reducer finds in all positions, by rounds of which nothing is needless, with at most `conflicts` learned
+-- clauses for each part.
 pub record IsFoundWhole (F : Cnf) (conflicts : ℕ) (t : GeneralResult) : Type 0 where
   pub result : IsGeneralResult F (positions_of F) t
   pub needed : AreNeeded F no_variable t.rounds
   pub budget : AreWithinBudget no_variable F conflicts t.rounds
 
--- the kernel of a part is found by so many learned clauses
+-- the kernel of a part is found by at most `conflicts` learned clauses
 abbrev pub CanBeDone : Cnf → ℕ → List ℕ → Type 0
 CanBeDone F conflicts part = (r : GeneralResult) × IsDone F part conflicts r
 

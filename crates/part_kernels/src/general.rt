@@ -21,7 +21,7 @@ use std::ops::ControlFlow;
 use std::thread::Threads;
 
 /// The general kernel of a formula with literals that satisfy its other clauses and trimmed rounds, by at
-/// most so many learned clauses for each part, and at most so many threads. Where parts
+/// most `conflicts` learned clauses for each part, and at most `workers` threads. Where parts
 /// are not finished: the rounds of the first of them, whole ones and an open one, untrimmed. Steps are
 /// numbered from the formula's number of clauses plus 1. With two workers or more and two parts or more a
 /// left half of the parts enters the gate as 0 and a right half as 1, each before it is worked on; else none

@@ -20,7 +20,7 @@ use std::marker::Sync;
 use std::thread::Threads;
 
 /// The matching kernel of a formula, a variable for each removed position, and a row for each variable of
-/// the kernel, by at most so many threads. With two workers or more and two parts or more a left half of the
+/// the kernel, by at most `workers` threads. With two workers or more and two parts or more a left half of the
 /// parts enters the gate as 0 and a right half as 1, each before it is worked on; else none enters.
 pub fn matching_by_parts<R: Threads + Sync, G: Gate>(
     rt: &R,
@@ -40,7 +40,7 @@ pub fn matching_by_parts<R: Threads + Sync, G: Gate>(
     join_matching(alloc, f.len(), found)
 }
 
-// The same, with all positions as one group.
+// As `matching_by_parts`, with all positions as one group.
 fn matching_at_once(alloc: Global, f: &Formula) -> Result<MatchingResult, OutOfMemory>
     ensures { IfOk result (λ r. IsMatchingResult f.now (positions_of f.now) r) }
 {

@@ -44,7 +44,7 @@ impl Partial {
         })
     }
 
-    /// The same assignment once more. It takes the memory of the result alone.
+    /// A copy of the assignment. It takes the memory of the result alone.
     pub fn copy(&self, alloc: Global) -> Result<Partial, OutOfMemory>
         ensures { IfOk result (λ p. p ≡ self.now) }
     {

@@ -32,8 +32,8 @@ fn learned_count(steps: &[Step]) -> usize {
         .count()
 }
 
-/// Whether steps refute the formula: the last one is empty and no other, none is needless, and so many clauses are
-/// learned at most.
+/// Whether steps refute the formula: the last one is empty and no other, none is needless, and at most `conflicts`
+/// clauses are learned.
 pub fn refutes(
     alloc: Global,
     f: &Formula,
@@ -64,7 +64,7 @@ fn is_new(f: &Formula, earlier: &[Step], clause: &[Lit]) -> bool {
             .any(|step| is_within(step.clause.as_slice(), clause))
 }
 
-/// Whether steps learn so many clauses of the formula, each new.
+/// Whether steps learn exactly `conflicts` clauses of the formula, each new.
 pub fn learns(
     alloc: Global,
     f: &Formula,

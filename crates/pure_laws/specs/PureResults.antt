@@ -1,4 +1,4 @@
--- What the pure reducer finds, and the document that tells it.
+-- What the pure reducer finds, and the document that states it.
 use Rattle.std.specs.Prelude.{◌≡◌, ℕ, List, length, ℤ, None, IsTrue}
 use Rattle.std.specs.List.Sorted.{IsPermutation, IsNonDecreasingBy}
 use Rattle.lk_model.specs.Formulas.Literal.{variable}

@@ -10,7 +10,7 @@ pub fn pure_law()
     ensures { PureLaw }
 {}
 
-/// What the pure reducer finds is the pure kernel, and the document that tells it reduces the formula.
+/// What the pure reducer finds is the pure kernel, and the document that states it reduces the formula.
 #[tactic(auto, using(crate::proofs::PureResults::pure_result_law))]
 pub fn pure_result_law()
     ensures { PureResultLaw }

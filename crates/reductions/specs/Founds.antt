@@ -1,4 +1,4 @@
--- What a reducer finds, and the document that tells it.
+-- What a reducer finds, and the document that states it.
 use Rattle.std.specs.Prelude.{◌≡◌, ℕ, List, length, Option, Ok, IsTrue, ⊤}
 use Rattle.lk_model.specs.Formulas.Formula.{Cnf, is_formula, IsWithinLimits, clauses_at}
 use Rattle.lk_model.specs.Formulas.Lean.{are_positions}
@@ -35,7 +35,7 @@ document_of F protect found = record {
   texts = clauses_at F found.kept;
 }
 
--- the unfinished document with this protect line, of so many learned clauses in these rounds, with all clauses of the formula
+-- the unfinished document with this protect line, of `learned` learned clauses in these rounds, with all clauses of F
 abbrev pub open_document_of : Cnf → Option (List ℕ) → ℕ → List Round → OpenDocument
 open_document_of F protect learned rounds = record {
   vars = F.vars;
@@ -46,26 +46,26 @@ open_document_of F protect learned rounds = record {
   texts = F;
 }
 
--- Told as a document it reduces each formula of which this is what is left without the protected variables, and so the
--- formula itself where none is protected.
+-- Stated as a document, what is found reduces each formula of which `rest` is what is left without the protected
+-- variables, and so the formula itself where none is protected.
 abbrev pub TellsReduction : Class → ℕ → Cnf → Found → Type 0
 TellsReduction class pivots rest found = (F : Cnf) (protect : Option (List ℕ)) → IsTrue (is_formula F) → IsWithinLimits F → IsTrue (is_protect_line F.vars protect)
     → rest_of F protect ≡ rest → Reduces F class pivots (document_of F protect found)
 
--- it tells that whatever the number of pivots
+-- stated as a document, what is found reduces these formulas whatever the number of pivots
 pub record IsFoundFor (class : Class) (rest : Cnf) (found : Found) : Type 0 where
   pub positions : IsTrue (are_positions rest found.kept)
   pub reduces : (pivots : ℕ) → TellsReduction class pivots rest found
 
 -- LINEAR
 
--- the size of the rows fits, and the linear run with at most so many pivots ends done
+-- the size of the rows fits, and the linear run with at most `pivots` pivots ends done
 abbrev pub EndsDone : Cnf → ℕ → Type 0
 EndsDone rest pivots = (r : LinearResult) × AnswersRun rest pivots (Ok r)
 
 -- GENERAL
 
--- the general kernel, by rounds of which nothing is needless, with at most so many learned clauses for each part
+-- the general kernel, by rounds of which nothing is needless, with at most `conflicts` learned clauses for each part
 pub record IsKernelFound (rest : Cnf) (conflicts : ℕ) (found : Found) : Type 0 where
   pub kernel : IsFoundFor General rest found
   pub needed : AreNeeded rest no_variable (rounds_in found.body)

@@ -18,8 +18,8 @@ pub struct Found {
     pub body: Body,
 }
 
-/// The document that tells what was found, with the clauses of the formula at the kept positions. `protect` is its line
-/// of protected variables, ascending, where it has one. The error is that there is no memory.
+/// The document that states what was found, with the clauses of the formula at the kept positions. `protect` is its
+/// line of protected variables, ascending, if it has one. The error is that there is no memory.
 pub fn document_of(
     alloc: Global,
     f: &Formula,
@@ -44,8 +44,8 @@ pub fn document_of(
     })
 }
 
-/// The unfinished document of rounds with so many learned clauses, with all clauses of the formula. `protect` is its
-/// line of protected variables, ascending, where it has one.
+/// The unfinished document of rounds with `learned` learned clauses, with all clauses of the formula. `protect` is its
+/// line of protected variables, ascending, if it has one.
 pub fn open_document_of(
     f: Formula,
     protect: Option<List<u32>>,

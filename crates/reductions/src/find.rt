@@ -33,7 +33,7 @@ pub fn find_pure(alloc: Global, f: &Formula) -> Result<Found, OutOfMemory>
     })
 }
 
-/// The matching kernel of a formula, with own lines and rows, found by parts on at most so many threads, 1 or
+/// The matching kernel of a formula, with own lines and rows, found by parts on at most `workers` threads, 1 or
 /// more. The error is that there is no memory.
 pub fn find_matching<R: Threads + Sync, G: Gate>(
     rt: &R,
@@ -57,7 +57,7 @@ pub fn find_matching<R: Threads + Sync, G: Gate>(
     })
 }
 
-/// The linear kernel of a formula, with the stages, duals and units of the linear run with at most so many pivots. The
+/// The linear kernel of a formula, with the stages, duals and units of the linear run with at most `pivots` pivots. The
 /// error says why there is none: the rows are too large, a number is too wide, the run wants one more pivot, or there
 /// is no memory.
 pub fn find_linear(alloc: Global, f: &Formula, pivots: u64) -> Result<Found, LinearStop>
@@ -104,7 +104,7 @@ impl From<OutOfMemory> for GeneralStop {
 }
 
 /// The general kernel of a formula, with literals that satisfy the other clauses and with rounds, found by parts on at
-/// most so many threads, 1 or more, by at most so many learned clauses for each part. No clause speaks of
+/// most `workers` threads, 1 or more, by at most `conflicts` learned clauses for each part. No clause speaks of
 /// threads. The error says why there is none: a part was not finished with its budget, or memory ran out.
 pub fn find_general<R: Threads + Sync, G: Gate>(
     rt: &R,

@@ -1,7 +1,7 @@
 //! From a formula, a class and protected variables to a document.
 //!
 //! A reducer looks at what is left of the formula without the literals on protected variables. What it finds has one
-//! form for all classes, and the document tells it with the line of protected variables and the clauses of the formula.
+//! form for all classes, and the document states it with the line of protected variables and the formula's clauses.
 #![tactic(auto)]
 
 mod document;

@@ -54,7 +54,7 @@ impl Problem {
         }
     }
 
-    /// The document that tells what was found in `left`, with the clauses of the formula at the kept positions. The
+    /// The document that states what was found in `left`, with the clauses of the formula at the kept positions. The
     /// error is that there is no memory.
     pub fn document(self, alloc: Global, found: Found) -> Result<DoneDocument, OutOfMemory>
         requires positions { IsTrue (are_positions self.formula found.kept) }
@@ -69,7 +69,7 @@ impl Problem {
         document_of(alloc, &formula, protection.map(|p| p.line), found)
     }
 
-    /// The unfinished document of rounds that were found in `left` with so many learned clauses, with all clauses of
+    /// The unfinished document of rounds that were found in `left` with `learned` learned clauses, with all clauses of
     /// the formula.
     pub fn open_document(self, learned: u64, rounds: List<Round>) -> OpenDocument
         ensures document { result ≡ open_document_of self.formula (line_of self) learned rounds }

@@ -36,8 +36,8 @@ pub(crate) fn set_of_stages(
     Ok(List::from_vec(table.iter().filter_map(|entry| *entry).collect(alloc)?))
 }
 
-/// The same literals, each at the place of its variable. From the last stage on, so that of two weights of one
-/// variable the first stays.
+/// The literals with the signs of the weights, each at the place of its variable. The stages are taken from the last
+/// one on, so that of two weights of one variable the first stays.
 fn stage_literals(alloc: Global, n: u32, stages: &[Stage]) -> Result<Vec<Option<Lit>>, OutOfMemory>
     requires limit { n ≤ max_vars }
     requires stages { IsTrue (list_all (is_stage n) stages.now) }

@@ -17,7 +17,7 @@ pub record HaveSameShape (before after : Marks) : Type 0 where
   pub positions : length after.positions.items ≡ length before.positions.items
   pub steps : length after.steps.items ≡ length before.steps.items
 
--- marks of the numbers below a bound, and of so many from the first one on
+-- marks of the numbers below a bound, and of `count` numbers from the first one on
 pub record HaveShape (bound first count : ℕ) (marks : Marks) : Type 0 where
   pub first_is : marks.first ≡ first
   pub positions : length marks.positions.items ≡ bound

@@ -20,7 +20,7 @@ pub struct Chain {
 }
 
 impl Log {
-    /// Whether a chain has a clause, which is made on the way.
+    /// Whether a chain has a clause, as `has_chain` tells. The literals of the clause so far are flagged.
     pub(crate) fn goes(
         &self,
         over: &Crossed,

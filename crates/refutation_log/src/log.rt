@@ -107,7 +107,8 @@ impl Log {
     }
 
     /// Whether a chain has a clause over all clauses of a formula and the steps of the log, which are
-    /// numbered above them: each number that it names stands for one of these, and each turn can be made.
+    /// numbered above them: each number that it names stands for one of these, and each turn can be made. A
+    /// turn costs no more than to read the other clause.
     pub fn has_chain(
         &mut self,
         over: &Crossed,
@@ -130,7 +131,7 @@ impl Log {
         has
     }
 
-    /// Appends the step with the clause of a chain, and answers its number, which must be below
+    /// Appends the step with the clause of a chain, and returns its number, which must be below
     /// 2^64 - 1. The chain must have a clause over `over` and the steps of the log, which are numbered
     /// above the formula's clauses. On an error the log is unchanged.
     pub fn push_chain(
@@ -182,7 +183,7 @@ impl Log {
         self.steps[(k - self.first) as usize].clause()
     }
 
-    /// The same log without the memory that served its last chain: a table as long as its greatest
+    /// This log without the memory that served its last chain: a table as long as its greatest
     /// variable. A log that gets no more steps needs none.
     pub fn rest(self) -> Log
         ensures { result ≡ self }

@@ -34,7 +34,7 @@ pub fn replay(
     }
 }
 
-// Appends a step for each chain, and tells whether they refute, each of them needed.
+// Appends a step for each chain, and returns whether they refute, each of them needed.
 fn push_chains(over: &Crossed, chains: &[Chain], log: &mut Log) -> Result<bool, OutOfMemory>
     requires crossed { IsCrossed over.now }
     requires whole { over.now.part.now ≡ positions_of over.now.formula.now }

@@ -1,5 +1,5 @@
--- Some crossed clauses of a formula under variables and positions numbered anew from 1, and a refutation of them told in
--- the numbers of the formula.
+-- Some crossed clauses of a formula under variables and positions numbered anew from 1, and a refutation of them stated
+-- in the numbers of the formula.
 use Rattle.std.specs.Prelude.{◌≡◌, ℕ, ◌+◌, ◌^◌, ◌<◌, ◌≤◌, Bool, not, ◌||◌, nat_lt, List, [], map, length, IsTrue}
 use Rattle.std.specs.List.{list_all}
 use Rattle.lk_model.specs.Lists.{among, is_empty, rises_within, with_earlier}
@@ -38,8 +38,8 @@ pub record IsCrossedRefutation (F : Cnf) (b : Variables) (part : List ℕ) (last
 abbrev pub told_steps : ℕ → List ℕ → List ℕ → List Step → List Step
 told_steps last ps names = map (step_under (named names) (number_after (length ps) last ps))
 
--- A refutation of all of G is, told in the numbers of F, one over the crossed clauses of a part that has the positions. What
--- it uses is what stands at the used places. The numbers of the steps have 64 bits.
+-- A refutation of all of G is, stated in the numbers of F, one over the crossed clauses of a part that has the
+-- positions. What it uses is what stands at the used places. The numbers of the steps have 64 bits.
 pub record CrossedCopyLaw : Type 0 where
   pub refuted : (F G : Cnf) (b : Variables) (part ps names : List ℕ) (last : ℕ) (steps : List Step)
       → IsTrue (are_positions F part) → IsTrue (are_positions F ps) → ((p : ℕ) → IsTrue (among ps p) → IsTrue (among part p))

@@ -1,5 +1,5 @@
--- A part of a formula under variables and positions numbered anew from 1, and what is found there told in the numbers of
--- the formula.
+-- A part of a formula under variables and positions numbered anew from 1, and what is found there stated in the numbers
+-- of the formula.
 use Rattle.std.specs.Prelude.{◌≡◌, ℕ, ◌+◌, ◌-◌, ◌^◌, ◌<◌, List, map, length, slice_index_or, if◌then◌else◌, nat_le, ℤ, IsTrue}
 use Rattle.lk_model.specs.Lists.{rises_within}
 use Rattle.lk_model.specs.Formulas.Literal.{variable, is_positive, literal_of}
@@ -20,7 +20,7 @@ use Rattle.general_laws.specs.Found.{IsDone, IsUnfinished}
 abbrev pub nth : List ℕ → ℕ → ℕ
 nth ns k = slice_index_or ns (k - 1) 0
 
--- a number told by that list, past which it stays
+-- a number renamed by that list, past which it stays
 abbrev pub name_of : List ℕ → ℕ → ℕ
 name_of ns k = slice_index_or ns (k - 1) k
 
@@ -35,8 +35,8 @@ pub record IsDense (F : Cnf) (part names : List ℕ) (G : Cnf) : Type 0 where
   pub formula : IsTrue (is_formula G)
   pub clauses : map (map (named names)) G.clauses ≡ (clauses_at F part).clauses
 
--- A number in a chain over so many positions: a position is told by the part, and steps, which come after them, count
--- on from `last`.
+-- A number in a chain over `positions` positions: a position is renamed by the part, and steps, which come after them,
+-- count on from `last`.
 abbrev pub number_after : ℕ → ℕ → List ℕ → ℕ → ℕ
 number_after positions last part k = if nat_le k positions then name_of part k else (k - positions + last)
 
@@ -50,7 +50,7 @@ step_under g f s = record { number = f s.number; clause = map g s.clause; first 
 abbrev pub round_under : (ℤ → ℤ) → (ℕ → ℕ) → Round → Round
 round_under g f r = record { steps = map (step_under g f) r.steps }
 
--- told for a formula of m clauses
+-- a number in a chain over all of a part, renamed for a formula of m clauses
 abbrev pub number_in_whole : List ℕ → ℕ → ℕ → ℕ
 number_in_whole part m = number_after (length part) m part
 
@@ -65,8 +65,8 @@ renamed_result m part names r = record {
 }
 
 -- What is found in all of G is, translated to the numbers of F, what is found in the part. The numbers of the steps
--- have 64 bits. So it is with a refutation of some clauses of G, with rounds of which nothing is needless, and with the
--- number of learned clauses.
+-- have 64 bits. The same is true of a refutation of some clauses of G, of rounds of which nothing is needless, and of
+-- the number of learned clauses.
 pub record RenamingLaw : Type 0 where
   pub done : (F G : Cnf) (part names : List ℕ) (conflicts : ℕ) (r : GeneralResult) → IsTrue (is_formula F) → IsTrue (are_positions F part)
       → IsDense F part names G → length F.clauses + length (steps_of r.rounds) < 2 ^ 64

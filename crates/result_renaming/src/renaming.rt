@@ -23,7 +23,7 @@ pub struct Renaming<'a> {
     pub names: &'a [u32],
 }
 
-/// What stands at a place that counts from 1, and 0 where nothing does.
+/// What stands at a place that counts from 1, and 0 past the last one. Place 0 is read as the first.
 pub fn nth(numbers: &[u32], place: u64) -> u32
     ensures { result ≡ nth numbers.now place }
 {
@@ -33,7 +33,7 @@ pub fn nth(numbers: &[u32], place: u64) -> u32
     }
 }
 
-/// In the place of each number what stands at it in the part, counted from 1, and 0 where nothing does.
+/// In the place of each number what stands there in the part, as `nth` tells.
 pub fn positions_at(part: &[u32], places: List<u32>) -> List<u32>
     ensures { result ≡ map (nth part.now) places }
 {

@@ -2,7 +2,7 @@
 ghost use Rattle.round_laws.specs.RoundLaw.{RoundLaw};
 
 /// Rounds that are found part by part need each of their steps, also joined, and learn in each part no more clauses
-/// than were allowed there. Under protected variables the same is so, as is where a search stops.
+/// than were allowed there. The same is true under protected variables, also of where a search stops.
 #[tactic(auto, using(crate::proofs::RoundLaws::round_law))]
 pub fn round_law()
     ensures { RoundLaw }

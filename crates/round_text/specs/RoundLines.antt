@@ -72,7 +72,7 @@ step_within n number (k ∷ words) = step_by n number (number_within number numb
 
 -- LINES
 
--- the number of the next step after so many, if it is one of 64 bits
+-- the number of the next step after `count` steps, if it is one of 64 bits
 abbrev pub number_after : ℕ → ℕ → Option ℕ
 number_after m count = if nat_lt (count + (m + 1)) (2 ^ 64) then Some (count + (m + 1)) else None
 
@@ -94,7 +94,7 @@ abbrev pub is_round : List Word → Bool
 is_round (a ∷ b ∷ []) = bytes_eq a (codes "c") && bytes_eq b (codes "round")
 is_round _ = false
 
--- a step of the open round, or else a round, if one may come
+-- a step of the open round, or else a round, if one may begin
 abbrev pub rounds_next : Bool → ℕ → ℕ → RoundsPart → List Word → Option RoundsPart
 rounds_next may n m p words = if p.is_open then next_step n m p words else if may && is_round words then Some (record p { is_open = true }) else None
 

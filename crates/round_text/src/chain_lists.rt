@@ -10,8 +10,8 @@ use line_text::{CLOSING, first_field, literal_in, wide_in};
 use lk_model::{List, Lit, OutOfMemory, Step, Turn};
 use std::alloc::Global;
 
-/// Reads the literals of a step's clause over the variables from 1 to n, which ascend by rank, into a list
-/// without one. The answer is what stands after the word 0 that closes them, where there are such literals.
+/// Reads the literals of a step's clause over the variables from 1 to n, which ascend by rank, into an empty
+/// list. Returns what stands after the word 0 that closes them, if there are such literals.
 fn read_ranked<'a>(
     clause: &mut List<Lit>,
     line: &'a [u8],

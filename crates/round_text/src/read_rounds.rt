@@ -33,7 +33,7 @@ pub fn fresh_rounds(alloc: Global) -> RoundsPart
 }
 
 /// Takes a step of the open round, over the variables from 1 to n and after m positions, or else the line
-/// of a round, if one may begin. The answer is whether the line was taken; otherwise the rounds are not
+/// of a round, if one may begin. Returns whether the line was taken; otherwise the rounds are not
 /// used again. Fails only if memory runs out.
 pub fn take_rounds(
     alloc: Global,
@@ -88,7 +88,7 @@ fn take_step(
     Ok(true)
 }
 
-/// The number of the next step after so many, if it is one of 64 bits.
+/// The number of the next step after `count` steps, if it is one of 64 bits.
 fn number_after(m: u32, count: u64) -> Option<u64>
     ensures { result ≡ number_after m count }
 {

@@ -5,7 +5,7 @@ use Rattle.lk_model.specs.declared.wide.Op.{Op}
 use Rattle.lk_model.specs.declared.wide.Op.TheVariants.{Product, Sum, Difference}
 use Rattle.lk_model.specs.declared.wide.Wide.{Wide}
 
--- the rows are too large, for so many variables and clauses
+-- the rows are too large, for these numbers of variables and clauses
 abbrev pub too_large_line : ℕ → ℕ → List ℕ
 too_large_line vars clauses = codes "leank: too large: " ++ decimal vars ++ codes " variables, " ++ decimal clauses ++ codes " clauses\n"
 
@@ -22,10 +22,10 @@ op_word Difference = codes "difference"
 abbrev pub operands : Wide → List ℕ
 operands w = op_word w.op ++ codes " of " ++ signed_decimal w.left ++ codes " and " ++ signed_decimal w.right
 
--- a result after so many pivots has no room
+-- a result after `made` pivots has no room
 abbrev pub too_wide_line : ℕ → Wide → List ℕ
 too_wide_line made wide = codes "leank: too wide after " ++ decimal made ++ codes " pivots: " ++ operands wide ++ codes "\n"
 
--- so many clauses were learned, and no more may be
+-- this many clauses were learned, and no more may be
 abbrev pub conflicts_line : ℕ → List ℕ
 conflicts_line conflicts = codes "leank: budget of " ++ decimal conflicts ++ codes " conflicts used\n"

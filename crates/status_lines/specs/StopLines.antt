@@ -4,8 +4,8 @@ use Rattle.dimacs_reader.specs.declared.refusal.Refused.{Refused}
 use Rattle.dimacs_reader.specs.declared.refusal.Refused.TheVariants as refused
 use Rattle.edit_text.specs.EditText.{fault_text}
 use Rattle.edit_text.specs.declared.edit.EditFault.{EditFault}
-use Rattle.command_inputs.specs.declared.stop.Stop.{Stop}
-use Rattle.command_inputs.specs.declared.stop.Stop.TheVariants.{Words, Formula, Document, Model, Answer, Edits, Read, Memory}
+use Rattle.command_stops.specs.declared.stop.Stop.{Stop}
+use Rattle.command_stops.specs.declared.stop.Stop.TheVariants.{Words, Formula, Document, Model, Answer, Edits, Read, Memory}
 use Rattle.status_lines.specs.declared.status.Status.{Status}
 use Rattle.status_lines.specs.declared.status.Status.TheVariants as status
 

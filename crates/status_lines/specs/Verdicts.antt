@@ -4,7 +4,7 @@ use Rattle.lean_checker.specs.declared.verdict.Verdict.TheVariants as verdict
 use Rattle.status_lines.specs.declared.status.Status.{Status}
 use Rattle.status_lines.specs.declared.status.Status.TheVariants.{Done, Budget, Refused}
 
--- the status that tells a verdict
+-- the status that reports a verdict
 abbrev pub verdict_status : Verdict → Status
 verdict_status verdict.Accepted = Done
 verdict_status (verdict.Unfinished learned) = Budget

@@ -4,7 +4,7 @@ ghost use Rattle.status_lines.specs.StopLines.{Tells, status_of};
 
 use crate::lines::line_of;
 use crate::status::{Status, status_of};
-use command_inputs::Stop;
+use command_stops::Stop;
 use lk_model::OutOfMemory;
 use std::alloc::Global;
 

@@ -5,14 +5,14 @@ ghost use Rattle.status_lines.specs.RunLines.{too_wide_line};
 ghost use Rattle.status_lines.specs.StopLines.{line_of, formula_line, refusal_line, edits_line};
 ghost use Rattle.edit_text.specs.EditText.{fault_text};
 
-use command_inputs::Stop;
+use command_stops::Stop;
 use dimacs_reader::Refused;
 use edit_text::EditFault;
 use lk_model::{Op, OutOfMemory, Wide};
 use lk_text::put_i128;
 use std::alloc::Global;
 
-/// The line that tells of a stop.
+/// The line that reports a stop.
 pub(crate) fn line_of(alloc: Global, stop: Stop) -> Result<Vec<u8>, OutOfMemory>
     ensures { IfOk result (λ line. line.items ≡ line_of stop) }
 {
@@ -33,7 +33,7 @@ pub(crate) fn line_of(alloc: Global, stop: Stop) -> Result<Vec<u8>, OutOfMemory>
     }
 }
 
-/// The line that tells of a refused formula.
+/// The line that reports a refused formula.
 fn refusal_line(alloc: Global, refused: Refused) -> Result<Vec<u8>, OutOfMemory>
     ensures { IfOk result (λ line. line.items ≡ refusal_line refused) }
 {
@@ -53,14 +53,14 @@ fn refusal_line(alloc: Global, refused: Refused) -> Result<Vec<u8>, OutOfMemory>
     }
 }
 
-/// The line that tells of a fault at a line of the formula.
+/// The line that reports a fault at a line of the formula.
 fn formula_line(alloc: Global, line: u64, text: &[u8]) -> Result<Vec<u8>, OutOfMemory>
     ensures { IfOk result (λ told. told.items ≡ formula_line line text.now) }
 {
     numbered(alloc, b"leank: formula line ", line, text)
 }
 
-/// The line that tells of a fault at a line of edits.
+/// The line that reports a fault at a line of edits.
 fn edits_line(alloc: Global, line: u64, fault: EditFault) -> Result<Vec<u8>, OutOfMemory>
     ensures { IfOk result (λ told. told.items ≡ edits_line line fault) }
 {
@@ -83,7 +83,7 @@ fn fault_text(fault: EditFault) -> &'static str
     }
 }
 
-/// The line that tells that the rows of a linear run are too large, for so many variables and clauses.
+/// The line that says that the rows of a linear run are too large, for these numbers of variables and clauses.
 pub(crate) fn too_large_line(alloc: Global, vars: u32, clauses: u32) -> Result<Vec<u8>, OutOfMemory>
     ensures { IfOk result (λ line. line.items ≡ too_large_line vars clauses) }
 {
@@ -94,21 +94,21 @@ pub(crate) fn too_large_line(alloc: Global, vars: u32, clauses: u32) -> Result<V
     Ok(line)
 }
 
-/// The line that tells that a linear run wants a pivot more than these.
+/// The line that says that a linear run wants a pivot more than these.
 pub(crate) fn budget_line(alloc: Global, pivots: u64) -> Result<Vec<u8>, OutOfMemory>
     ensures { IfOk result (λ line. line.items ≡ budget_line pivots) }
 {
     numbered(alloc, b"leank: budget of ", pivots, b" pivots used\n")
 }
 
-/// The line that tells that so many clauses were learned, and no more may be.
+/// The line that says that this many clauses were learned, and no more may be.
 pub fn conflicts_line(alloc: Global, conflicts: u64) -> Result<Vec<u8>, OutOfMemory>
     ensures { IfOk result (λ line. line.items ≡ conflicts_line conflicts) }
 {
     numbered(alloc, b"leank: budget of ", conflicts, b" conflicts used\n")
 }
 
-/// The line that tells that a result of a linear run is too wide, after so many pivots.
+/// The line that says that a result of a linear run is too wide, after `pivots` pivots.
 pub(crate) fn too_wide_line(alloc: Global, pivots: u64, wide: Wide) -> Result<Vec<u8>, OutOfMemory>
     ensures { IfOk result (λ line. line.items ≡ too_wide_line pivots wide) }
 {

@@ -3,7 +3,7 @@ ghost use Rattle.std.specs.Prelude.{◌≡◌};
 ghost use Rattle.status_lines.specs.Statuses.{code};
 ghost use Rattle.status_lines.specs.StopLines.{status_of};
 
-use command_inputs::Stop;
+use command_stops::Stop;
 use lk_outside::Failed;
 
 /// The status with which the program ends.

@@ -10,7 +10,7 @@ use lean_checker::{Verdict, put_verdict};
 use lk_model::OutOfMemory;
 use std::alloc::Global;
 
-/// The ending that tells a verdict: 0 where the document is accepted, 5 where it is unfinished, and 8 where a
+/// The ending that reports a verdict: 0 if the document is accepted, 5 if it is unfinished, and 8 if a
 /// check of it fails.
 pub fn ending_of_verdict(alloc: Global, verdict: Verdict) -> Result<Ending, OutOfMemory>
     ensures status { IfOk result (λ e. e.status ≡ verdict_status verdict) }

@@ -56,7 +56,7 @@ fn put_kept(clauses: &str, positions: &[u32], out: &mut String) -> Result<(), Al
     Ok(())
 }
 
-/// Writes the document over a formula of so many clauses that a line `matching` has.
+/// Writes the document over a formula of m clauses that a line `matching` has.
 fn put_matching(alloc: Global, m: u32, text: &str, out: &mut String) -> Result<(), AllocError> {
     let (vars, text) = split(text);
     let (clauses, text) = split(text);
@@ -77,7 +77,7 @@ fn put_head(version: u32, class: &str, sizes: &str, out: &mut String) -> Result<
     writeln!(out, "c leank {version} {class}\nc formula {sizes}")
 }
 
-/// Writes the document that a line `extend` has, and answers what stands after it.
+/// Writes the document that a line `extend` has, and returns what stands after it.
 fn put_extended<'a>(text: &'a str, out: &mut String) -> Result<&'a str, AllocError> {
     let (sizes, text) = split(text);
     let (protect, text) = split(text);
@@ -102,7 +102,7 @@ fn put_extended<'a>(text: &'a str, out: &mut String) -> Result<&'a str, AllocErr
     Ok(text)
 }
 
-/// Tells the verdict on the document of a line `matching`.
+/// Reports the verdict on the document of a line `matching`.
 fn tell_matching<R: Threads + Sync>(
     rt: &R,
     alloc: Global,
@@ -116,7 +116,7 @@ fn tell_matching<R: Threads + Sync>(
     tell_text(rt, alloc, false, &f, text.as_str(), out)
 }
 
-/// Tells the verdict on the document of a line, or of the model that it is to extend.
+/// Reports the verdict on the document of a line, or of the model that it is to extend.
 pub(crate) fn tell<R: Threads + Sync>(
     rt: &R,
     alloc: Global,

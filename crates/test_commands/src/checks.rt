@@ -5,15 +5,15 @@
 //! document with `\n` for the end of each line; semicolons stand between the three.
 //!
 //! Where `meet` stands before it, two workers check with a gate that holds a half each time until the other one has
-//! entered as often, and a second line tells how often each entered, and whether it met the other one each time. Two
-//! more lines tell it of eight workers.
+//! entered as often, and a second line reports how often each entered, and whether it met the other one each time. Two
+//! more lines report it of eight workers.
 use crate::documents::tell_text;
 use lk_samples::{formula_of_text, number_of};
 use std::alloc::Global;
 use std::test::Fail;
 use std::thread::Threads;
 
-/// Tells the verdict on the document of a line.
+/// Reports the verdict on the document of a line.
 pub(crate) fn tell<R: Threads + Sync>(
     rt: &R,
     alloc: Global,

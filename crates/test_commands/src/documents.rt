@@ -18,7 +18,7 @@ pub(crate) fn document_of(alloc: Global, bytes: &[u8]) -> Result<Document, ReadS
     read(alloc, bytes)
 }
 
-/// Writes the line that tells a verdict.
+/// Writes the line that reports a verdict.
 pub(crate) fn put_line(verdict: &Verdict, out: &mut String) -> Result<(), AllocError> {
     let text = put_verdict(verdict);
     out.push_str("= ")?;
@@ -28,7 +28,7 @@ pub(crate) fn put_line(verdict: &Verdict, out: &mut String) -> Result<(), AllocE
     Ok(())
 }
 
-/// Tells the verdict of one, two and eight workers, which is one.
+/// Reports the verdict of one, two and eight workers, which is one.
 fn tell_verdict<R: Threads + Sync>(
     rt: &R,
     alloc: Global,
@@ -48,8 +48,8 @@ fn tell_verdict<R: Threads + Sync>(
     Ok(put_line(&verdict, out)?)
 }
 
-/// Tells the verdict of so many workers, and how often each half entered a gate that holds it each time until the other
-/// one has entered as often, and whether it met the other one each time.
+/// Reports the verdict of this many workers, and how often each half entered a gate that holds it each time until the
+/// other one has entered as often, and whether it met the other one each time.
 fn tell_meeting<R: Threads + Sync>(
     rt: &R,
     alloc: Global,
@@ -69,7 +69,7 @@ fn tell_meeting<R: Threads + Sync>(
     Ok(())
 }
 
-/// Tells the verdict on the document that a text is, or the line at which it stops being one.
+/// Reports the verdict on the document that a text is, or the line at which it stops being one.
 pub(crate) fn tell_text<R: Threads + Sync>(
     rt: &R,
     alloc: Global,

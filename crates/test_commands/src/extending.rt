@@ -44,7 +44,7 @@ fn put_failure(
     }
 }
 
-/// Tells the first failing check of the document of a text, over the formula and the model that the pieces have.
+/// Reports the first failing check of the document of a text, over the formula and the model that the pieces have.
 pub(crate) fn tell_extension(
     alloc: Global,
     text: &str,

@@ -1,11 +1,11 @@
 //! Runs the commands over texts in memory, as a script on standard input says, and prints what each run
-//! answers and writes. The expected output was worked out by hand, or computed by plain programs in Python from
+//! returns and writes. The expected output was worked out by hand, or computed by plain programs in Python from
 //! the definitions; `README.md` says which of the rows.
 //!
 //! A line `@ NAME` of the input chooses what the lines after it are: `commands`, as below, `verdicts` (`src/built.rt`),
 //! `checks` (`src/checks.rt`) or `demos` (`src/demos.rt`). `#` begins a remark. A line of the last three is printed
-//! again, and after it what is told of it, in lines that begin with `=`; of documents the verdict of one worker, with
-//! which those of two and of eight are compared.
+//! again, and after it what is reported of it, in lines that begin with `=`; of documents the verdict of one worker,
+//! with which those of two and of eight are compared.
 //!
 //! A line of `@ commands` is one of these:
 //!
@@ -15,13 +15,13 @@
 //! - `shelf`, `out` or `say`, and then `chunk N`, how many bytes move at a time; `room N`, how many a sink
 //!   takes; or `fails N..`, the numbers of the calls that fail.
 //! - `run WORDS`: the commands run with these words.
-//! - `calls WORDS`: the same, and it tells the calls on the shelf and the sinks, in their order, as below.
-//! - `meet WORDS`: the same at a gate where halves of the work meet, which tells how often each entered.
+//! - `calls WORDS`: the same, and it reports the calls on the shelf and the sinks, in their order, as below.
+//! - `meet WORDS`: the same at a gate where halves of the work meet, which reports how often each entered.
 //! - `keep NAME`: what the last run wrote stands under that name.
-//! - `verdict WORDS`: the line that tells this verdict.
+//! - `verdict WORDS`: the line that reports this verdict.
 //!
-//! Calls are told as `start NAME`, and as `read`, `out` or `say` with how many bytes each call moved. One
-//! that failed is told as `failed`.
+//! Calls are reported as `start NAME`, and as `read`, `out` or `say` with how many bytes each call moved. One
+//! that failed is reported as `failed`.
 #![tactic(auto)]
 
 mod built;
@@ -76,7 +76,7 @@ fn take<R: Threads + Sync + AllocGlobal + Print>(
     }
 }
 
-/// Prints a line, and what is told of it.
+/// Prints a line, and what is reported of it.
 fn print_told<R: Threads + Sync + AllocGlobal + Print>(
     rt: &R,
     driver: Driver,

@@ -22,7 +22,7 @@ pub(crate) fn print_run<R: Threads + Sync + AllocGlobal + Print>(
     print_over(rt, script, line, &calls, &OpenGate)
 }
 
-/// The same, and after a line `-- calls` the calls on the shelf and the sinks.
+/// As `print_run`, and after a line `-- calls` the calls on the shelf and the sinks.
 pub(crate) fn print_calls<R: Threads + Sync + AllocGlobal + Print>(
     rt: &R,
     script: &mut Script,
@@ -33,7 +33,7 @@ pub(crate) fn print_calls<R: Threads + Sync + AllocGlobal + Print>(
     calls.print(rt)
 }
 
-/// The same as `print_run` at a gate that holds a half of the work each time until the other one has entered as often, and
+/// As `print_run` at a gate that holds a half of the work each time until the other one has entered as often, and
 /// how often each has entered and whether it met the other each time.
 pub(crate) fn print_meeting<R: Threads + Sync + AllocGlobal + Print>(
     rt: &R,

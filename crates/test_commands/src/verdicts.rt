@@ -1,4 +1,4 @@
-//! The lines that tell verdicts.
+//! The lines that report verdicts.
 ghost use Rattle.std.specs.Prelude.{◌≤◌};
 
 use lean_checker::{Verdict, VerdictText, put_verdict};
@@ -30,7 +30,7 @@ const KINDS: &[(&str, Kind)] = &[
     ("bad-without", Kind::BadWithout),
 ];
 
-/// Prints the line that tells a verdict, and says so where it is not all there is.
+/// Prints the line that reports a verdict, and says so where it is not all there is.
 pub(crate) fn print_verdict<R: Print>(rt: &R, words: &str) -> Result<(), Fail> {
     match verdict_of(words) {
         Some(verdict) => Ok(print_line(rt, words, &put_verdict(&verdict))?),
@@ -75,7 +75,7 @@ fn verdict_of(words: &str) -> Option<Verdict> {
     }
 }
 
-/// The verdict after so many learned clauses.
+/// The verdict after this many learned clauses.
 fn unfinished_of(learned: &str) -> Option<Verdict> {
     Some(Verdict::Unfinished(learned.parse().ok()?))
 }

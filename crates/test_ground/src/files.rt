@@ -1,4 +1,4 @@
-//! What the shelf over files and the sink over streams answer to a line.
+//! What the shelf over files and the sink over streams return for a line.
 use crate::interruptions::Interrupting;
 use crate::parts::number_of;
 use crate::shelves::put_calls;
@@ -7,7 +7,7 @@ use lk_outside::FileShelf;
 use std::alloc::{AllocError, Global};
 use std::rt::Files;
 
-/// Writes what is answered to a line.
+/// Writes what is returned for a line.
 pub(crate) fn tell<R: Files>(
     rt: &R,
     alloc: Global,
@@ -24,7 +24,7 @@ pub(crate) fn tell<R: Files>(
     }
 }
 
-/// Writes what is answered to a line about files.
+/// Writes what is returned for a line about files.
 fn put_files<R: Files>(
     rt: &R,
     alloc: Global,

@@ -1,4 +1,4 @@
-//! What the lowest crates answer to a line: a word and the pieces that the call is asked about, with ` | ` between
+//! What the lowest crates return for a line: a word and the pieces that the call is asked about, with ` | ` between
 //! them.
 use crate::assignments::put_assignment;
 use crate::memory::{put_shelf, put_sink};
@@ -11,7 +11,7 @@ use std::alloc::{AllocError, Global};
 use std::rt::Files;
 use std::test::Fail;
 
-/// Writes what is answered to a line, each answer after a blank.
+/// Writes what is returned for a line, each answer after a blank.
 pub(crate) fn tell<R: Files>(
     rt: &R,
     alloc: Global,
@@ -25,7 +25,7 @@ pub(crate) fn tell<R: Files>(
     put_outside(alloc, word, parts_of(rest), out)
 }
 
-/// `file NAME`: what a start of a file answers.
+/// `file NAME`: what a start of a file returns.
 fn put_start<R: Files>(
     rt: &R,
     alloc: Global,
@@ -37,7 +37,7 @@ fn put_start<R: Files>(
     write!(out, " {answer:?}")
 }
 
-/// Writes what shelves and sinks answer.
+/// Writes what shelves and sinks return.
 fn put_outside(alloc: Global, word: &str, parts: Parts, out: &mut String) -> Result<(), Fail> {
     match word {
         "shelf" => put_shelf(alloc, parts, out),
@@ -51,7 +51,7 @@ fn put_outside(alloc: Global, word: &str, parts: Parts, out: &mut String) -> Res
     }
 }
 
-/// Writes what the types answer.
+/// Writes what the types return.
 fn put_model(alloc: Global, word: &str, parts: Parts, out: &mut String) -> Result<(), Fail> {
     match word {
         "literal" => Ok(put_literal(parts, out)?),

@@ -4,7 +4,7 @@ use std::fs::{Files, Metadata, OpenFile, OpenOptions};
 use std::io;
 use std::io::{ErrorKind, Read, Seek, SeekFrom, Write};
 
-/// A file or a stream, each of whose reads and writes is interrupted so many times before it is made.
+/// A file or a stream, each of whose reads and writes is interrupted `times` times before it is made.
 #[derive(Drop)]
 pub(crate) struct Interrupted<F> {
     inner: F,
@@ -78,7 +78,7 @@ impl<F: OpenFile> OpenFile for Interrupted<F> {
     }
 }
 
-/// The files of a runtime, each of whose reads and writes is interrupted so many times first.
+/// The files of a runtime, each of whose reads and writes is interrupted `times` times first.
 #[derive(Drop)]
 pub(crate) struct Interrupting<'a, R> {
     rt: &'a R,

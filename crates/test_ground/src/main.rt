@@ -1,8 +1,8 @@
-//! Asks the crates of the ground, as a script on standard input says, and prints what they answer through a sink over
+//! Asks the crates of the ground, as a script on standard input says, and prints what they return through a sink over
 //! standard output.
 //!
 //! `@ ground` or `@ files` says what the lines after it ask. Each line is printed again, and after ` ->` what is
-//! answered; a blank one, a head and a remark, which begins with `#`, have no answer.
+//! returned; a blank one, a head and a remark, which begins with `#`, have no answer.
 //!
 //! - `@ ground`: a word and the pieces that the call is asked about, with ` | ` between them. The expected answers can
 //!   be worked out by hand from what the calls are to give.
@@ -36,7 +36,7 @@ use lk_outside::StdSink;
 use std::rt::Files;
 use std::test::Fail;
 
-/// A line of the script, with what is answered to it.
+/// A line of the script, with what is returned for it.
 fn answered<R: Files + AllocGlobal>(
     rt: &R,
     is_about_files: bool,

@@ -8,7 +8,7 @@ use lk_outside::{Bytes, MemoryShelf, MemorySink, Name, Shelf};
 use std::alloc::{AllocError, Global};
 use std::test::Fail;
 
-/// `shelf CHUNK | FAILS | FILES | CALLS`: what a shelf answers to the calls, each a name to start or `read`.
+/// `shelf CHUNK | FAILS | FILES | CALLS`: what a shelf returns for the calls, each a name to start or `read`.
 pub(crate) fn put_shelf(alloc: Global, parts: Parts, out: &mut String) -> Result<(), Fail> {
     let chunk = number_of(parts.first).max(1) as usize;
     let fails = fails_of(alloc, parts.second)?;
@@ -53,7 +53,7 @@ fn put_calls(shelf: &mut MemoryShelf, calls: &str, out: &mut String) -> Result<(
     Ok(())
 }
 
-/// Reads into the piece, or starts the text of a name, and writes what is answered, and the piece that was read;
+/// Reads into the piece, or starts the text of a name, and writes what is returned, and the piece that was read;
 /// whether a text is started then.
 fn put_call(
     shelf: &mut MemoryShelf,
@@ -78,7 +78,7 @@ fn put_call(
     Ok(started)
 }
 
-/// `sink ROOM | CHUNK | FAILS | PIECES`: what a sink answers to the pieces, and what it has taken then.
+/// `sink ROOM | CHUNK | FAILS | PIECES`: what a sink returns for the pieces, and what it has taken then.
 pub(crate) fn put_sink(alloc: Global, parts: Parts, out: &mut String) -> Result<(), Fail> {
     let room = number_of(parts.first) as usize;
     let chunk = number_of(parts.second).max(1) as usize;

@@ -1,7 +1,7 @@
-//! What a line of the script asks about, as texts, and what is answered, as words after a blank.
+//! What a line of the script asks about, as texts, and what is returned, as words after a blank.
 use std::alloc::{AllocError, Global};
 
-/// What a call is asked about: the texts between the bars, each empty where there is none.
+/// What a call is asked about: the texts between the bars, each empty if there is none.
 #[derive(Clone, Copy)]
 pub(crate) struct Parts<'a> {
     pub first: &'a str,

@@ -1,11 +1,11 @@
-//! What a shelf over files answers to calls.
+//! What a shelf over files returns for calls.
 ghost use Rattle.std.specs.Prelude.{ℕ, ◌<◌, length, IsTrue, IfOk, OnOk};
 
 use crate::sums::Summary;
 use lk_outside::{Failed, Shelf};
 use std::alloc::{AllocError, Global};
 
-/// `shelf CALLS`: asks for the calls, with commas between them, and writes what is answered to each.
+/// `shelf CALLS`: asks for the calls, with commas between them, and writes what is returned for each.
 pub(crate) fn put_calls<S: Shelf>(
     alloc: Global,
     shelf: &mut S,
@@ -20,7 +20,7 @@ pub(crate) fn put_calls<S: Shelf>(
     Ok(())
 }
 
-/// Asks for a call, and writes what is answered; whether a text is started then. Nothing is read
+/// Asks for a call, and writes what is returned; whether a text is started then. Nothing is read
 /// where none is.
 fn put_call<S: Shelf>(
     alloc: Global,
@@ -58,7 +58,7 @@ fn size_of(written: &str) -> usize
     size.max(1) as usize
 }
 
-/// Reads once, and writes what is answered, with the bytes; whether the text is started still.
+/// Reads once, and writes what is returned, with the bytes; whether the text is started still.
 fn put_read<S: Shelf>(shelf: &mut S, piece: &mut [u8], out: &mut String) -> Result<bool, AllocError>
     requires started { IsTrue (S.started shelf.old) }
     requires room { 0 < length piece.old }

@@ -1,4 +1,4 @@
-//! What a sink answers to pieces, over streams and files.
+//! What a sink returns for pieces, over streams and files.
 ghost use Rattle.std.specs.Prelude.{ℕ, ◌<◌};
 
 use crate::interruptions::Interrupted;
@@ -21,7 +21,7 @@ pub(crate) fn print_all<S: Sink>(sink: &mut S, text: &[u8]) -> Result<(), Failed
     Ok(())
 }
 
-/// Writes a piece, unless it is empty, and writes what is answered.
+/// Writes a piece, unless it is empty, and writes what is returned.
 pub(crate) fn put_piece<S: Sink>(
     sink: &mut S,
     piece: &[u8],
@@ -34,7 +34,7 @@ pub(crate) fn put_piece<S: Sink>(
     write!(out, " {answer:?}")
 }
 
-/// Writes the pieces into a sink over that stream, and writes what is answered to each.
+/// Writes the pieces into a sink over that stream, and writes what is returned for each.
 fn put_pieces<W: Write + Drop>(
     stream: W,
     pieces: &str,
@@ -47,7 +47,7 @@ fn put_pieces<W: Write + Drop>(
     Ok(())
 }
 
-/// `stream ROOM | PIECES`: what a sink over so many bytes answers to the pieces.
+/// `stream ROOM | PIECES`: what a sink over ROOM bytes returns for the pieces.
 pub(crate) fn put_stream(alloc: Global, parts: Parts, out: &mut String) -> Result<(), Fail> {
     let mut room = vec![in alloc; 0u8; number_of(parts.first) as usize]?;
     put_pieces(room.as_mut_slice(), parts.second, out)?;
@@ -74,7 +74,7 @@ pub(crate) fn put_file<R: Files>(
     }
 }
 
-/// `room TIMES SIZE PIECES`: so many bytes of memory, whose writes are interrupted so many times.
+/// `room TIMES SIZE PIECES`: SIZE bytes of memory, whose writes are interrupted TIMES times.
 pub(crate) fn put_room(
     alloc: Global,
     times: u32,

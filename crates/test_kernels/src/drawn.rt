@@ -51,7 +51,7 @@ impl Draw {
         numbers[drawn % numbers.len()]
     }
 
-    /// A row of so many columns.
+    /// A row of this many columns.
     fn row(&mut self, alloc: Global, columns: usize) -> Result<Vec<i128>, Fail> {
         let mut row = Vec::with_capacity(alloc, columns)?;
         for _ in 0..columns {
@@ -79,7 +79,7 @@ fn combines_as_whole(alloc: Global, draw: &mut Draw, columns: usize) -> Result<b
     Ok(sparse.as_str() == whole.as_str())
 }
 
-/// Writes in how many of so many drawn combinations both are the same.
+/// Writes in how many of `count` drawn combinations both are the same.
 pub(crate) fn tell_drawn(alloc: Global, count: usize, out: &mut String) -> Result<(), Fail> {
     let mut draw = Draw { seed: 1 };
     let mut same = 0usize;

@@ -48,7 +48,7 @@ fn tell_kernel(alloc: Global, live: &Live, out: &mut String) -> Result<(), OutOf
     Ok(writeln!(out, "= kernel {:?}", kept.as_slice())?)
 }
 
-/// Does what a word says, and writes what is answered.
+/// Does what a word says, and writes what is returned.
 fn tell_word(
     alloc: Global,
     live: &mut Live,

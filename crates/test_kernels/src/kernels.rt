@@ -3,7 +3,7 @@
 //!
 //! A line over a formula is `WORD N; CLAUSES; PART`: the number of variables, the clauses with commas
 //! between them, and the positions of a part, or none for all. In a clause `A..B` stands for the literals
-//! from A to B, 0 for none, and `CLAUSE * COUNT` for so many clauses, each over the variables after those
+//! from A to B, 0 for none, and `CLAUSE * COUNT` for COUNT clauses, each over the variables after those
 //! of the one before. The words are:
 //!
 //! - `pure`, for the pure kernel, and `order` for its order alone and how many clauses it keeps.
@@ -12,14 +12,15 @@
 //! - `kernel`, for the matching kernel and its numbers of owners and rows, `owners` and `rows` for these.
 //! - `deficiency`, for the maximal deficiency of the formula, the kernel, and the variables of clauses.
 //! - `augment`, for single searches over the whole formula, where no clause has a variable at first. In place of a part it
-//!   has starts, each the position of a clause, or `v` and a variable. It tells of each whether there is one pair more, and
-//!   how many there are.
+//!   has starts, each the position of a clause, or `v` and a variable. It reports of each whether there is one pair
+//!   more, and how many there are.
 //! - `edits`, for clauses that come and go, where all clauses of the formula are live at first. In place of a part it has words
-//!   with commas between them: `add L ..`, `remove NUMBER`, `kernel`, which tells the numbers of the matching kernel of the live
-//!   clauses, and `memory`, which tells the stop without memory.
+//!   with commas between them: `add L ..`, `remove NUMBER`, `kernel`, which reports the numbers of the matching kernel
+//!   of the live clauses, and `memory`, which reports the stop without memory.
 //!
-//! `drawn N` tells the pure kernels of so many drawn formulas, and `small` of all formulas of at most four clauses over three
-//! variables, in the order of `small.rt`, the number of pairs, what walks reach, and what the matching kernel keeps.
+//! `drawn N` reports the pure kernels of N drawn formulas, and `small` of all formulas of at most four clauses over
+//! three variables, in the order of `small.rt`, the number of pairs, what walks reach, and what the matching kernel
+//! keeps.
 ghost use Rattle.std.specs.Prelude.{IsTrue};
 ghost use Rattle.lk_model.specs.Formulas.Lean.{are_positions};
 

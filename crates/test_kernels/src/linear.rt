@@ -3,12 +3,12 @@
 //!
 //! Each line has how many pivots may be made.
 //!
-//! - `run N PIVOTS; CLAUSES` tells all numbers of the run of a formula. N is its number of variables, and there
+//! - `run N PIVOTS; CLAUSES` reports all numbers of the run of a formula. N is its number of variables, and there
 //!   are commas between the clauses, 0 for an empty one. A number of a variable or a position stands after it
 //!   and a colon.
-//! - `sums N PIVOTS` tells how many stages there are, and of the first one how many weights and the first two,
+//! - `sums N PIVOTS` reports how many stages there are, and of the first one how many weights and the first two,
 //!   for the formula in which each variable from 3 to N equals the sum of the two before it, up to sign.
-//! - `each N PIVOTS` tells the same for the formula whose clauses are the variables from 1 to N.
+//! - `each N PIVOTS` reports the same for the formula whose clauses are the variables from 1 to N.
 use crate::telling::put_linear;
 use linear_kernel::linear_kernel;
 use lk_model::Formula;
@@ -40,7 +40,7 @@ fn each(alloc: Global, n: u32) -> Result<Formula, Fail> {
     formula_of_text(alloc, n, clauses.as_str())
 }
 
-/// The formula that a word has, with so many variables.
+/// The formula that a word has, with this many variables.
 fn formula_of(alloc: Global, word: &str, n: i32, clauses: &str) -> Result<Formula, Fail> {
     match word {
         "sums" => sums(alloc, n.unsigned_abs(), n),

@@ -1,8 +1,8 @@
 //! Tests of the kernels of pure literals, of matchings and of linear autarkies, of what they stand on, and of edits.
 //!
 //! A line `@ NAME` of the input chooses the driver of the lines after it: `kernels`, `rows` or `linear`, each described
-//! at the head of its file. Each line is printed again, and after it what is told of it, in lines that begin with `=`.
-//! A line that begins with `#` is a remark.
+//! at the head of its file. Each line is printed again, and after it what is reported of it, in lines that begin with
+//! `=`. A line that begins with `#` is a remark.
 #![tactic(auto)]
 
 mod augments;
@@ -21,7 +21,7 @@ mod telling;
 use std::alloc::Global;
 use std::test::Fail;
 
-/// Whose lines are told.
+/// Which driver the lines are for.
 #[derive(Clone, Copy)]
 enum Driver {
     Kernels,
@@ -38,7 +38,7 @@ fn driver_of(name: &str) -> Driver {
     }
 }
 
-/// Writes what a driver tells of a line.
+/// Writes what a driver reports of a line.
 fn tell(alloc: Global, driver: Driver, line: &str, out: &mut String) -> Result<(), Fail> {
     match driver {
         Driver::Kernels => kernels::tell(alloc, line, out),
@@ -47,7 +47,7 @@ fn tell(alloc: Global, driver: Driver, line: &str, out: &mut String) -> Result<(
     }
 }
 
-/// Prints a line, and what the driver tells of it.
+/// Prints a line, and what the driver reports of it.
 fn print_line(rt: &HostRuntime, driver: Driver, line: &str) -> Result<(), Fail> {
     let mut out = String::new(rt.alloc());
     if !line.starts_with("#") && !line.starts_with("@") {

@@ -28,7 +28,7 @@ pub(crate) fn tell_pure(
     Ok(put_kernel(&k, is_whole, out)?)
 }
 
-/// Writes what is found of so many drawn formulas.
+/// Writes what is found of `count` drawn formulas.
 pub(crate) fn tell_drawn(alloc: Global, count: u32, out: &mut String) -> Result<(), Fail> {
     for seed in 0..count {
         let f = drawn_formula(alloc, 6, seed, seed % 16)?;

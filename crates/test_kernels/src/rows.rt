@@ -1,7 +1,7 @@
 //! Exact arithmetic and the pivots of linear runs. Numbers follow from arithmetic, and the runs were worked out outside the
 //! program.
 //!
-//! | line | what it tells |
+//! | line | what it reports |
 //! |---|---|
 //! | `gcd X Y` | the greatest common divisor |
 //! | `sign X ..` | the sign of the sum |
@@ -209,7 +209,7 @@ fn tell_combined(alloc: Global, text: &str, out: &mut String) -> Result<(), Fail
     Ok(tell_both(alloc, factors.as_slice(), row, other, out)?)
 }
 
-/// Writes what is told of the numbers of a text.
+/// Writes what is reported of the numbers of a text.
 fn tell_numbers(alloc: Global, word: &str, text: &str, out: &mut String) -> Result<(), Fail> {
     let mut numbers = numbers_of(alloc, text)?;
     match word {

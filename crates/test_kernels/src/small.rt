@@ -82,10 +82,10 @@ fn tell_formula(alloc: Global, clauses: &[u32], out: &mut String) -> Result<(), 
     Ok(tell_part(alloc, &f, part.as_slice(), out)?)
 }
 
-/// How many lists of so many clauses there are over three variables.
+/// How many lists of 0, 1, 2, 3 and 4 clauses there are over three variables.
 const LISTS: [u32; 5] = [1, 8, 64, 512, 4096];
 
-/// Writes what is found of the lists with so many sets.
+/// Writes what is found of the lists with `count` sets.
 fn tell_lists(alloc: Global, count: usize, lists: u32, out: &mut String) -> Result<(), Fail> {
     for code in 0..lists {
         let clauses = [code % 8, code / 8 % 8, code / 64 % 8, code / 512];

@@ -79,7 +79,7 @@ fn last_six(alloc: Global, f: &Formula) -> Result<Vec<u32>, AllocError> {
     Ok(part)
 }
 
-/// Tells what is found in some positions of a formula, in the last six of `matching-end`.
+/// Reports what is found in some positions of a formula, in the last six of `matching-end`.
 pub(crate) fn tell_alone(alloc: Global, c: &Command<'_>, out: &mut String) -> Result<(), Fail> {
     let f = formula(alloc, c)?;
     tell_part(alloc, c, &f, out)
@@ -96,7 +96,7 @@ fn tell_part(alloc: Global, c: &Command<'_>, f: &Formula, out: &mut String) -> R
     Ok(())
 }
 
-/// One part of each so many is taken: how many those are, and in how many of them the same is found alone.
+/// One part of each `each` parts is taken: how many those are, and in how many of them the same is found alone.
 pub(crate) fn counts(
     alloc: Global,
     c: &Command<'_>,
@@ -174,8 +174,8 @@ fn count_drawn(alloc: Global, c: &Command<'_>, seed: u32, tally: &mut Tally) -> 
     tally.count(alloc, c, &f)
 }
 
-/// Tells in how many parts of so many drawn formulas the same is found alone; of matching kernels, in how many formulas
-/// it is in each part, and in each third position.
+/// Reports in how many parts of drawn formulas the same is found alone; of matching kernels, in how many formulas it is
+/// in each part, and in each third position.
 pub(crate) fn tell_drawn(alloc: Global, c: &Command<'_>, out: &mut String) -> Result<(), Fail> {
     let mut tally = Tally {
         parts: 0,

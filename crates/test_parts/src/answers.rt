@@ -15,13 +15,13 @@ use std::thread::Threads;
 /// More learned clauses than any of these formulas needs.
 const AMPLE: u32 = 600_000;
 
-/// Of so many drawn clauses one is empty.
+/// Of this many drawn clauses one is empty.
 const EMPTY: u32 = 400;
 
 /// How many clauses may be ordered.
 const MOST_CLAUSES: u32 = 6;
 
-/// Tells a core, or why there is none, with each of the budgets of a command.
+/// Reports a core, or why there is none, with each of the budgets of a command.
 pub(crate) fn tell_each<R: Threads + Sync>(
     rt: &R,
     alloc: Global,
@@ -74,8 +74,8 @@ fn split_answer(text: &str) -> (&str, &str) {
     text.split_once("; right ").unwrap_or((text, ""))
 }
 
-/// Tells what is found in a way with each budget up to 3^n, or 1,000, until it is finished, and whether each answer is
-/// right, and one worker and two say the same.
+/// Reports what is found in a way with each budget up to 3^n, or 1,000, until it is finished, and whether each answer
+/// is right, and one worker and two say the same.
 pub(crate) fn tell_budgets<R: Threads + Sync>(
     rt: &R,
     alloc: Global,
@@ -182,7 +182,7 @@ fn drawn(alloc: Global, c: &Command<'_>, way: &str, seed: u32) -> Result<Formula
     Ok(formula)
 }
 
-/// Appends so many drawn clauses, some of them empty.
+/// Appends `count` drawn clauses, some of them empty.
 fn push_drawn(
     alloc: Global,
     formula: &mut Formula,
@@ -212,7 +212,7 @@ fn push_clause(formula: &mut Formula, clause: Vec<Lit>) -> Result<(), Fail> {
     Ok(())
 }
 
-/// Whether the answer of so many workers on a formula is finished and right, and a model just where there is one; and
+/// Whether the answer of `number` workers on a formula is finished and right, and a model just where there is one; and
 /// that on a core with a small budget is right.
 fn is_right<R: Threads + Sync>(
     rt: &R,
@@ -246,7 +246,7 @@ struct Seen {
 }
 
 impl Seen {
-    /// Takes a formula, which so many workers solve.
+    /// Takes a formula, which `number` workers solve.
     fn take<R: Threads + Sync>(
         &mut self,
         rt: &R,
@@ -283,7 +283,7 @@ fn take_seed<R: Threads + Sync>(
     told.take(rt, alloc, way, &f, 1 + seed % 3)
 }
 
-/// Tells how many of so many drawn formulas have a model, and an empty clause where cores are looked for, and whether all
+/// Reports how many drawn formulas have a model, and an empty clause where cores are looked for, and whether all
 /// answers are right.
 pub(crate) fn tell_drawn<R: Threads + Sync>(
     rt: &R,
@@ -330,7 +330,7 @@ fn push_ordered(
     Ok(())
 }
 
-/// Tells whether a core of all clauses is found in each of their orders.
+/// Reports whether a core of all clauses is found in each of their orders.
 pub(crate) fn tell_orders<R: Threads + Sync>(
     rt: &R,
     alloc: Global,

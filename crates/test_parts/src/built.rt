@@ -53,7 +53,7 @@ fn count(shape: &str, n: i32) -> i32 {
     }
 }
 
-/// A variable and the one so many after it, in turn for each variable for which there is one.
+/// A variable and the one `step` after it, in turn for each variable for which there is one.
 fn linked(n: i32, i: i32, step: i32) -> (i32, i32) {
     let v = (i % n.wrapping_sub(step).max(1)).wrapping_add(1);
     (v, v.wrapping_add(step))

@@ -17,7 +17,7 @@ pub(crate) struct Command<'a> {
     pub others: &'a str,
     /// What stands after the first semicolon.
     pub text: &'a str,
-    /// The same up to the second one, and what stands after that.
+    /// What stands after the first semicolon up to the second one, and what stands after that.
     pub clauses: &'a str,
     pub more: &'a str,
 }
@@ -55,7 +55,7 @@ pub(crate) fn formula(alloc: Global, c: &Command<'_>) -> Result<Formula, Fail> {
     formula_of_text(alloc, vars, c.clauses)
 }
 
-/// The budget of so many learned clauses.
+/// The budget of `conflicts` learned clauses.
 pub(crate) fn budget_of(conflicts: u32) -> Result<Budget, Fail> {
     Ok(Budget::new(u64::from(conflicts)).ok_or("no budget")?)
 }

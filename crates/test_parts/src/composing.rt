@@ -1,11 +1,11 @@
 //! Joins what is found in the parts of formulas. Kernels are those worked out by hand, or found in the whole formula;
 //! general results are those of a plain program in Python, which looks each number up.
 //!
-//! - `kernel N; CLAUSES` tells the matching kernel of a formula, found in each part by itself: the kept
+//! - `kernel N; CLAUSES` reports the matching kernel of a formula, found in each part by itself: the kept
 //!   positions, the own lines and the variables of the rows.
 //! - `general M; RESULTS` joins general results for the parts of a formula of M clauses, with bars between
-//!   them, and tells the result as such a text (`src/given.rt`), or that they cannot be joined.
-//! - `drawn N` compares the kernels of so many drawn formulas with those that are found in one piece.
+//!   them, and reports the result as such a text (`src/given.rt`), or that they cannot be joined.
+//! - `drawn N` compares the kernels of N drawn formulas with those that are found in one piece.
 use crate::command::{Command, formula};
 use crate::given::{put_general, results_of_text};
 use crate::joinable::joined;
@@ -17,7 +17,7 @@ use matching_kernel::matching_kernel;
 use std::alloc::{AllocError, Global};
 use std::test::Fail;
 
-/// Tells the matching kernel of a formula.
+/// Reports the matching kernel of a formula.
 fn tell_kernel(alloc: Global, c: &Command<'_>, out: &mut String) -> Result<(), Fail> {
     let f = formula(alloc, c)?;
     Ok(tell_parts(alloc, &f, out)?)
@@ -38,7 +38,7 @@ fn put_kernel(r: &MatchingResult, out: &mut String) -> Result<(), AllocError> {
     out.push('\n')
 }
 
-/// Tells what the results of a text are, joined.
+/// Reports what the results of a text are, joined.
 fn tell_general(alloc: Global, c: &Command<'_>, out: &mut String) -> Result<(), Fail> {
     let found = results_of_text(alloc, c.text)?;
     Ok(put_joined(joined(alloc, c.first, found)?, out)?)
@@ -73,7 +73,7 @@ fn kernel(alloc: Global, f: &Formula) -> Result<MatchingResult, OutOfMemory> {
     matching_kernel(alloc, f, all.as_slice())
 }
 
-/// Tells how many of so many drawn formulas have the same kernel in one piece.
+/// Reports how many of `count` drawn formulas have the same kernel in one piece.
 fn tell_drawn(alloc: Global, count: u32, out: &mut String) -> Result<(), Fail> {
     let mut same = 0u32;
     for seed in 0..count {
@@ -83,7 +83,7 @@ fn tell_drawn(alloc: Global, count: u32, out: &mut String) -> Result<(), Fail> {
     Ok(())
 }
 
-/// Tells what a command asks for.
+/// Reports what a command asks for.
 pub(crate) fn tell(alloc: Global, c: &Command<'_>, out: &mut String) -> Result<(), Fail> {
     match c.word {
         "kernel" => tell_kernel(alloc, c, out),

@@ -55,7 +55,7 @@ fn put_decision(
     }
 }
 
-/// Tells what is decided of some positions of a formula.
+/// Reports what is decided of some positions of a formula.
 pub(crate) fn tell_decision(alloc: Global, c: &Command<'_>, out: &mut String) -> Result<(), Fail> {
     let f = formula(alloc, c)?;
     tell_text(alloc, &f, c, out)

@@ -23,7 +23,7 @@ pub(crate) struct Search<'a> {
     pub conflicts: u32,
 }
 
-/// Writes what so many workers find with a gate.
+/// Writes what this many workers find with a gate.
 pub(crate) fn put_found<R: Threads + Sync, G: Gate>(
     rt: &R,
     alloc: Global,
@@ -44,7 +44,7 @@ pub(crate) fn put_found<R: Threads + Sync, G: Gate>(
     }
 }
 
-/// What so many workers find with a gate that holds nothing.
+/// What this many workers find with a gate that holds nothing.
 pub(crate) fn found<R: Threads + Sync>(
     rt: &R,
     alloc: Global,

@@ -33,7 +33,7 @@ fn with_index<R: Threads + Sync, G: Gate>(
     )
 }
 
-/// Tells whether half 1 waits for the first number.
+/// Reports whether half 1 waits for the first number.
 fn tell_sides<R: Threads + Sync>(
     rt: &R,
     alloc: Global,
@@ -62,7 +62,7 @@ fn tell_sides<R: Threads + Sync>(
     Ok(())
 }
 
-/// Tells the numbers with their indices, and whether the halves meet at a gate.
+/// Reports the numbers with their indices, and whether the halves meet at a gate.
 fn tell_meeting<R: Threads + Sync>(
     rt: &R,
     alloc: Global,
@@ -84,7 +84,7 @@ fn tell_meeting<R: Threads + Sync>(
     Ok(())
 }
 
-/// Tells the numbers with their indices.
+/// Reports the numbers with their indices.
 fn tell_sums<R: Threads + Sync>(
     rt: &R,
     alloc: Global,
@@ -100,7 +100,7 @@ fn tell_sums<R: Threads + Sync>(
     Ok(())
 }
 
-/// Tells the numbers of a text with their indices, and of `meet` whether the halves meet at a gate.
+/// Reports the numbers of a text with their indices, and of `meet` whether the halves meet at a gate.
 pub(crate) fn tell_halves<R: Threads + Sync>(
     rt: &R,
     alloc: Global,

@@ -10,7 +10,7 @@ use plain_judge::{clause_at, has_model, is_model, is_named, learns, lie_in, refu
 use std::alloc::{AllocError, Global};
 use std::test::Fail;
 
-/// The number of the part, from 1 on, in which chains lie, and 0 where there is none.
+/// The number of the part, from 1 on, in which chains lie, and 0 if there is none.
 fn part_of(alloc: Global, f: &Formula, steps: &[Step]) -> Result<usize, Fail> {
     let list = parts(alloc, f)?;
     let mut number = 0usize;
@@ -42,8 +42,8 @@ fn put_model_judged(f: &Formula, lits: &[Lit], out: &mut String) -> Result<(), A
     write!(out, "= model; right {right}")
 }
 
-/// So many steps with a literal a refutation may have: as many as clauses may be learned, and three for each literal of
-/// the formula.
+/// How many steps with a literal a refutation may have: as many as clauses may be learned, and three for each literal
+/// of the formula.
 fn most_steps(f: &Formula, conflicts: u32) -> u32 {
     let mut most = conflicts;
     for p in 1..f.len() + 1 {
@@ -71,7 +71,7 @@ fn put_round_judged(
     Ok(())
 }
 
-/// The position of the first empty clause, and 0 where there is none.
+/// The position of the first empty clause, and 0 if there is none.
 pub(crate) fn first_empty(f: &Formula) -> u32 {
     for p in 1..f.len() + 1 {
         if f.clause(p).is_empty() {

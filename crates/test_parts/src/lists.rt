@@ -23,7 +23,7 @@ fn lists_of(alloc: Global, c: &Command<'_>, f: &Formula) -> Result<List<List<u32
     }
 }
 
-/// Tells the parts of a formula, its groups, or how many parts it has.
+/// Reports the parts of a formula, its groups, or how many parts it has.
 pub(crate) fn tell_parts(alloc: Global, c: &Command<'_>, out: &mut String) -> Result<(), Fail> {
     let f = formula(alloc, c)?;
     tell_lists(alloc, c, &f, out)

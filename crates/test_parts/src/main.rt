@@ -3,7 +3,7 @@
 //! all choices, or worked out by hand; chains too. The rest is compared with plain programs, or with what one worker finds
 //! in the whole formula.
 //!
-//! Standard input has four scripts, one after another. The head line of each names what its lines are told by:
+//! Standard input has four scripts, one after another. The head line of each names the driver of its lines:
 //! `@ parts` (`src/parts.rt`), `@ composing` (`src/composing.rt`), `@ solve` (`src/solving.rt`) and `@ mus`
 //! (`src/cores.rt`), where its commands are described.
 //!
@@ -37,7 +37,7 @@ use std::alloc::Global;
 use std::test::Fail;
 use std::thread::Threads;
 
-/// What the lines of a script are told by.
+/// Which driver the lines of a script are for.
 #[derive(Clone, Copy)]
 enum Driver {
     Parts,
@@ -57,7 +57,7 @@ fn driver_of(line: &str) -> Option<Driver> {
     }
 }
 
-/// Writes what the command of a line answers.
+/// Writes what the command of a line finds.
 fn tell<R: Threads + Sync>(
     rt: &R,
     alloc: Global,

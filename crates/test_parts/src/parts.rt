@@ -1,42 +1,42 @@
 //! The parts of formulas, work on lists in halves, and kernels by parts.
 //!
-//! - `parts N; CLAUSES` tells the parts of a formula.
-//! - `parts-without N; CLAUSES; VARIABLES` tells the parts of the formula without the literals on these.
-//! - `units N` counts the parts of a unit clause for each of so many variables, and `chain N` those of the
+//! - `parts N; CLAUSES` reports the parts of a formula.
+//! - `parts-without N; CLAUSES; VARIABLES` reports the parts of the formula without the literals on these.
+//! - `units N` counts the parts of a unit clause for each of N variables, and `chain N` those of the
 //!   clauses of two neighbouring ones, each four times.
-//! - `halves N; NUMBERS` adds to each number its index, with so many workers.
-//! - `meet N; NUMBERS` does it with a gate that holds each half until the other one has entered, and tells
+//! - `halves N; NUMBERS` adds to each number its index, with N workers.
+//! - `meet N; NUMBERS` does it with a gate that holds each half until the other one has entered, and reports
 //!   how often each half entered and whether it met the other one.
 //! - `sides N; NUMBERS` does it with a gate that holds half 1 until the first number was worked on, and
-//!   tells whether it was.
-//! - `kernel N; CLAUSES` tells the positions of the matching kernel of a formula as one worker finds it, and
+//!   reports whether it was.
+//! - `kernel N; CLAUSES` reports the positions of the matching kernel of a formula as one worker finds it, and
 //!   whether 2, 3, 8 and 64 workers find the same.
-//! - `workers N; CLAUSES` tells it as two workers find it, with the gate that holds each half.
-//! - `general N C; CLAUSES` tells what one worker finds of the general kernel of a formula by at most C
+//! - `workers N; CLAUSES` reports it as two workers find it, with the gate that holds each half.
+//! - `general N C; CLAUSES` reports what one worker finds of the general kernel of a formula by at most C
 //!   learned clauses for each part: the kept positions and the literals that are set, or `unfinished`, then
 //!   each round with its steps; and whether 2, 3 and 8 workers find the same.
-//! - `general-workers N C; CLAUSES` tells it as two workers find it, with the gate that holds each half.
-//! - `alone N C; CLAUSES; POSITIONS` tells what is found so in the part at these positions, in a formula of its
+//! - `general-workers N C; CLAUSES` reports it as two workers find it, with the gate that holds each half.
+//! - `alone N C; CLAUSES; POSITIONS` reports what is found so in the part at these positions, in a formula of its
 //!   own, and whether the same is found in the whole formula.
-//! - `alone-drawn N C` compares the two for each part of so many drawn formulas.
-//! - `matching N; CLAUSES; POSITIONS` tells the matching kernel of the part at these positions, found in a formula
+//! - `alone-drawn N C` compares the two for each part of N drawn formulas.
+//! - `matching N; CLAUSES; POSITIONS` reports the matching kernel of the part at these positions, found in a formula
 //!   of its own: the kept positions, own lines as position:variable, rows as variable:own:escape:rank, and
 //!   whether the same is found in the whole formula.
-//! - `matching-end N` tells it of the last six clauses after a unit clause for each of so many variables.
-//! - `matching-drawn N` compares the two for each part, and for each third position, of so many drawn formulas.
-//! - `decide N C; CLAUSES; POSITIONS` tells whether the clauses at these positions have a model, as found by at
+//! - `matching-end N` reports it of the last six clauses after a unit clause for each of N variables.
+//! - `matching-drawn N` compares the two for each part, and for each third position, of N drawn formulas.
+//! - `decide N C; CLAUSES; POSITIONS` reports whether the clauses at these positions have a model, as found by at
 //!   most C learned clauses: its literals, a refutation, or a round that stopped.
-//! - `squares N C` tells of parts of four clauses over two of N variables each, where N + 1 is a prime, whose
+//! - `squares N C` reports of parts of four clauses over two of N variables each, where N + 1 is a prime, whose
 //!   numbers are scattered, how much is kept by how many rounds and steps, whether two workers find the same,
 //!   and compares one part of each 20 as `alone` does.
 //! - `fours N` counts the kept clauses of parts of one variable each: four unit clauses, which are kept, or
-//!   one, which is not, in turn; tells whether 2, 3, 8 and 64 workers keep the same; and as `workers` does
-//!   how often each half of 1, 2 and 64 workers entered the gate. `pairs N` tells it of two unit clauses in place of
+//!   one, which is not, in turn; reports whether 2, 3, 8 and 64 workers keep the same; and as `workers` does
+//!   how often each half of 1, 2 and 64 workers entered the gate. `pairs N` reports it of two unit clauses in place of
 //!   four.
-//! - `one N` tells it of a chain over all variables, `two N` of two chains, each over every second variable, and
+//! - `one N` reports it of a chain over all variables, `two N` of two chains, each over every second variable, and
 //!   `beside N` of a chain over the first half of the variables beside a unit clause for each other one.
 //! - `chains` and `values` put refutations and models to the test that are handed in (`src/tested.rt`).
-//! - `groups N; CLAUSES` tells the parts of a formula over 40 variables in at most so many groups.
+//! - `groups N; CLAUSES` reports the parts of a formula over 40 variables in at most N groups.
 use crate::alone::{tell_alone, tell_drawn};
 use crate::command::Command;
 use crate::deciding::tell_decision;
@@ -48,7 +48,7 @@ use std::alloc::Global;
 use std::test::Fail;
 use std::thread::Threads;
 
-/// Tells what a command asks for.
+/// Reports what a command asks for.
 pub(crate) fn tell<R: Threads + Sync>(
     rt: &R,
     alloc: Global,

@@ -1,10 +1,10 @@
 //! Refutations and models that are handed in, put to the test.
 //!
-//! - `chains N C; CLAUSES; CHAINS` tells the refutation of a formula that some chains make, by at most C learned clauses:
-//!   its needed steps; or `none`. A chain is the number of its first clause, and then the literal and the number of each
-//!   turn; chains have commas between them.
-//! - `values N; CLAUSES; LITERALS` tells the literals on variables of the formula that the others make true, if they satisfy
-//!   each clause; or `none`.
+//! - `chains N C; CLAUSES; CHAINS` reports the refutation of a formula that some chains make, by at most C learned
+//!   clauses: its needed steps; or `none`. A chain is the number of its first clause, and then the literal and the
+//!   number of each turn; chains have commas between them.
+//! - `values N; CLAUSES; LITERALS` reports the literals on variables of the formula that the others make true, if they
+//!   satisfy each clause; or `none`.
 use crate::command::{Command, budget_of, formula};
 use crate::deciding::{is_filled, put_decided};
 use crate::lines::put_model;
@@ -15,7 +15,7 @@ use refutation_log::Chain;
 use std::alloc::Global;
 use std::test::Fail;
 
-/// Tells what a command asks for.
+/// Reports what a command asks for.
 pub(crate) fn tell_tested(alloc: Global, c: &Command<'_>, out: &mut String) -> Result<(), Fail> {
     match c.word {
         "chains" => tell_chains(alloc, c, out),

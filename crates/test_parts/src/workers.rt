@@ -57,7 +57,7 @@ fn first_of<R: Threads + Sync>(
     Ok((first, same))
 }
 
-/// Which numbers of workers are tried beside one, and how that is told.
+/// Which numbers of workers are tried beside one, and how that is reported.
 fn others_of(word: &str) -> (&'static [u32], &'static str) {
     match word {
         "kernel" => (&[2, 3, 8, 64], "; the same"),
@@ -67,7 +67,7 @@ fn others_of(word: &str) -> (&'static [u32], &'static str) {
     }
 }
 
-/// Tells what one worker finds, and whether others find the same.
+/// Reports what one worker finds, and whether others find the same.
 pub(crate) fn tell_same<R: Threads + Sync>(
     rt: &R,
     alloc: Global,
@@ -91,7 +91,7 @@ fn put_same<R: Threads + Sync>(
     Ok(())
 }
 
-/// Tells how many clauses of a built formula are kept, whether any number of workers keeps the same, and whether the
+/// Reports how many clauses of a built formula are kept, whether any number of workers keeps the same, and whether the
 /// halves of one, two and 64 meet at a gate.
 pub(crate) fn tell_built<R: Threads + Sync>(
     rt: &R,
@@ -118,7 +118,7 @@ fn put_kept<R: Threads + Sync>(
     Ok(())
 }
 
-/// Writes whether the halves of so many workers meet at a gate.
+/// Writes whether the halves of this many workers meet at a gate.
 fn put_entered<R: Threads + Sync>(
     rt: &R,
     alloc: Global,
@@ -139,7 +139,7 @@ fn kept_count<R: Threads + Sync>(rt: &R, alloc: Global, f: &Formula) -> Result<u
     Ok(matching_by_parts(rt, alloc, &OpenGate, f, 1)?.kept.len())
 }
 
-/// Tells of the parts of four clauses how much is kept and by how many rounds and steps, whether two workers find the
+/// Reports of the parts of four clauses how much is kept and by how many rounds and steps, whether two workers find the
 /// same, and for one part of each 20 whether the same is found in the whole formula.
 pub(crate) fn tell_squares<R: Threads + Sync>(
     rt: &R,
@@ -180,7 +180,8 @@ fn put_kernel_sizes<R: Threads + Sync>(
     Ok(put_sizes(general, out)?)
 }
 
-/// Tells what so many workers find, and whether their halves meet at a gate; of `gate` how often each met the other.
+/// Reports what this many workers find, and whether their halves meet at a gate; of `gate` how often each met the
+/// other.
 pub(crate) fn tell_met<R: Threads + Sync>(
     rt: &R,
     alloc: Global,

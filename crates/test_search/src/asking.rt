@@ -18,10 +18,10 @@ pub(crate) enum Way {
     Usual,
     /// By one order, with the last values or true first.
     One { by: By, last: bool },
-    /// By the numbers and the connection, which alternate: so many clauses are learned at first, and so many more in each
-    /// further slice.
+    /// By the numbers and the connection, which alternate: `first` clauses are learned at first, and `further` more in
+    /// each further slice.
     Schedule { first: u64, further: u64 },
-    /// By the activity beside itself, so that the first one answers.
+    /// By the activity beside itself, so that the first one gives the answer.
     Activity { first: u64, further: u64 },
     /// By the usual three, which alternate.
     WithActivity { first: u64, further: u64 },

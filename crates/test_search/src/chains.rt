@@ -6,11 +6,11 @@
 //!     join | NAME | CLAUSE | LITERAL | OTHER
 //!     log | NAME | VARS | CLAUSES | BLOCKED | PART | FIRST | CHAINS | NEXT
 //!
-//! `join` tells the literals of a clause in order, and those of its resolvent on a literal with another clause. `log` logs
-//! chains, with semicolons between them, each as its first number and its turns, a turn as LITERAL/NUMBER; the steps are
-//! numbered from FIRST on. It tells the clause that is found by the number of each step, and that none is found after
-//! them, the last clause, the positions that are used, and each step; and where there is a NEXT the steps of the log
-//! trimmed to it, and the positions that these use.
+//! `join` reports the literals of a clause in order, and those of its resolvent on a literal with another clause. `log`
+//! logs chains, with semicolons between them, each as its first number and its turns, a turn as LITERAL/NUMBER; the
+//! steps are numbered from FIRST on. It reports the clause that is found by the number of each step, and that none is
+//! found after them, the last clause, the positions that are used, and each step; and where there is a NEXT the steps
+//! of the log trimmed to it, and the positions that these use.
 ghost use Rattle.std.specs.Prelude.{IfOk, IsSome, IsTrue};
 ghost use Rattle.lk_model.specs.Held.VariableSets.{IsCrossed, premises_of};
 ghost use Rattle.lk_model.specs.Chains.Chain.{chain_clause};

@@ -1,4 +1,4 @@
-//! Budgets around the edges of slices: what orders that alternate answer, beside what each answers by itself.
+//! Budgets around the edges of slices: what orders that alternate return, beside what each returns by itself.
 use crate::asking::{Asked, Way, answer};
 use cdcl_core::By;
 use lk_model::Decided;
@@ -33,18 +33,18 @@ pub(crate) const ALL: [Way; 3] = [
     },
 ];
 
-/// What is answered.
+/// What is returned.
 #[derive(Clone, Copy, PartialEq)]
 enum Told {
     /// There is a model.
     Sat,
-    /// A refutation of so many steps.
+    /// A refutation of this many steps.
     Refuted(usize),
-    /// So many steps, without an end.
+    /// This many steps, without an end.
     Stopped(usize),
 }
 
-/// What is answered.
+/// What is returned.
 fn answered(alloc: Global, asked: &Asked, way: Way, next: u64, budget: u64) -> Result<Told, Fail> {
     match answer(alloc, asked, way, next, budget)? {
         Decided::Model(_) => Ok(Told::Sat),
@@ -66,8 +66,9 @@ fn enough(alloc: Global, asked: &Asked, way: Way, next: u64, bound: u32) -> Resu
     Ok(u64::from(bound))
 }
 
-/// The place of the order that answers first within a budget, by the budgets that are enough for each, or none. Each has
-/// as many clauses as a slice allows, and then so many more, at least one; the others begin after its first slice.
+/// The place of the order that decides first within a budget, by the budgets that are enough for each, or none. Each
+/// has as many clauses as a slice allows, and then `further` more, at least one; the others begin after its first
+/// slice.
 fn winner(enough: &[u64], slice: u64, further: u64, budget: u64) -> Option<usize> {
     let mut pause = slice.min(budget);
     let leading = enough.first().copied().unwrap_or(0);
@@ -103,7 +104,7 @@ fn all_enough(
     Ok(budgets)
 }
 
-/// Of how many budgets up to a bound the schedule's answer is that of the order that answers first, or a stop.
+/// Of how many budgets up to a bound the schedule's answer is that of the order that decides first, or a stop.
 pub(crate) fn right_budgets(
     alloc: Global,
     asked: &Asked,

@@ -5,7 +5,7 @@
 //! to 2^63 - 1, the clauses with commas between them, 0 for an empty one, and the positions of a part, or none for all.
 //! The answer has the kept positions and the literals that are set, or `unfinished`, and then each round with its
 //! steps: the number of a step, its clause, the first number of its chain, and for each turn a literal and a number.
-//! `short` in place of `kernel` leaves the rounds out, and tells how many clauses are learned.
+//! `short` in place of `kernel` leaves the rounds out, and reports how many clauses are learned.
 use general_kernel::general_kernel;
 use lk_model::{Budget, General, Round, Step};
 use lk_samples::{formula_of_text, part_of_text, put_literals, put_rounds};
@@ -57,7 +57,7 @@ fn put(found: &General, is_whole: bool, out: &mut String) -> Result<(), AllocErr
     }
 }
 
-/// The budget of so many learned clauses.
+/// The budget of `conflicts` learned clauses.
 fn budget_of(conflicts: u64) -> Result<Budget, Fail> {
     match Budget::new(conflicts) {
         Some(budget) => Ok(budget),
@@ -65,7 +65,7 @@ fn budget_of(conflicts: u64) -> Result<Budget, Fail> {
     }
 }
 
-/// Tells what is found in a part of the formula that a text has.
+/// Reports what is found in a part of the formula that a text has.
 fn tell_part(
     alloc: Global,
     n: u32,
@@ -81,7 +81,7 @@ fn tell_part(
     Ok(put(&found, is_whole, out)?)
 }
 
-/// Writes what the command of a line answers.
+/// Writes what the command of a line finds.
 pub(crate) fn tell(alloc: Global, line: &str, out: &mut String) -> Result<(), Fail> {
     let (word, text) = line.split_once(" ").unwrap_or((line, ""));
     let (numbers, text) = text.split_once(";").unwrap_or((text, ""));

@@ -1,6 +1,6 @@
-//! Parts of formulas that are decided: what is answered, and whether it stands. Each model is tried on the clauses, each log
-//! gone through, and each answer on a drawn formula compared with a search through all assignments. The orders are those of
-//! `bench/connection.py`.
+//! Parts of formulas that are decided: what is returned, and whether it stands. Each model is tried on the clauses,
+//! each log gone through, and each answer on a drawn formula compared with a search through all assignments. The orders
+//! are those of `bench/connection.py`.
 //!
 //! A line is one of
 //!
@@ -31,7 +31,7 @@ use lk_samples::{formula_of_text, numbers_of_text, part_of_text};
 use std::alloc::Global;
 use std::test::Fail;
 
-/// Decides what is asked, and writes what is answered.
+/// Decides what is asked, and writes what is returned.
 fn put_asked(
     alloc: Global,
     asked: &Asked,

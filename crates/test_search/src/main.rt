@@ -2,8 +2,8 @@
 //! orders of variables, general kernels, and the program's answers for files.
 //!
 //! A line `@ NAME` of the input chooses the driver of the lines after it: `chains`, `watches`, `learning`, `general` or
-//! `sizes`, each described at the head of its file. Each line is printed again, and after it what is told of it. A line
-//! that begins with `#` is a remark.
+//! `sizes`, each described at the head of its file. Each line is printed again, and after it what is reported of it. A
+//! line that begins with `#` is a remark.
 #![tactic(auto)]
 
 mod answers;
@@ -26,7 +26,7 @@ mod words;
 
 use std::test::Fail;
 
-/// Whose lines are told.
+/// Which driver the lines are for.
 #[derive(Clone, Copy)]
 enum Driver {
     Chains,
@@ -47,7 +47,7 @@ fn driver_of(name: &str) -> Driver {
     }
 }
 
-/// Writes what a driver tells of a line.
+/// Writes what a driver reports of a line.
 fn tell(rt: &HostRuntime, driver: Driver, line: &str, out: &mut String) -> Result<(), Fail> {
     match driver {
         Driver::Chains => chains::tell(rt.alloc(), line, out),
@@ -58,7 +58,7 @@ fn tell(rt: &HostRuntime, driver: Driver, line: &str, out: &mut String) -> Resul
     }
 }
 
-/// Prints a line, and what the driver tells of it.
+/// Prints a line, and what the driver reports of it.
 fn print_line(rt: &HostRuntime, driver: Driver, line: &str) -> Result<(), Fail> {
     let mut out = String::new(rt.alloc());
     if !line.starts_with("#") && !line.starts_with("@") {

@@ -9,7 +9,7 @@ use lk_model::Lit;
 use std::test::Fail;
 use watch_prop::{Propagated, Propagator};
 
-/// Propagates, and tells whether the literal may be assigned then: that ends quiet, and it is unset.
+/// Propagates, and returns whether the literal may be assigned then: that ends quiet, and it is unset.
 pub(crate) fn opens(p: &mut Propagator, vars: u32, l: Lit) -> bool
     requires { p.old.vars ≡ vars }
     ensures vars { p.new.vars ≡ vars }

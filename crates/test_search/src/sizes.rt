@@ -1,5 +1,5 @@
-//! What clause learning answers for a file's formula, for measuring (`bench/learning.py`). The one expected line is that of
-//! the eight clauses on three variables, which can be followed by hand.
+//! What clause learning returns for a file's formula, for measuring (`bench/learning.py`). The one expected line is
+//! that of the eight clauses on three variables, which can be followed by hand.
 //!
 //! A line is `WAY BUDGET FILE`, with the ways of drawn formulas (`learning`), or none. The answer is `sat`, `refuted` or
 //! `stopped`, the number of steps, and that of the literals of their clauses.

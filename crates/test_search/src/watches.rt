@@ -1,4 +1,4 @@
-//! Moves on propagators. What the cases answer can be worked out by hand, and that of drawn moves is found by
+//! Moves on propagators. What the cases return can be worked out by hand, and that of drawn moves is found by
 //! `bench/moves.py`, which scans all clauses.
 //!
 //! A line is `case | NAME | VARS | CLAUSES | PART | BLOCKED | MOVES`, with commas between clauses, semicolons between
@@ -19,7 +19,7 @@ fn play_over(alloc: Global, f: &Formula, text: &str, out: &mut String) -> Result
     play(alloc, &mut p, f.vars(), f.len(), moves, out)
 }
 
-/// Writes the name of a case, and what its moves answer.
+/// Writes the name of a case, and what its moves return.
 fn tell_case(alloc: Global, text: &str, out: &mut String) -> Result<(), Fail> {
     let (name, text) = part_of(text);
     let (vars, text) = part_of(text);

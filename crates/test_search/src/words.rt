@@ -1,6 +1,6 @@
 //! Moves on a propagator, as words. Each has a number, from the first free one on.
 //!
-//! | move | what it does, and what it answers |
+//! | move | what it does, and what it returns |
 //! |---|---|
 //! | `propagate K..` | propagates: `quiet`, or which clause is false, but `one of these` where its number is given |
 //! | `assign L` | propagates, and makes the literal true if that ends quiet and it is unset: whether it does |
@@ -53,7 +53,7 @@ fn put_entry(
     writeln!(out, " {v} {value:?} {level:?} {reason:?}")
 }
 
-/// Writes what is told of a variable.
+/// Writes what is reported of a variable.
 fn put_variable(p: &Propagator, vars: u32, v: u32, out: &mut String) -> Result<(), AllocError>
     requires { p.now.vars ≡ vars }
 {
@@ -63,7 +63,7 @@ fn put_variable(p: &Propagator, vars: u32, v: u32, out: &mut String) -> Result<(
     put_entry(v, p.value(v), p.level(v), p.reason(v), out)
 }
 
-/// Writes what is told of the variables that a text has.
+/// Writes what is reported of the variables that a text has.
 fn put_told(p: &Propagator, vars: u32, text: &str, out: &mut String) -> Result<(), AllocError>
     requires { p.now.vars ≡ vars }
 {
@@ -234,7 +234,7 @@ fn put_taken(
     Ok(())
 }
 
-/// Makes a move that adds no clause and assigns nothing, and writes what it answers.
+/// Makes a move that adds no clause and assigns nothing, and writes what it returns.
 fn put_moved(
     p: &mut Propagator,
     vars: u32,
@@ -255,7 +255,7 @@ fn put_moved(
     }
 }
 
-/// Makes one move, and writes what it answers.
+/// Makes one move, and writes what it returns.
 fn make(
     alloc: Global,
     p: &mut Propagator,
@@ -276,7 +276,7 @@ fn make(
     }
 }
 
-/// Makes the moves of a text, and writes what they answer. The numbers from above a last one are free.
+/// Makes the moves of a text, and writes what they return. The numbers from above a last one are free.
 pub(crate) fn play(
     alloc: Global,
     p: &mut Propagator,

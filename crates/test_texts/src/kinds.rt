@@ -21,9 +21,9 @@ pub(crate) enum Kind<'a> {
     Document,
     /// An answer for the formula, which is then checked.
     Answer(&'a Formula),
-    /// An answer for so many variables and clauses.
+    /// An answer for these numbers of variables and clauses.
     Form(u32, u32),
-    /// A model over so many variables.
+    /// A model over this many variables.
     Model(u32),
 }
 
@@ -45,7 +45,7 @@ pub(crate) fn told_of(alloc: Global, kind: Kind, text: &[u8]) -> Result<String, 
     Ok(told)
 }
 
-/// What is said of a text in pieces of so many bytes, or whole for the size 0.
+/// What is said of a text in pieces of `size` bytes, or whole for the size 0.
 fn told_in(alloc: Global, kind: Kind, text: &[u8], size: usize) -> Result<String, AllocError> {
     let mut out = String::new(alloc);
     match kind {
@@ -103,7 +103,7 @@ fn read_form(alloc: Global, n: u32, m: u32, text: &[u8], size: usize) -> Result<
     read_in_pieces(alloc, answer_reader(n, m), text, size)
 }
 
-/// Reads a text in pieces of so many bytes, up to the first piece that is refused.
+/// Reads a text in pieces of `size` bytes, up to the first piece that is refused.
 fn read_in_pieces<R: LineReader + Drop>(
     alloc: Global,
     reader: R,

@@ -2,7 +2,7 @@
 //! too long. The expected answers follow from the limits and from how the texts are made, while they are fed.
 //!
 //! - `formula END|MORE` is comments with an end after them that makes the longest text, and more. The bytes of both
-//!   come one by one; the answer is the first one that is refused, and what is answered at the end.
+//!   come one by one; the answer is the first one that is refused, and what is returned at the end.
 //! - `edits FIRST|MORE` is a first line of two bytes or none with comments after it that make the longest text, and
 //!   more.
 //! - `clauses END` adds the most clauses, and then comes an end.
@@ -25,7 +25,7 @@ const COMMENTS: u32 = 32_768;
 
 const CLAUSES: u32 = 1_000;
 
-/// Writes what is answered to a line.
+/// Writes what is returned for a line.
 pub(crate) fn tell(alloc: Global, line: &str, out: &mut String) -> Result<(), Fail> {
     let (word, text) = line.split_once(" ").unwrap_or((line, ""));
     let (first, more) = text.split_once("|").unwrap_or((text, ""));
@@ -67,7 +67,7 @@ fn tell_formula(
     Ok(())
 }
 
-/// Feeds so many bytes of comments, which are even.
+/// Feeds `count` bytes of comments, which are even.
 fn feed_comments(reader: &mut Reader, piece: &[u8], count: usize) -> Result<(), Refused> {
     let size = piece.len().max(1);
     let (_, last) = piece.split_at(piece.len().saturating_sub(count % size));
@@ -99,7 +99,7 @@ fn feed_longest(reader: &mut EditsReader, first: &[u8], piece: &[u8]) -> Result<
     feed_times(reader, piece, (MOST / piece.len().max(1)).saturating_sub(1))
 }
 
-/// Feeds so many times the same piece.
+/// Feeds the same piece `times` times.
 fn feed_times(reader: &mut EditsReader, piece: &[u8], times: usize) -> Result<(), EditsRefused> {
     for _ in 0..times {
         reader.feed(piece)?;

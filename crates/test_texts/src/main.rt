@@ -2,7 +2,7 @@
 //!
 //! `@ texts`, `@ reading`, `@ printing`, `@ answers` or `@ longest` says what the lines after it ask; their commands
 //! are explained at the head of the files of these names. Each line is printed again, and after it stands what is
-//! answered; a blank one, a head and a remark, which begins with `#`, have no answer.
+//! returned; a blank one, a head and a remark, which begins with `#`, have no answer.
 //!
 //! In a text `\n`, `\r`, `\t` and `\v` are the bytes 10, 13, 9 and 11, and `\s` is a blank at an end of the line.
 //! `base TEXT` takes a text for the next lines.
@@ -26,7 +26,7 @@ use lk_model::Formula;
 use std::alloc::Global;
 use std::test::Fail;
 
-/// Writes what is answered to a line, for a formula and a text that earlier lines gave.
+/// Writes what is returned for a line, for a formula and a text that earlier lines gave.
 fn tell(
     alloc: Global,
     driver: &str,

@@ -6,7 +6,7 @@ use model_text::{ModelReader, read_model};
 use partial_assign::Partial;
 use std::alloc::{AllocError, Global};
 
-/// Reads a text in pieces of so many bytes, or whole for the size 0.
+/// Reads a text in pieces of `size` bytes, or whole for the size 0.
 pub(crate) fn read_values(
     alloc: Global,
     n: u32,
@@ -69,7 +69,7 @@ pub(crate) fn tell_endless(alloc: Global, line: &str, out: &mut String) -> Resul
     }
 }
 
-/// Feeds a text, and then more of it again and again, up to the first piece that is refused. Answers how
+/// Feeds a text, and then more of it again and again, up to the first piece that is refused. Returns how
 /// often more was taken.
 fn feed_on(reader: &mut ModelReader, text: &[u8], more: &[u8]) -> u32 {
     if reader.feed(text).is_err() {

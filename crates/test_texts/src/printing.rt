@@ -111,12 +111,12 @@ pub(crate) fn number_at(numbers: &[i128], place: usize) -> i128 {
     numbers.get(place).copied().unwrap_or(0)
 }
 
-/// The same as a variable or a position.
+/// The number at a place, counted from 0, as a variable or a position; 0 if there is none, or it does not fit.
 pub(crate) fn small_at(numbers: &[i128], place: usize) -> u32 {
     u32::try_from(number_at(numbers, place)).unwrap_or(0)
 }
 
-/// The same as the number of a step.
+/// The number at a place, counted from 0, as that of a step; 0 if there is none, or it does not fit.
 pub(crate) fn large_at(numbers: &[i128], place: usize) -> u64 {
     u64::try_from(number_at(numbers, place)).unwrap_or(0)
 }

@@ -16,14 +16,14 @@
 //!   4,000,000 clauses.
 //!
 //! Each text is also read in pieces of 1, 2, 3, 7 and 65,536 bytes. If the answer is another one then, it is `otherwise
-//! in pieces of` so many bytes.
+//! in pieces of` that size.
 use crate::kinds::{Kind, told_of};
 use crate::models::{numbered, tell_endless};
 use crate::spelled::{bytes_of, changed};
 use crate::variants::{Style, put_cuts, put_variants};
 use std::alloc::{AllocError, Global};
 
-/// Writes what is answered to a line.
+/// Writes what is returned for a line.
 pub(crate) fn tell(
     alloc: Global,
     kind: Kind,

@@ -45,8 +45,8 @@ pub(crate) fn parts_of<'a>(alloc: Global, line: &'a str) -> Result<Vec<&'a str>,
     Ok(parts)
 }
 
-/// The bytes of these lines, of which the one at a place stands so many times, or, with no number, is exchanged with the
-/// next one.
+/// The bytes of these lines, of which the one at a place stands `times` times, or, with no number, is exchanged with
+/// the next one.
 pub(crate) fn variant(
     alloc: Global,
     parts: &[&str],

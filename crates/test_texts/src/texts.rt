@@ -1,10 +1,10 @@
-//! `@ texts`: what the readers of formulas and of documents answer. The expected answers follow from the grammars: the
+//! `@ texts`: what the readers of formulas and of documents return. The expected answers follow from the grammars: the
 //! first fault of a text and its line, and nothing else where it is read in pieces.
 //!
 //! - `formula TEXT` reads the text of a formula, in one piece, in pieces of 1, 3 and 7 bytes, and in two
 //!   pieces, cut at each byte. An answer stands there once if it does not change.
-//! - `moment TEXT` feeds single bytes, and tells with which one the text is refused.
-//! - `pieces TEXT|TEXT` feeds pieces, and tells the answer to each one and at the end.
+//! - `moment TEXT` feeds single bytes, and reports with which one the text is refused.
+//! - `pieces TEXT|TEXT` feeds pieces, and reports the answer to each one and at the end.
 //! - `document TEXT` reads the text of a document, whole and in pieces, compares it with what is printed of the
 //!   document, and shows the document.
 //! - `change OLD|NEW` reads the base as a document, with NEW in the place of OLD, and `cut` reads each beginning of it.
@@ -17,7 +17,7 @@ use lk_model::{Body, Document, DoneDocument, Formula};
 use lk_samples::put_literals;
 use std::alloc::{AllocError, Global};
 
-/// Writes what is answered to a line.
+/// Writes what is returned for a line.
 pub(crate) fn tell(
     alloc: Global,
     base: &str,
@@ -39,7 +39,7 @@ pub(crate) fn tell(
     }
 }
 
-/// Reads a text of which a first piece has the bytes before a cut, and the others so many.
+/// Reads a text of which a first piece has the bytes before a cut, and the others have `size` bytes each.
 fn read_formula(alloc: Global, text: &[u8], cut: usize, size: usize) -> Result<Formula, Refused> {
     let (first, rest) = text.split_at(cut.min(text.len()));
     let mut reader = Reader::new(alloc);
@@ -55,7 +55,7 @@ fn feed_pieces(reader: &mut Reader, first: &[u8], rest: &[u8], size: usize) -> R
     Ok(())
 }
 
-/// Writes what the reader answers to a text in one piece and in smaller ones, and cut in two at each
+/// Writes what the reader returns for a text in one piece and in smaller ones, and cut in two at each
 /// byte, once if it is the same.
 fn tell_formula(alloc: Global, text: &[u8], out: &mut String) -> Result<(), AllocError> {
     let mut last = String::new(alloc);

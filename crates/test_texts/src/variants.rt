@@ -36,7 +36,7 @@ pub(crate) fn put_cuts(
     put_run(style, last.as_str(), from, bytes.len(), out)
 }
 
-/// Writes what is said of the beginnings from so many bytes to less than so many, if there are any.
+/// Writes what is said of the beginnings of at least `from` and fewer than `to` bytes, if there are any.
 fn put_run(
     style: Style,
     told: &str,
@@ -70,7 +70,7 @@ fn put_short(told: &str, end: &str, out: &mut String) -> Result<(), AllocError> 
     }
 }
 
-/// Writes what is said of the text in which each line in turn stands so many times, or, with no number, is exchanged
+/// Writes what is said of the text in which each line in turn stands `times` times, or, with no number, is exchanged
 /// with the next one.
 pub(crate) fn put_variants(
     alloc: Global,

@@ -21,14 +21,14 @@ texts_of (Unfinished d) = d.texts
 abbrev pub FormulaLaw : Type 0
 FormulaLaw = (text : List ℕ) (F : Cnf) → Spells text F → IsTrue (is_formula F)
 
--- the plain text of a formula within the limits spells it, where it is not too long to be read
+-- the plain text of a formula within the limits spells it, if it is not too long to be read
 abbrev pub PlainLaw : Type 0
 PlainLaw = (F : Cnf) → IsTrue (is_formula F) → IsWithinLimits F → length (plain_text F) ≤ max_bytes → Spells (plain_text F) F
 
--- the text of a document in form spells its clauses, where it is not too long to be read
+-- the text of a document in form spells its clauses, if it is not too long to be read
 abbrev pub SpellsLaw : Type 0
 SpellsLaw = (d : Document) → IsTrue (is_in_form d) → length (text_of d) ≤ max_bytes → Spells (text_of d) (texts_of d)
 
--- so does the text of a core in form
+-- the text of a core in form spells its clauses, if it is not too long to be read
 abbrev pub CoreSpellsLaw : Type 0
 CoreSpellsLaw = (core : MusAnswer) → IsTrue (is_core_in_form core) → length (core_text core) ≤ max_bytes → Spells (core_text core) core.texts

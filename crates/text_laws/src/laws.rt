@@ -6,19 +6,19 @@ pub fn formula_law()
     ensures { FormulaLaw }
 {}
 
-/// The plain text of a formula within the limits spells it, where it is not too long to be read.
+/// The plain text of a formula within the limits spells it, if it is not too long to be read.
 #[tactic(auto, using(crate::proofs::Plain::plain_law))]
 pub fn plain_law()
     ensures { PlainLaw }
 {}
 
-/// The text of a document in form spells the document's clauses, where it is not too long to be read.
+/// The text of a document in form spells the document's clauses, if it is not too long to be read.
 #[tactic(auto, using(crate::proofs::Spelling::spells_law))]
 pub fn spells_law()
     ensures { SpellsLaw }
 {}
 
-/// The text of a minimally unsatisfiable core in form spells the core's clauses, where it is not too long to be read.
+/// The text of a minimally unsatisfiable core in form spells the core's clauses, if it is not too long to be read.
 #[tactic(auto, using(crate::proofs::CoreSpelling::core_spells_law))]
 pub fn core_spells_law()
     ensures { CoreSpellsLaw }

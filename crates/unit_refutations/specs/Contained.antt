@@ -16,6 +16,6 @@ contains_none over c = not (list_any (λ p. not (is_empty (clause_over over p)) 
 abbrev pub is_within_but : Variables → List ℤ → List ℤ → Bool
 is_within_but vars c d = list_all (λ l. vars (variable l) || contains d l) c
 
--- so it is of no clause at these positions
+-- of no clause at these positions does each literal stand in d, or have its variable in the set
 abbrev pub none_within_but : Cnf → Variables → List ℤ → List ℕ → Bool
 none_within_but F vars d ps = list_all (λ p. not (is_within_but vars (clause_at F p) d)) ps

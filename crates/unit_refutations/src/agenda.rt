@@ -94,7 +94,7 @@ impl Agenda {
         Ok(agenda)
     }
 
-    // Puts the clause at a position inside, which has so many literals, all unset.
+    // Puts the clause at a position inside, which has this many literals, all unset.
     fn add(&mut self, position: u32, literals: usize) -> Result<(), OutOfMemory>
         requires first { 0 < position }
         requires last { position ≤ length self.old.inside }

@@ -2,7 +2,7 @@
 //!
 //! From a first clause those are gathered that share an unset variable with one that is there, as far as they have few
 //! unset literals, and the clauses that forced what is false in them. So what small clauses refute by themselves is
-//! found at the cost of these clauses. No contract says which they are: what is found in them is tested.
+//! found at the cost of these clauses. No contract says which they are: any clauses of the part will do.
 ghost use Rattle.std.specs.Prelude.{◌≡◌, ◌<◌, ◌*◌, ◌+◌, length, IsTrue};
 ghost use Rattle.lk_model.specs.Formulas.Literal.{complement, is_clause, rank_of};
 ghost use Rattle.lk_model.specs.Held.VariableSets.{IsCrossed};
@@ -12,13 +12,13 @@ use crate::units::Units;
 use lk_model::{Crossed, Formula, Lit, OutOfMemory, VarSet};
 use std::alloc::Global;
 
-/// So many clauses are gathered, apart from those that force something.
+/// At most this many clauses are gathered, apart from those that force something.
 const NEAR: usize = 64;
 
-/// So many in all.
+/// Others are gathered around at most this many clauses.
 const MOST: usize = 1024;
 
-/// Of each list of clauses so many are looked at.
+/// Of each list of clauses at most this many are looked at.
 const LOOKED_AT: usize = 256;
 
 /// Nothing is gathered around a longer clause.
@@ -123,8 +123,8 @@ impl Around {
         Ok(())
     }
 
-    // Puts the clause in that made a literal false; if it is unset, the clauses with its variable that have at most so
-    // many unset literals.
+    // Puts the clause in that made a literal false; if it is unset, the clauses with its variable that have at most
+    // `unset` unset literals.
     fn add_by_literal(&mut self, units: &Units, l: Lit, unset: u32) -> Result<(), OutOfMemory>
         requires rank { rank_of l < length units.now.lists }
         requires other { rank_of (complement l) < length units.now.lists }
@@ -139,7 +139,7 @@ impl Around {
         Ok(())
     }
 
-    // Puts those of some positions in at whose clauses no literal is true, and at most so many are unset.
+    // Puts those of some positions in at whose clauses no literal is true, and at most `unset` literals are unset.
     fn add_open(
         &mut self,
         units: &Units,

@@ -11,7 +11,7 @@ use lk_model::{Crossed, Lit, VarSet};
 use occurrence_lists::OccurrenceLists;
 
 /// Whether a clause contains no crossed clause of the part that is not empty. Only clauses that share a literal with it
-/// are looked at; that it answers false where there is none is possible, for a clause outside the part.
+/// are looked at; it may return false though it contains none, because of a clause outside the part.
 pub(crate) fn contains_none(lists: &OccurrenceLists, over: &Crossed, clause: &[Lit]) -> bool
     requires crossed { IsCrossed over.now }
     requires lists { AreOccurrences over.now.formula.now lists.now }

@@ -51,7 +51,7 @@ impl Units {
         Units::by_lists(alloc, f, part, OccurrenceLists::new(alloc, f)?)
     }
 
-    /// The same, where the lists of the formula are there.
+    /// As `new`, where the lists of the formula are there.
     pub fn by_lists(
         alloc: Global,
         f: &Formula,
@@ -70,8 +70,8 @@ impl Units {
         })
     }
 
-    /// Propagates without the blocked variables, and answers the refutation by one step, numbered `next`, where a
-    /// clause that is not empty is false. No clause says that there is none where it answers none.
+    /// Propagates without the blocked variables, and returns the refutation by one step, numbered `next`, if a clause
+    /// that is not empty is false. No clause says that there is no refutation if it returns none.
     pub fn refute(
         &mut self,
         alloc: Global,
@@ -109,8 +109,8 @@ impl Units {
         self.agenda.unset_at(position)
     }
 
-    /// Whether a clause contains no crossed clause of the part that is not empty. It is not said that it answers true
-    /// wherever there is none.
+    /// Whether a clause contains no crossed clause of the part that is not empty. No clause says that it returns true
+    /// wherever it contains none.
     pub fn contains_none(&self, over: &Crossed, clause: &[Lit]) -> bool
         requires crossed { IsCrossed over.now }
         requires kept { IsKept over.now.formula.now over.now.blocked.now self.now }
@@ -208,7 +208,7 @@ impl Units {
         self.agenda.note_all(self.lists.positions(l), change)
     }
 
-    // Propagates until a clause is false, and answers its position, or until nothing more is forced.
+    // Propagates until a clause is false, and returns its position, or until nothing more is forced.
     fn propagate(&mut self, f: &Formula, blocked: &VarSet) -> Result<Option<u32>, OutOfMemory>
         requires size { length blocked.now ≡ f.now.vars }
         requires kept { IsKept f.now blocked.now self.old }
@@ -265,7 +265,7 @@ impl Units {
     }
 }
 
-// What propagation comes to next.
+// What propagation finds next.
 #[derive(Clone, Copy)]
 enum Found {
     // No clause asks for anything.

@@ -1,9 +1,9 @@
 //! The variables that occur in crossed clauses, by their connection.
 //!
-//! Next comes again and again the variable that shares most with those before, as in a maximum cardinality search
+//! The next variable is each time the one that shares most with those before, as in a maximum cardinality search
 //! (Tarjan and Yannakakis, "Simple Linear-Time Algorithms to Test Chordality of Graphs", 1984; as an order of
 //! decisions: Amir and McIlraith, "Solving Satisfiability using Decomposition and the Most Constrained Subproblem",
-//! 2001). How much it shares is counted in points (`points`). Where none has any, the least variable comes that is
+//! 2001). How much it shares is counted in points (`points`). If none has any, the next one is the least that is
 //! ahead.
 ghost use Rattle.std.specs.Prelude.{◌≡◌, ◌<◌, ◌≤◌, ◌==◌, ◌&&◌, not, ℕ, false, IfOk, OnOk, IsTrue};
 ghost use Rattle.lk_model.specs.Held.VariableSets.{is_in, IsCrossed};

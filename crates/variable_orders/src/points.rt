@@ -92,7 +92,7 @@ impl Points {
         Ok(())
     }
 
-    /// Gives so many points to each variable of a clause that is ahead.
+    /// Gives `worth` points to each variable of a clause that is ahead.
     fn raise(&mut self, clause: &[Lit], worth: u32, ahead: &VarSet) -> Result<(), OutOfMemory>
         requires { IsTrue (is_clause (length ahead.now) clause.now) }
     {

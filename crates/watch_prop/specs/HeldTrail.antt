@@ -14,7 +14,7 @@ abbrev pub unset_one : Option Entry → ℕ
 unset_one None = 1
 unset_one (Some e) = 0
 
--- the table tells the entry of each variable
+-- the table has the entry of each variable
 abbrev pub IsTable : List Entry → List (Option Entry) → Type 0
 IsTable trail table = (v : ℕ) → v < length table → slice_index_or table v None ≡ entry_of trail (v + 1)
 
@@ -23,7 +23,7 @@ abbrev pub place_of : ℕ → ℤ → ℕ
 place_of n (pos v) = n + v
 place_of n (negsuc k) = n - (k + 1)
 
--- the values tell of each literal whether it is true
+-- the values say of each literal whether it is true
 abbrev pub AreValues : ℕ → List Entry → List Bool → Type 0
 AreValues vars trail values = (l : ℤ) → IsTrue (is_literal vars l) → slice_index_or values (place_of vars l) false ≡ true_in trail l
 

@@ -53,7 +53,7 @@ moved lists l at to =
     let without = slice_set lists (rank_of l) (swap_remove (watchers lists l) at place) in
     with_watcher without to place
 
--- and with their blockers, where the clause gets another one
+-- the rows when the clause at a place of one literal's row watches another literal instead, with another blocker
 abbrev pub moved_rows : List (List Watcher) → ℤ → ℕ → ℤ → ℤ → List (List Watcher)
 moved_rows rows l at to blocker =
     let w = slice_index_or (row_of rows l) at (record { place = 0; blocker = pos 0 }) in

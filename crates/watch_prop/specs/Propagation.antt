@@ -40,7 +40,7 @@ crossed_clauses over = filter (λ (c : NumberedClause). not (is_empty c.lits))
 abbrev pub is_quiet : Assignment → List NumberedClause → Bool
 is_quiet φ clauses = list_all (λ (c : NumberedClause). not (is_false φ c.lits) && not (is_unit_under φ c.lits)) clauses
 
--- what a propagation answers
+-- what a propagation returns
 abbrev pub IsAnswered : Propagation → Propagated → Type 0
 IsAnswered p Quiet = IsTrue (is_quiet (assigned p) p.clauses)
 IsAnswered p (Conflict k) = IsTrue (option_map_or (is_false (assigned p)) (clause_numbered p.clauses k) false)

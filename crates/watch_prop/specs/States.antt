@@ -35,8 +35,8 @@ unseen s = length s.waiting.items - s.satisfied
 abbrev pub mark_at : List ℕ → ℕ → ℕ
 mark_at marks level = slice_index_or marks level 0
 
--- Under a trail of which some literals were passed on, the first clauses that wait have a true literal, so many as
--- are given, and those that don't wait are upheld.
+-- Under a trail of which some literals were passed on, the first `count` clauses that wait have a true literal, and
+-- those that don't wait are upheld.
 pub record AreUpheld (clauses : List NumberedClause) (s : State) (trail passed : List Entry) (count : ℕ) : Type 0 where
   pub waiting : (n : ℕ) → n < count → IsTrue (has_true trail (clause_at_place clauses (waiting_at s.waiting.items n)).lits)
   pub ready : (place : ℕ) → place < length clauses → IsTrue (not (among s.waiting.items place)) → IsTrue (is_upheld trail passed (clause_at_place clauses place).lits (watch_at s.watches.items place))

@@ -17,7 +17,7 @@ watchers lists l = slice_index_or lists (rank_of l) []
 abbrev pub places : List Watcher → List ℕ
 places row = map (λ (w : Watcher). w.place) row
 
--- those of each list
+-- the places of the watchers in each row
 abbrev pub all_places : List (List Watcher) → List (List ℕ)
 all_places rows = map places rows
 

@@ -78,7 +78,7 @@ impl Clauses {
         Ok(())
     }
 
-    /// Keeps the first clauses, so many as are given, which are fewer than there are.
+    /// Keeps the first `len` clauses, which are fewer than there are.
     pub fn truncate(&mut self, len: usize)
         requires { len < length self.old }
         ensures { self.new ≡ take len self.old }

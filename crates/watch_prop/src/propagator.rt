@@ -208,7 +208,7 @@ impl Propagator {
         Ok(())
     }
 
-    // Holds one more clause. Where there is no room for it in the lists, it is taken back; and there is none for a
+    // Holds one more clause. If there is no room for it in the lists, it is taken back; and there is none for a
     // clause whose place needs more than 32 bits.
     fn hold(&mut self, number: u64, lits: &[Lit]) -> Result<(), OutOfMemory>
         requires clause { IsTrue (not (is_empty lits.now) && is_clause self.old.vars lits.now) }
@@ -239,7 +239,7 @@ impl Propagator {
     }
 }
 
-// How often each literal occurs in the crossed clauses of the part. The numbers only tell how much room to make, so no
+// How often each literal occurs in the crossed clauses of the part. The numbers only say how much room to make, so no
 // clause states them.
 fn occurrences(alloc: Global, over: &Crossed) -> Result<LitTable<u32>, OutOfMemory>
     requires { IsCrossed over.now }

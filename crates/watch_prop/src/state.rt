@@ -41,9 +41,9 @@ pub(crate) struct State {
     pub lists: WatcherLists,
     /// The clauses that watch nothing, since they had no two literals that are not false.
     pub waiting: Vec<u32>,
-    /// So many of these, the first ones, have a true literal.
+    /// This many of the clauses that wait, the first ones, have a true literal.
     pub satisfied: usize,
-    /// So many literals of the trail were passed on to the watchers of their complements.
+    /// This many literals of the trail were passed on to the watchers of their complements.
     pub head: usize,
     /// For each level below the present one, how many clauses waited when the next one was opened.
     pub marks: Vec<usize>,
@@ -58,7 +58,7 @@ impl State {
         self.watches[place].other(l)
     }
 
-    // Where in a clause of so many literals the next search begins.
+    // Where in a clause of `len` literals the next search begins.
     fn search_from(&self, place: usize, len: usize) -> usize {
         if len > LONG {
             self.saved.get(place).copied().unwrap_or(0) as usize

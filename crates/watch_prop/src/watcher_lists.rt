@@ -20,8 +20,8 @@ pub(crate) struct Watcher {
     pub blocker: Lit,
 }
 
-/// For each literal its watchers, and how many clauses have it. So many may come to watch it, and for so many there is
-/// room.
+/// For each literal its watchers, and how many clauses have it. That many may come to watch it, and there is room for
+/// that many.
 #[derive(Drop)]
 pub(crate) struct WatcherLists {
     lists: LitTable<Vec<Watcher>>,
@@ -41,7 +41,7 @@ impl Model for WatcherLists {
 }
 
 impl WatcherLists {
-    /// Those without a clause, over the variables from 1 to n. Each list is made once, with room for as many clauses as
+    /// The lists without a clause, over the variables from 1 to n. Each is made once, with room for as many clauses as
     /// are expected to have its literal; more may come.
     pub fn new(alloc: Global, n: u32, expected: &LitTable<u32>) -> Result<WatcherLists, OutOfMemory>
         requires few { n ≤ 1000000 }

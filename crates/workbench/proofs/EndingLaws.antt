@@ -10,15 +10,16 @@ use Rattle.command_words.specs.Shapes.{inputs_of}
 use Rattle.command_endings.specs.Commands.{Answers}
 use Rattle.workbench.specs.Endings.{Shelved, Sunk, Takes, TakesBoth, IsCut, IsCutIn, Ends, IsCutOff, EndsQuietly, IsResult, DeservesStop, HasReadFault, Allows, HasValues, IsDecidedFor, IsDecided, IsUnlessFailed, StopsAsRead, StopsAt, ReadsNothing, IsWell}
 use Rattle.workbench.specs.Headline.{IsRun}
-use Rattle.command_inputs.specs.Inputs.{nothing_known, Told, Values, IsFirstBad, IsFailure}
+use Rattle.command_stops.specs.Stops.{IsFailure}
+use Rattle.command_inputs.specs.Inputs.{nothing_known, Told, Values, IsFirstBad}
 use Rattle.command_words.specs.Lawful.{Request, request_of}
 use Rattle.status_lines.specs.Statuses.{code, is_result}
 use Rattle.status_lines.specs.StopLines.{status_of, line_of, Tells}
 use Rattle.status_lines.specs.declared.ending.Ending.{Ending}
 use Rattle.status_lines.specs.declared.status.Status.{Status}
 use Rattle.status_lines.specs.declared.status.Status.TheVariants as status
-use Rattle.command_inputs.specs.declared.stop.Stop.{Stop}
-use Rattle.command_inputs.specs.declared.stop.Stop.TheVariants as stop
+use Rattle.command_stops.specs.declared.stop.Stop.{Stop}
+use Rattle.command_stops.specs.declared.stop.Stop.TheVariants as stop
 use Rattle.command_endings.proofs.CommandTable.{one_status}
 use Rattle.command_inputs.proofs.InputLaws.{nothing_small, one_reading, none_bad, none_stops}
 

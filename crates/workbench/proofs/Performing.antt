@@ -7,9 +7,10 @@ use Rattle.command_words.specs.Lawful.{Request}
 use Rattle.command_words.specs.Shapes.{inputs_of}
 use Rattle.command_words.specs.declared.shape.Grammar.{Grammar}
 use Rattle.command_words.specs.declared.shape.Grammar.TheVariants.{Formula}
-use Rattle.command_inputs.specs.Inputs.{Told, Values, nothing_known, AreRead, StopsReading, StopsOn, IsFailure}
-use Rattle.command_inputs.specs.declared.stop.Stop.{Stop}
-use Rattle.command_inputs.specs.declared.stop.Stop.TheVariants as stop
+use Rattle.command_stops.specs.Stops.{IsFailure}
+use Rattle.command_inputs.specs.Inputs.{Told, Values, nothing_known, AreRead, StopsReading, StopsOn}
+use Rattle.command_stops.specs.declared.stop.Stop.{Stop}
+use Rattle.command_stops.specs.declared.stop.Stop.TheVariants as stop
 use Rattle.workbench.specs.Endings.{Shelved}
 use Rattle.command_endings.specs.Answering.{IsAnswer}
 use Rattle.workbench.specs.Performing.{Performs}

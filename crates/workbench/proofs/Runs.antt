@@ -15,7 +15,7 @@ use Rattle.command_words.specs.Shapes.{words_of, number_of, inputs_of, keys_of}
 use Rattle.command_words.specs.declared.command.Command.{Command}
 use Rattle.command_words.specs.declared.shape.Grammar.{Grammar}
 use Rattle.command_inputs.specs.Inputs.{Told, Known, nothing_known, Values, IsTextOf, known_behind, AreRead, AreTold, IsFirstBad}
-use Rattle.command_inputs.specs.declared.stop.Stop.{Stop}
+use Rattle.command_stops.specs.declared.stop.Stop.{Stop}
 use Rattle.command_inputs.proofs.InputLaws.{nothing_small, none_stops}
 use Rattle.command_endings.specs.Commands as commands
 use Rattle.status_lines.specs.Statuses.{code, is_result}

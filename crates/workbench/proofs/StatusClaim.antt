@@ -35,8 +35,8 @@ use Rattle.command_words.specs.declared.command.Command.{Command}
 use Rattle.command_words.specs.declared.command.Command.TheVariants as command
 use Rattle.command_words.specs.declared.shape.Grammar.{Grammar}
 use Rattle.command_inputs.specs.Inputs.{Told, Known, nothing_known, Values, IsTextOf, known_behind, IsRefusal, IsFirstBad}
-use Rattle.command_inputs.specs.declared.stop.Stop.{Stop}
-use Rattle.command_inputs.specs.declared.stop.Stop.TheVariants as stop
+use Rattle.command_stops.specs.declared.stop.Stop.{Stop}
+use Rattle.command_stops.specs.declared.stop.Stop.TheVariants as stop
 use Rattle.command_inputs.proofs.InputLaws.{nothing_small, one_reading}
 use Rattle.command_endings.specs.Commands as commands
 use Rattle.command_endings.specs.Commands.Demo as demo

@@ -21,8 +21,8 @@ pub record IsAcceptedFor (text written : List ℕ) : Type 0 where
 abbrev pub WrittenIsAccepted : Type 0
 WrittenIsAccepted = (text written : List ℕ) (class : Class) (protect : Option (List ℕ)) (pivots : ℕ) → ReducesTo text class protect pivots written → IsAcceptedFor text written
 
--- the first text spells a formula, and the second is that of an unfinished document with so many learned clauses, of which
--- no check fails
+-- the first text spells a formula, and the second is that of an unfinished document with `learned` learned clauses, of
+-- which no check fails
 pub record IsUnfinishedFor (text written : List ℕ) (learned : ℕ) : Type 0 where
   pub F : Cnf
   pub d : Document
@@ -30,6 +30,6 @@ pub record IsUnfinishedFor (text written : List ℕ) (learned : ℕ) : Type 0 wh
   pub read : IsTextOfDocument written d
   pub unfinished : verdict_of F d ≡ Unfinished learned
 
--- what a reduction that used up its budget writes of a text is so for that text
+-- what a reduction that used up its budget writes of a text is, for that text, as `IsUnfinishedFor` says
 abbrev pub StoppedIsUnfinished : Type 0
 StoppedIsUnfinished = (text written : List ℕ) (protect : Option (List ℕ)) (conflicts : ℕ) → StopsUnfinished text protect conflicts written → IsUnfinishedFor text written conflicts

@@ -12,8 +12,8 @@ use Rattle.status_lines.specs.Statuses.{code, is_result}
 use Rattle.status_lines.specs.StopLines.{Tells}
 use Rattle.status_lines.specs.declared.status.Status.{Status}
 use Rattle.status_lines.specs.declared.status.Status.TheVariants as status
-use Rattle.command_inputs.specs.declared.stop.Stop.{Stop}
-use Rattle.command_inputs.specs.declared.stop.Stop.TheVariants as stop
+use Rattle.command_stops.specs.declared.stop.Stop.{Stop}
+use Rattle.command_stops.specs.declared.stop.Stop.TheVariants as stop
 
 -- WHICH ENDINGS ARE ALLOWED
 
@@ -29,7 +29,7 @@ pub record Shelved : Type 0 where
 abbrev pub shelved : Told → ℕ → ℕ → Bool → Option (List ℕ) → Shelved
 shelved told before after ailing current = record { told = told; before = before; after = after; ailing = ailing; current = current }
 
--- what was read of the inputs, as far as they are visible, and that the command may answer it so
+-- what was read of the inputs, as far as they are visible, and that the command may end so for it
 pub record HasResult (request : Request) (told : Told) (status : Status) (written said : List ℕ) : Type 0 where
   pub values : Values (inputs_of request.command)
   pub read : AreRead told nothing_known (inputs_of request.command) request.names values
@@ -63,8 +63,8 @@ IsWell status.ReadFault o ailing = ⊤
 IsWell status.Memory o ailing = ⊤
 IsWell answer o ailing = IsTrue ailing → ReadsNothing o
 
--- With this status the one text may be written and the other said: the refused word, the refusal of an input, a failed read,
--- or memory that ran out; or else what the command answers.
+-- With this status the one text may be written and the other said: of the refused word, the refusal of an input, a
+-- failed read, or memory that ran out; or else those with which the command may end.
 abbrev pub Allows : List Word → Shelved → Status → List ℕ → List ℕ → Type 0
 Allows words shelf status.Words written said = (i : ℕ) × IsRefusedAt words i × Tells (stop.Words i) written said
 Allows words shelf status.Input written said = (s : Stop) × DeservesStop (request_of words) shelf.told s × Tells s written said
@@ -107,7 +107,7 @@ abbrev pub IsCutIn : Sunk → Sunk → List ℕ → List ℕ → Type 0 → Type
 IsCutIn out say written said SayIsSame =
     (IsCut out written × (say.after ≡ say.before) × SayIsSame) ⊎ (Takes out written × IsCut say said)
 
--- an allowed ending whose texts the sinks took; the shelf is ailing only where that tells of it
+-- an allowed ending whose texts the sinks took; with statuses but 3 and 9 the shelf is ailing only if nothing is read
 pub record Ends (words : List Word) (shelf : Shelved) (out say : Sunk) (answer : ℕ) : Type 0 where
   pub status : Status
   pub written : List ℕ
@@ -117,7 +117,7 @@ pub record Ends (words : List Word) (shelf : Shelved) (out say : Sunk) (answer :
   pub answer_is : answer ≡ code status
   pub taken : TakesBoth out say written said
 
--- so it is, and a text of it that is empty leaves its sink as a whole as it was: the two facts say that `out` is, and `say`
+-- `Ends`, and a text that is empty leaves its sink as a whole as it was: the two facts say that `out` is, and `say`
 pub record EndsQuietly (words : List Word) (shelf : Shelved) (out say : Sunk) (answer : ℕ) (OutIsSame SayIsSame : Type 0) : Type 0 where
   pub ending : Ends words shelf out say answer
   pub out_unused : ending.written ≡ [] → OutIsSame
@@ -152,8 +152,8 @@ abbrev pub IsDecided : Option Request → Told → Status → Type 0
 IsDecided None told answer = answer ≡ status.Words
 IsDecided (Some request) told answer = IsDecidedFor request told answer
 
--- The answer is this status, unless a call or memory failed: it is 3, with what shows that the shelf failed, or 4, with what
--- shows that a sink did, or 9.
+-- The run ends with this status, unless a call or memory failed: then with 3, and what shows that the shelf failed, or
+-- with 4, and what shows that a sink did, or with 9.
 abbrev pub IsUnlessFailed : ℕ → Status → Type 0 → Type 0 → Type 0
 IsUnlessFailed answer decided ShelfFailed SinkFailed =
     (answer ≡ code decided)
@@ -163,7 +163,7 @@ IsUnlessFailed answer decided ShelfFailed SinkFailed =
 
 -- WHAT A STOP SHOWS
 
--- as the inputs are read
+-- the stop is one that is met as the inputs are read
 abbrev pub StopsAsRead : Option Request → Told → Bool → Option (List ℕ) → Stop → Type 0
 StopsAsRead None told ailing current s = ⊥
 StopsAsRead (Some request) told ailing current s = StopsOn told nothing_known (inputs_of request.command) request.names ailing current s

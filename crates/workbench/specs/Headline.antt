@@ -1,5 +1,5 @@
--- The claim of leank for the reader of results: what a run that ends with one has written, and when one
--- comes. `StatusClaim` beside it is for the reader of statuses.
+-- The claim of leank for the reader of results: what a run that ends with one has written, and when a run
+-- ends with one. `StatusClaim` beside it is for the reader of statuses.
 --
 -- `run` (src/program.rt) ensures `IsRun` of its words, its shelf, its two sinks and its status. If the
 -- shelf shows the inputs and `out` is empty at first, that run is as `Ran` says; if nothing fails, it is as
@@ -7,10 +7,10 @@
 -- stay shut: whatever it says, `run` ensures it.
 --
 -- What it does not say. A program that always ends with 9, out of memory, meets all of it: no contract
--- tells when memory runs out. Tests show that 9 does not come. With a smaller budget than `solves`,
+-- says when memory runs out. Tests show that 9 does not occur. With a smaller budget than `solves`,
 -- `extracts` and `keeps` ask for, these commands may end with 5, and `reduce linear` may end with 5, 6 or
 -- 7. Over lawful inputs `check` and `extend` end with 0, 5 or 8, and `verify` with 0 or 8. `StatusClaim`
--- says which of these comes, what stands on `out` then, what `demo` writes, and what `say` has.
+-- says which of these it is, what stands on `out` then, what `demo` writes, and what `say` has.
 -- Nothing is said of bytes that no contract shows, such as those of files (docs/CLAIM.md).
 use Rattle.std.specs.Prelude.{◌≡◌, ◌≢◌, ◌⊎◌, ◌↔◌, ⊤, ℕ, ℤ, ◌≤◌, List, [], ◌∷◌, ◌++◌, length, map, codes}
 use Rattle.std.specs.Prelude.{Option, Some, None, Ok, IsTrue, false, ◌&&◌, unwrap_or, option_map}
@@ -98,8 +98,8 @@ pub record Ran (words : List Word) (inputs : List Input) (status : ℕ) (written
   pub empty : out.before ≡ Some []
   pub written_is : out.after ≡ Some written
 
--- So it did, and *well*: no call on the shelf or a sink failed, and memory did not run out (the status is
--- not 9).
+-- Such a run that went *well*: no call on the shelf or a sink failed, and memory did not run out (the
+-- status is not 9).
 pub record RanWell (words : List Word) (inputs : List Input) (status : ℕ) (written : List ℕ) : Type 0 where
   pub ran : Ran words inputs status written
   pub could_read : Rose ran.shelf.before ran.shelf.after → ⊥
@@ -283,8 +283,8 @@ pub record Headline : Type 0 where
       → Ran (solver ∷ formula.name ∷ options) (formula ∷ []) found answer.text
       → RanWell (codes "verify" ∷ formula.name ∷ answer.name ∷ []) (formula ∷ answer ∷ []) status said
       → status ≡ 0
-  -- STATUSES of runs that went well: 1 comes exactly if the options are not valid for the command, and else 2
-  -- exactly if an input is outside its grammar. Of lawful inputs five commands end with 0, and three
+  -- STATUSES of runs that went well: 1 occurs exactly if the options are not valid for the command, and else 2
+  -- exactly if an input is outside its grammar. Over lawful inputs five commands end with 0, and three
   -- commands with a result, if the budget is enough; for `solve` and `mus` it is, too, if a clause is
   -- empty.
   pub obeys : (command : Command) (inputs : List Input) (options : List Word) (status : ℕ)

@@ -1,5 +1,5 @@
--- The claim of leank for the reader of statuses: which status comes, and what stands on `out` and on `say`
--- then. `Headline` beside it says what a result is worth.
+-- The claim of leank for the reader of statuses: with which status a run ends, and what stands on `out` and
+-- on `say` then. `Headline` beside it says what a result is worth.
 --
 -- Read `Ran`, `RanWell` and `RunsWell` of `Headline.antt` first. Then read this record from its end: a
 -- definition stands above those that cite it. `headline_law` (src/laws.rt) proves it of all runs that `Said`
@@ -7,7 +7,7 @@
 --
 -- What it does not say. A program that always ends with 9, out of memory, meets it too. Which of its results
 -- `solve` and `mus` end with follows from what `Headline` says of them. With less than the budget that is
--- enough, it leaves open whether 5 comes, and which clauses are learned. Of runs whose inputs or sinks no
+-- enough, it leaves open whether 5 occurs, and which clauses are learned. Of runs whose inputs or sinks no
 -- contract shows, only `every_status` and the first fields of failures say something.
 use Rattle.std.specs.Prelude.{◌≡◌, ◌≢◌, ◌⊎◌, ℕ, ℤ, ◌*◌, ◌^◌, ◌<◌, List, [], ◌∷◌, ◌++◌, length, take, codes}
 use Rattle.std.specs.Prelude.{Option, Some, None, Ok, IsTrue}
@@ -38,8 +38,8 @@ use Rattle.command_words.specs.declared.command.Command.{Command}
 use Rattle.command_words.specs.declared.command.Command.TheVariants as command
 use Rattle.command_words.specs.declared.shape.Grammar.{Grammar}
 use Rattle.command_inputs.specs.Inputs.{Known, nothing_known, ValueOf, IsTextOf, known_behind, IsRefusal}
-use Rattle.command_inputs.specs.declared.stop.Stop.{Stop}
-use Rattle.command_inputs.specs.declared.stop.Stop.TheVariants as stop
+use Rattle.command_stops.specs.declared.stop.Stop.{Stop}
+use Rattle.command_stops.specs.declared.stop.Stop.TheVariants as stop
 use Rattle.command_endings.specs.Commands.Demo as demo
 use Rattle.command_endings.specs.Commands.Extend as extend
 use Rattle.command_endings.specs.Commands.Mus as mus
@@ -71,11 +71,11 @@ Tells words more options status Holds = (formula : Input) (written said : List �
 
 -- WHICH STATUSES
 
--- those of results; the others are 1, 2, 3, 4 and 9
+-- the statuses of results; the others are 1, 2, 3, 4 and 9
 abbrev pub results : List ℕ
 results = 0 ∷ 5 ∷ 6 ∷ 7 ∷ 8 ∷ 10 ∷ 20 ∷ []
 
--- those with which the command may end where it has read its inputs
+-- the statuses with which the command may end where it has read its inputs
 abbrev pub results_of : Command → List ℕ
 results_of command.ReduceLinear = 0 ∷ 5 ∷ 6 ∷ 7 ∷ []
 results_of command.ReduceGeneral = 0 ∷ 5 ∷ []
@@ -92,8 +92,8 @@ abbrev pub EndsWith : Command → List Input → List Word → ℕ → Type 0
 EndsWith c inputs options wanted = (status : ℕ) → RunsWell c inputs options status → status ≢ 1
     → status ≡ wanted
 
--- So it does. And each run over them that ends with a result, also if calls failed, ends with this status,
--- and `Holds written said`.
+-- As `EndsWith` says. And each run over these inputs that ends with a result, also if calls failed, ends with
+-- this status, and `Holds written said`.
 pub record ComesTo (c : Command) (inputs : List Input) (options : List Word) (wanted : ℕ)
     (Holds : List ℕ → List ℕ → Type 0) : Type 0 where
   pub ends : EndsWith c inputs options wanted
@@ -112,7 +112,7 @@ AreRefused known _ _ s = ⊥
 
 -- WHAT IS CUT SHORT
 
--- Some status may come with a text and a line. Of the text a proper prefix was written, and nothing said; or
+-- With some status a text and a line are allowed. Of the text a proper prefix was written, and nothing said; or
 -- all of it, and of the line a proper prefix was said. (`Allows` may stay shut: it is what `IsRun` says of
 -- other statuses.)
 pub record IsCutShort (words : List Word) (shelf : Shelved) (written said : List ℕ) : Type 0 where
@@ -126,7 +126,7 @@ pub record IsCutShort (words : List Word) (shelf : Shelved) (written said : List
 -- THE CLAIM
 
 pub record StatusClaim : Type 0 where
-  -- ENDINGS. No run has another status than these. A result comes only with valid options and over lawful
+  -- ENDINGS. No run has another status than these. There is a result only with valid options and over lawful
   -- inputs, and is one of the command's. Run well with these, the command ends with one of its results.
   pub every_status : (words : List Word) (shelf : Shelved) (out say : Sunk) (status : ℕ)
       → IsRun words shelf out say status → IsTrue (among (1 ∷ 2 ∷ 3 ∷ 4 ∷ 9 ∷ results) status)
@@ -137,7 +137,7 @@ pub record StatusClaim : Type 0 where
   pub results_come : (c : Command) (inputs : List Input) (options : List Word) (status : ℕ)
       → RunsWell c inputs options status → status ≢ 1 → AreLawful c inputs
       → IsTrue (among (results_of c) status)
-  -- EXACT: what `reduce linear`, `check`, `verify` and `extend` come to is decided by what is read. With a
+  -- EXACT: how `reduce linear`, `check`, `verify` and `extend` end is decided by what is read. With a
   -- document that `reduce` wrote or `check` accepts, and a model of the kept clauses, `extend` ends with 0.
   pub linear_exactly : (formula : Input) (options : List Word) (F : Cnf) → Spells formula.text F
       → let o = options_by options in let s = linear.status_of o F in

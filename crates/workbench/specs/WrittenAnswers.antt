@@ -1,4 +1,4 @@
--- What `verify` and `check` come to on what `solve` wrote.
+-- How `verify` and `check` end on what `solve` wrote.
 use Rattle.std.specs.Prelude.{◌≡◌, ◌⊎◌, ℕ, List, [], ◌∷◌, length, Some, None}
 use Rattle.lk_model.specs.Formulas.Formula.{Cnf}
 use Rattle.lk_model.specs.Texts.Dimacs.{Spells}
@@ -42,7 +42,7 @@ pub record IsUndecidedText (text : List ℕ) (options : Options) (written : List
   pub spells : Spells text formula
   pub writes : WritesUnfinishedSearch options formula written
 
--- so it is of a model that is written, and of a refutation; and of what is written where the budget is used up no check fails
+-- no check fails of a model that is written, nor of a refutation, nor of what is written where the budget is used up
 pub record SolvedIsVerified : Type 0 where
   pub model : (text written : List ℕ) → IsSatisfiedText text written → IsVerifiedFor text written
   pub refutation : (text : List ℕ) (options : Options) (written : List ℕ) → IsRefutedText text options written → IsVerifiedFor text written

@@ -1,4 +1,4 @@
--- What `check` comes to on what `reduce` wrote.
+-- How `check` ends on what `reduce` wrote.
 use Rattle.std.specs.Prelude.{◌≡◌, ℕ, List, [], ◌∷◌, Some}
 use Rattle.lk_model.specs.Texts.Lines.{Word}
 use Rattle.lk_model.specs.Texts.PlainText.{line}
@@ -27,7 +27,7 @@ reducing Matching = ReduceMatching
 reducing Linear = ReduceLinear
 reducing General = ReduceGeneral
 
--- Some run of a command over one input, with these options, ended with this answer: it read the one text, which was
+-- Some run of a command over one input, with these options, ended with this status: it read the one text, which was
 -- visible, and the other is all that stands on its `out`.
 pub record HasWrittenBy (command : Command) (options : Options) (text : List ℕ) (answer : ℕ) (written : List ℕ) : Type 0 where
   pub words : List Word
@@ -41,7 +41,7 @@ pub record HasWrittenBy (command : Command) (options : Options) (text : List ℕ
   pub empty : out.before ≡ Some []
   pub written_is : out.after ≡ Some written
 
--- so did `reduce` for the class
+-- some run of `reduce` for the class ended so
 abbrev pub HasWritten : Class → Options → List ℕ → ℕ → List ℕ → Type 0
 HasWritten class = HasWrittenBy (reducing class)
 

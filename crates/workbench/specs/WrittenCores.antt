@@ -1,4 +1,4 @@
--- What `verify` and `check` come to on what `mus` wrote.
+-- How `verify` and `check` end on what `mus` wrote.
 use Rattle.std.specs.Prelude.{◌≡◌, ◌⊎◌, ℕ, ◌≤◌, List, length}
 use Rattle.lk_model.specs.Limits.{max_bytes}
 use Rattle.lk_model.specs.Formulas.Formula.{Cnf, clauses_at}

@@ -17,7 +17,7 @@ mod solve;
 mod verify;
 
 use command_endings::demo;
-use command_inputs::Stop;
+use command_stops::Stop;
 use command_words::{Command, Request};
 use lk_outside::{Gate, Shelf};
 use status_lines::Ending;

@@ -1,4 +1,4 @@
-//! What the clauses of a run come to.
+//! What follows from the clauses of a run.
 ghost use Rattle.workbench.specs.Agreement.{WrittenIsAccepted, StoppedIsUnfinished};
 ghost use Rattle.workbench.specs.Headline.{Headline};
 ghost use Rattle.workbench.specs.StatusClaim.{StatusClaim};
@@ -10,7 +10,7 @@ ghost use Rattle.workbench.specs.WrittenCores.{ExtractedIsVerified, ExtractedVer
 ghost use Rattle.workbench.specs.WrittenCores.{UnextractedChecksAsUnfinished};
 
 /// The claim of leank in two records. `Headline` says what a run with a result has written, that `check` and `verify`
-/// accept it, and when a result comes; `StatusClaim` which status comes, and what stands on `out` and `say` then. They
+/// accept it, and when there is a result; `StatusClaim` which status there is, and what `out` and `say` have then. They
 /// speak of the runs of which `run` ensures `runs`, where the inputs are visible and the sinks are empty at first.
 pub fn headline_law()
     ensures results { Headline }

@@ -1,6 +1,6 @@
 //! The whole run of the program.
 //!
-//! The words of the command line make a request, and a command answers it with two texts and a status. They are written
+//! The words of the command line make a request, which a command turns into two texts and a status. They are written
 //! last, so nothing is written before all is decided.
 ghost use Rattle.std.specs.Prelude.{◌≡◌, ◌≢◌, ◌⊎◌, [], map, IsTrue, IfOk, IfErr, IsErrAnd};
 ghost use Rattle.lk_outside.specs.Causes.{HasCause, Rose};
@@ -10,12 +10,12 @@ ghost use Rattle.status_lines.specs.declared.status.Status.{Status as AnyStatus}
 ghost use Rattle.workbench.specs.Endings.{shelved, sunk, Allows, IsResult, IsCutOff, IsDecided, IsUnlessFailed};
 ghost use Rattle.workbench.specs.Endings.{StopsAt, IsWell, ReadsNothing, TakesBoth, IsCutIn, EndsQuietly};
 ghost use Rattle.workbench.specs.Headline.{IsRun};
-ghost use Rattle.command_inputs.specs.Inputs.{IsFailure};
+ghost use Rattle.command_stops.specs.Stops.{IsFailure};
 
 use crate::command;
 use crate::output::write_both;
 use cert_text::document_text_law;
-use command_inputs::Stop;
+use command_stops::Stop;
 use command_words::request_of;
 use lk_model::OutOfMemory;
 use lk_outside::{Gate, Shelf, Sink};
@@ -23,7 +23,7 @@ use status_lines::{Ending, Status, code_of_failure, ending_of};
 use std::alloc::Global;
 use std::thread::Threads;
 
-/// Does what the command line asks for, and answers the status. `headline_law` (`specs/Headline.antt`,
+/// Does what the command line asks for, and returns the status. `headline_law` (`specs/Headline.antt`,
 /// `specs/StatusClaim.antt`) says what that means if the inputs are visible and the sinks are empty. If an input is not
 /// visible, what is said of 0, 5, 6, 7, 8, 10 and 20 is true of some formula, document, model, answer or edits; of 2
 /// nothing is said.
@@ -130,7 +130,7 @@ fn perform<R: Threads + Sync, H: Shelf, G: Gate>(
     }
 }
 
-/// Writes an ending, and answers the status with which the program ends.
+/// Writes an ending, and returns the status with which the program ends.
 fn write_ending<O: Sink, E: Sink>(
     out: &mut O,
     say: &mut E,

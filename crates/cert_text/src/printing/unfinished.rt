@@ -22,7 +22,7 @@ pub(crate) fn put_unfinished(out: &mut Vec<u8>, d: &OpenDocument) -> Result<(), 
     put_formula(out, &d.texts)
 }
 
-/// Appends the line that tells how many clauses were learned.
+/// Appends the line that says how many clauses were learned.
 fn put_learned(out: &mut Vec<u8>, learned: u64) -> Result<(), OutOfMemory>
     ensures { OnOk result (out.new.items
         ≡ out.old.items ++ line (comment (codes "learned") (number_words (learned ∷ [])))) }

@@ -21,7 +21,7 @@ lines_of value kept own =
     ∷ map own_words own
 
 -- The number is the greatest one of clauses less occurring variables over all sets of positions. The set is the matching
--- kernel, and has it. All clauses but so many have a variable of their own.
+-- kernel, and has it. All clauses but that many have a variable of their own.
 pub record WritesDeficiency (F : Cnf) (written : List ℕ) : Type 0 where
   pub value : ℕ
   pub kept : List ℕ

@@ -24,8 +24,8 @@ conflicts = 100000
 
 -- WHAT IS WRITTEN
 
--- The checks accept a document of the class general, which keeps so many clauses. Of its rounds each step is used and each
--- blocks a new variable, and those over each part are within the budget.
+-- The checks accept a document of the class general, which keeps `size` clauses. Of its rounds each step is used and
+-- each blocks a new variable, and those over each part are within the budget.
 pub record IsCheckedSize (F : Cnf) (size : ℕ) : Type 0 where
   pub document : DoneDocument
   pub class_is : class_of document.body ≡ General

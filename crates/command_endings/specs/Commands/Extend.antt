@@ -80,7 +80,7 @@ pub record Tells (F : Cnf) (d : AnyDocument) (ψ : Assignment) (status : Status)
   pub says : said ≡ said_of (outcome_of F d ψ)
   pub proved : IsProvedExtension F d ψ
 
--- so it does of the assignment that the literals of the model text give
+-- it ends as `Tells` says, for the assignment that the literals of the model text give
 abbrev pub Answers : Cnf → AnyDocument → List ℤ → Status → List ℕ → List ℕ → Type 0
 Answers F d model = Tells F d (assignment_of model)
 

@@ -17,7 +17,7 @@ use Rattle.status_lines.specs.RunLines.{conflicts_line}
 use Rattle.status_lines.specs.declared.status.Status.{Status}
 use Rattle.status_lines.specs.declared.status.Status.TheVariants.{Done, Budget}
 
--- so many learned clauses are enough for each formula of as many variables
+-- `conflicts` learned clauses are enough for each formula of as many variables
 abbrev pub IsEnoughToReduce : ℕ → Cnf → Type 0
 IsEnoughToReduce conflicts F = F.vars * 3 ^ F.vars ≤ conflicts
 

@@ -37,7 +37,7 @@ row word number = record { word = word; number = number }
 abbrev pub row_line : Row → List ℕ
 row_line r = line (r.word ∷ decimal r.number ∷ [])
 
--- the nine rows, of which the last two tell the sizes of kernels
+-- the nine rows, of which the last two state the sizes of kernels
 abbrev pub report_rows : Cnf → ℕ → ℕ → List Row
 report_rows F pure matching =
     row (codes "variables") F.vars

@@ -20,11 +20,11 @@ use Rattle.command_endings.specs.Commands.Verify.{AreInKernel}
 use Rattle.status_lines.specs.declared.status.Status.{Status}
 use Rattle.status_lines.specs.declared.status.Status.TheVariants.{Budget, Satisfiable, Unsatisfiable}
 
--- so many learned clauses are enough for each formula of as many variables
+-- `conflicts` learned clauses are enough for each formula of as many variables
 abbrev pub IsEnoughToDecide : ℕ → Cnf → Type 0
 IsEnoughToDecide conflicts F = 3 ^ F.vars ≤ conflicts
 
--- they are enough, or none is needed, since a clause is empty
+-- `conflicts` learned clauses are enough, or none is needed, since a clause is empty
 abbrev pub IsEnoughToRefute : ℕ → Cnf → Type 0
 IsEnoughToRefute conflicts F = IsEnoughToDecide conflicts F ⊎ IsTrue (is_some (first_empty F))
 

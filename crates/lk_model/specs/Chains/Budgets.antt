@@ -8,14 +8,14 @@ use Rattle.lk_model.specs.Chains.Rounds.{names_within}
 use Rattle.lk_model.specs.Checks.RoundChecks.{learned_steps}
 use Rattle.lk_model.specs.declared.document.Round.{Round}
 
--- one piece of rounds for each part: they name positions of the part alone, and learn at most so many clauses
+-- one piece of rounds for each part: they name positions of the part alone, and learn at most `conflicts` clauses
 abbrev pub AreLearnedWithin : Cnf → ℕ → List (List ℕ) → List (List Round) → Type 0
 AreLearnedWithin F conflicts [] [] = ⊤
 AreLearnedWithin F conflicts (part ∷ parts) (piece ∷ pieces) =
     IsTrue (names_within F part piece) × (length (learned_steps piece) ≤ conflicts) × AreLearnedWithin F conflicts parts pieces
 AreLearnedWithin F conflicts _ _ = ⊥
 
--- rounds that are those of the parts one after another, each with at most so many learned clauses
+-- rounds that are those of the parts one after another, each with at most `conflicts` learned clauses
 pub record AreWithinBudget (P : Variables) (F : Cnf) (conflicts : ℕ) (rounds : List Round) : Type 0 where
   pub parts : List (List ℕ)
   pub pieces : List (List Round)

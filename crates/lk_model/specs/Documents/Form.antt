@@ -94,7 +94,7 @@ is_body n m (General rounds) = are_steps n m (steps_of rounds) && list_all is_wh
 
 -- THE CLAUSE LINES
 
--- so many clauses over n variables, within the limit of literals
+-- `count` clauses over n variables, within the limit of literals
 unfoldable pub are_clause_lines : ℕ → ℕ → Cnf → Bool
 are_clause_lines n count F = F.vars == n && length F.clauses == count && is_formula F && nat_le (literal_count F) max_literals
 

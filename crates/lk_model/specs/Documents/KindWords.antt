@@ -27,6 +27,6 @@ kind_word NotLearned = codes "not-learned"
 kind_word ModelFails = codes "model-fails"
 kind_word BadWithout = codes "bad-without"
 
--- the words of a line that tells a failing check
+-- the words of a line that reports a failing check
 abbrev pub refused_words : Why → List Word
 refused_words why = codes "refused" ∷ kind_word why.kind ∷ decimal why.place ∷ []

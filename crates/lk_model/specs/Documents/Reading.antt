@@ -26,7 +26,7 @@ pub record GoesOn (bytes : List ℕ) (k : ℕ) : Type 0 where
   pub same : take k (cut_lines bytes) ≡ take k (text_lines document)
 
 -- The line is the first with which no document's text begins. A last line without byte 10 is such a line, since each line
--- of a document has one; so is the line after the last, where the text ends too early.
+-- of a document has one; so is the line after the last, if the text ends too early.
 pub record StopsAt (bytes : List ℕ) (line : ℕ) : Type 0 where
   pub stops : GoesOn bytes line → ⊥
   pub first : (k : ℕ) → k < line → GoesOn bytes k

@@ -14,7 +14,7 @@ pub record Cnf : Type 0 where
 abbrev pub is_formula : Cnf → Bool
 is_formula F = list_all (is_clause F.vars) F.clauses
 
--- The clause at a position. Where there is none it is the empty clause, which nothing touches.
+-- The clause at a position. If there is none, it is the empty clause, which nothing touches.
 abbrev pub clause_at : Cnf → ℕ → List ℤ
 clause_at F zero = []
 clause_at F (suc k) = slice_index_or F.clauses k []

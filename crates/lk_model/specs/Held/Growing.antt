@@ -16,7 +16,7 @@ pub record AreFlagged (vars : ℕ) (literals : List ℤ) (flags : List Bool) : T
   pub size : length flags ≡ 2 * vars + 2
   pub told : (l : ℤ) → IsTrue (is_literal vars l) → slice_index_or flags (rank_of l) false ≡ contains literals l
 
--- the literals make a clause, and the flags tell of the first ones
+-- the literals make a clause, and the flags are those of the first ones
 pub record IsHeld (vars : ℕ) (literals : List ℤ) (flagged : ℕ) (flags : List Bool) : Type 0 where
   pub clause : IsTrue (is_clause vars literals)
   pub few : flagged ≤ length literals

@@ -13,8 +13,8 @@ use Rattle.lk_model.specs.declared.document.Stage.{Stage}
 use Rattle.lk_model.specs.declared.document.Dual.{Dual}
 use Rattle.lk_model.specs.declared.document.Unit.{Unit}
 
--- How a run ends: done, with what it keeps, its stages, duals and units, and the pivots made; too wide after so many
--- pivots; or it wants one more pivot than it may make.
+-- How a run ends: done, with what it keeps, its stages, duals and units, and the number of pivots made; too wide, after
+-- a number of pivots; or it wants one more pivot than it may make.
 pub data LinearEnd : Type 0 where
   RunDone : List ℕ → List Stage → List Dual → List Unit → ℕ → LinearEnd
   RunWide : ℕ → Wide → LinearEnd
@@ -31,7 +31,7 @@ pub data Moved : Type 0 where
   Later : Moment → Moved
   Ended : LinearEnd → Moved
 
--- there, if none of these results is too wide
+-- where a move leads that makes these results: `there`, if none of them is too wide
 abbrev pub unless_wide : List Wide → ℕ → Moved → Moved
 unless_wide results pivots there = option_map_or (λ w. Ended (RunWide pivots w)) (first_wide results) there
 
@@ -47,7 +47,7 @@ abbrev pub at_end : Moment → Moved
 at_end m = let t = m.rows in unless_wide (made_in_dual t ++ made_in_units t) m.pivots
     (Ended (RunDone t.positions m.stages (dual_at_end t) (units_at_end t) m.pivots))
 
--- one move of a run that may make so many pivots
+-- one move of a run that may make `budget` pivots
 unfoldable pub moved : Cnf → ℕ → Moment → Moved
 moved F budget m = elim (next m.rows) [
   | PivotOn i k ↦ elim (m.pivots == budget) [ true ↦ Ended RunBudget | false ↦ after_pivot m i k ]
@@ -55,7 +55,7 @@ moved F budget m = elim (next m.rows) [
   | EndsLean ↦ at_end m
 ]
 
--- the end that so many moves reach
+-- the end that this number of moves reaches
 unfoldable pub run_from : ℕ → Cnf → ℕ → Moment → LinearEnd
 run_from zero F budget m = RunBudget
 run_from (suc moves) F budget m = elim (moved F budget m) [ Later m ↦ run_from moves F budget m | Ended end ↦ end ]
@@ -75,6 +75,6 @@ is_too_large F = let r = occurring_count F in nat_lt (2 ^ 24) ((r + 1) * (length
 abbrev pub linear_run_under : Variables → Cnf → ℕ → LinearEnd
 linear_run_under P F budget = linear_run (formula_without F P) budget
 
--- and its size is that of the rows for this formula
+-- the rows for the formula without the literals on variables of P would have more than 2^24 entries
 abbrev pub is_too_large_under : Variables → Cnf → Bool
 is_too_large_under P F = is_too_large (formula_without F P)

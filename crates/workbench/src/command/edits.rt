@@ -6,7 +6,8 @@ ghost use Rattle.workbench.specs.Endings.{shelved};
 ghost use Rattle.workbench.specs.Performing.{Performs};
 
 use command_endings::edits::answer;
-use command_inputs::{Stop, read_edited};
+use command_inputs::read_edited;
+use command_stops::Stop;
 use command_words::{Command, Options};
 use lk_outside::Shelf;
 use status_lines::Ending;

@@ -1,6 +1,6 @@
 use Rattle.std.proofs.Common.{◌-◌, ◌<◌, get_or, arith, sym, ◌∙◌, ap, subst}
 use Rattle.bipartite_match.specs.Pairing.{Pairing, pairing_of, with_pair}
-use Rattle.bipartite_match.specs.Found.{found_of}
+use Rattle.matching_layers.specs.Found.{found_of}
 use Rattle.bipartite_match.proofs.Numbers.{read_at, within}
 use Rattle.bipartite_match.proofs.AugmentedWalks.{WalkState, walk_starts, walk_goes, walk_falls, walk_ready, layer_left}
 use Rattle.bipartite_match.proofs.mates.Mates.augment_walk.Goals as goal

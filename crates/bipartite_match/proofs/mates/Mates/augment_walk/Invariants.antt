@@ -1,7 +1,7 @@
 use Rattle.std.proofs.Common.{List, ℕ}
 use Rattle.lk_model.specs.Formulas.Formula.{Cnf}
 use Rattle.bipartite_match.specs.Pairing.{pairing_of}
-use Rattle.bipartite_match.specs.Found.{found_of}
+use Rattle.matching_layers.specs.Found.{found_of}
 use Rattle.bipartite_match.specs.Augmented.{HasWalk}
 use Rattle.bipartite_match.proofs.AugmentedWalks.{WalkState, layer_left}
 use Rattle.bipartite_match.proofs.mates.Mates.augment_walk.Given as goal

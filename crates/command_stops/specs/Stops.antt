@@ -1,4 +1,5 @@
--- The stops that the readers make.
+-- The stops that the readers make, and what they say of the shelf.
+use Rattle.std.specs.Prelude.{Bool, IsTrue, ⊤}
 use Rattle.lk_outside.specs.declared.shelf.StartStop.{StartStop}
 use Rattle.lk_outside.specs.declared.shelf.StartStop.TheVariants as start
 use Rattle.lk_model.specs.declared.verdict.ReadStop.{ReadStop}
@@ -7,8 +8,8 @@ use Rattle.dimacs_reader.specs.declared.refusal.Refused.{Refused}
 use Rattle.dimacs_reader.specs.declared.refusal.Refused.TheVariants as refused
 use Rattle.edit_text.specs.declared.refusal.EditsRefused.{EditsRefused}
 use Rattle.edit_text.specs.declared.refusal.EditsRefused.TheVariants as edits
-use Rattle.command_inputs.specs.declared.stop.Stop.{Stop}
-use Rattle.command_inputs.specs.declared.stop.Stop.TheVariants.{Formula, Document, Model, Answer, Edits, Read, Memory}
+use Rattle.command_stops.specs.declared.stop.Stop.{Stop}
+use Rattle.command_stops.specs.declared.stop.Stop.TheVariants.{Formula, Document, Model, Answer, Edits, Read, Memory}
 
 -- the stop that a refusal of the reader makes
 abbrev pub stop_of : Refused → Stop
@@ -39,3 +40,15 @@ answer_stop_of read.OutOfMemory = Memory
 abbrev pub edits_stop_of : EditsRefused → Stop
 edits_stop_of (edits.Line line fault) = Edits line fault
 edits_stop_of edits.OutOfMemory = Memory
+
+-- while bytes are read, nothing is refused
+abbrev pub StopsText : Bool → Stop → Type 0
+StopsText ailing Read = IsTrue ailing
+StopsText ailing Memory = ⊤
+StopsText ailing _ = ⊥
+
+-- the stop reports a failed call, or that memory ran out
+abbrev pub IsFailure : Stop → Type 0
+IsFailure Read = ⊤
+IsFailure Memory = ⊤
+IsFailure _ = ⊥

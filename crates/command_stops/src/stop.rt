@@ -1,8 +1,8 @@
 //! Why a command ends without its result.
 ghost use Rattle.std.specs.Prelude.{◌≡◌};
-ghost use Rattle.command_inputs.specs.declared.stop.Stop.TheVariants.{Memory as MemoryStop, Read as ReadStop};
-ghost use Rattle.command_inputs.specs.Stops.{stop_of, start_stop_of, read_stop_of, model_stop_of, answer_stop_of};
-ghost use Rattle.command_inputs.specs.Stops.{edits_stop_of};
+ghost use Rattle.command_stops.specs.declared.stop.Stop.TheVariants.{Memory as MemoryStop, Read as ReadStop};
+ghost use Rattle.command_stops.specs.Stops.{stop_of, start_stop_of, read_stop_of, model_stop_of, answer_stop_of};
+ghost use Rattle.command_stops.specs.Stops.{edits_stop_of};
 
 use dimacs_reader::Refused;
 use edit_text::{EditFault, EditsRefused};
@@ -104,7 +104,7 @@ impl From<AllocError> for Stop {
 
 impl Stop {
     /// The stop that a text makes that is no model's.
-    pub(crate) fn of_model(stop: ModelStop) -> Stop
+    pub fn of_model(stop: ModelStop) -> Stop
         ensures { result ≡ model_stop_of stop }
     {
         match stop {
@@ -114,7 +114,7 @@ impl Stop {
     }
 
     /// The stop that a text makes that is no answer's.
-    pub(crate) fn of_answer(stop: AnswerStop) -> Stop
+    pub fn of_answer(stop: AnswerStop) -> Stop
         ensures { result ≡ answer_stop_of stop }
     {
         match stop {
