@@ -1,5 +1,6 @@
 #!/usr/bin/env python3
-"""Compares docs/REFERENCE.md and docs/leank.1 with each other and with the program, and follows the links of the pages.
+"""Compares docs/REFERENCE.md, docs/leank.1 and the limits that README.md tells with each other and with the program, and follows
+the links of the pages.
 
     bench/pages.py [LEANK]
 
@@ -17,7 +18,7 @@ from command_line import RELEASED, CommandLine
 from formulas import formula_text, pigeons, square
 
 TOP = Path(__file__).resolve().parent.parent
-REFERENCE, MANUAL = (TOP / "docs/REFERENCE.md").read_text(), (TOP / "docs/leank.1").read_text()
+REFERENCE, MANUAL, README = ((TOP / name).read_text() for name in ("docs/REFERENCE.md", "docs/leank.1", "README.md"))
 FILES = {
     "FORMULA": formula_text(2, [[1], [-1, 2]]), "ANSWER": b"s SATISFIABLE\nv 1 2 0\n", "MODEL": b"v 1 2 0\n", "EDITS": b"a 1 0\n",
     "DOCUMENT": b"c leank 1 pure\nc formula 2 2\nc keep 0\nc set 1 2 0\nc order 2 1 0\np cnf 2 0\n",
@@ -140,6 +141,7 @@ def main(leank):
     here, there = manual(), reference()
     for what, one, other in zip(("commands", "options", "statuses", "limits"), here, there):
         expect(one == other, f"{what} of leank.1: {one};\n{what} of REFERENCE: {other}")
+    expect(numbers(MOST, README) == there[3], f"limits of README: {numbers(MOST, README)};\nlimits of REFERENCE: {there[3]}")
     follow_links()
     with tempfile.TemporaryDirectory() as room:
         for name, text in FILES.items():
