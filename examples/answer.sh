@@ -1,10 +1,11 @@
 #!/bin/sh
-# Whether a formula has a model, and the answer checked.
+# Says whether a formula has a model, and checks the answer.
 #
 #     examples/answer.sh [FORMULA]
 #
-# The formula is examples/square.cnf where none is named. The status is that of `leank solve`: 10 with a model, 20
-# where there is none, 5 where the budget is used up; or 2 where a word is wrong or the formula cannot be read.
+# FORMULA is a file and no pipe, by default examples/square.cnf. The status is 10 with a model, 20 if there is none, 5 if
+# the budget is used up, and 2 for wrong words, or if FORMULA cannot be read or is no formula. If `leank solve` fails
+# otherwise, or `leank verify` does not accept the answer, the status is theirs.
 set -eu
 
 # Prints the head of this script.

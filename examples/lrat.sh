@@ -1,12 +1,14 @@
 #!/bin/sh
-# A refutation as an LRAT proof, for the checkers of other tools.
+# Writes a refutation as an LRAT proof, for the checkers of other tools.
 #
 #     examples/lrat.sh FORMULA ANSWER >PROOF
 #
-# ANSWER is the refutation of `leank solve` (status 20), or the core of `leank mus`. In both cases PROOF is for FORMULA: its
-# numbers up to M are the positions of FORMULA's M clauses. It does not fit the text of a core, where the clauses have other
-# positions. Nothing is checked here: that is the checker's task. The status is 1 if ANSWER is no refutation, or one for
-# another number of clauses, and 2 if there are not two words or a file cannot be read.
+# ANSWER is a refutation by `leank solve` (status 20), or a core by `leank mus`. PROOF is always for FORMULA: its numbers
+# up to M are the positions of FORMULA's M clauses. In the text of a core the clauses have other positions. Nothing is
+# checked here: that is the checker's task.
+#
+# The status is 0; 1 if ANSWER has no refutation, or one for another number of clauses; 2 for wrong words, or if a file
+# cannot be read.
 
 # Each step becomes one line, `ID LITERALS 0 HINTS 0`. Its hints are the clauses of the chain, backwards, without some.
 #

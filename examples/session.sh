@@ -1,13 +1,15 @@
 #!/bin/sh
-# From a formula to a solver and back: reduces a formula, gives what is kept to a solver, and makes the
-# solver's model one of the whole formula, which awk then checks.
+# From a formula to a solver and back: reduces a formula, gives the kept clauses to a solver, and extends its model to the
+# whole formula. Then awk checks the model.
 #
 #     examples/session.sh [FORMULA]
 #
-# The formula is examples/ladder.cnf where none is named. It is given to the first of cadical, minisat and
-# picosat that is found; where none is, examples/ladder.model serves for examples/ladder.cnf. The status is 0 with a
-# model, 20 where the solver says that there is none, 1 where the solver says neither, and 2 where a word is wrong or the
-# formula cannot be read.
+# FORMULA is a file and no pipe, by default examples/ladder.cnf. The solver is the first of cadical, minisat and picosat
+# that is found. If none is, examples/ladder.model serves for the default.
+#
+# The status is 0 with a model, 20 if the solver says that there is none, and 2 for wrong words, or if FORMULA cannot be
+# read or is no formula. If a command of leank fails otherwise, the status is that of the command. It is 1 if the solver
+# says neither, if none is found for a named FORMULA, or if awk finds a clause that is not satisfied.
 set -eu
 
 # Prints the head of this script.
@@ -30,15 +32,15 @@ fi
 work=$(mktemp -d)
 trap 'rm -rf "$work"' EXIT
 
-# Writes the model of the kept clauses as solvers print it, and notes the solver's status: 10 where there is a model,
-# 20 where there is none, and anything else where it does not know, was killed or refused the file.
+# Writes the model of the kept clauses as solvers print it, and notes the solver's status: 10 if there is a model, 20 if
+# there is none, and any other if it does not know, was killed or refused the file.
 solve() {
     found=0
     case $1 in
     cadical) cadical -q "$work/reduced" >"$work/model" || found=$? ;;
     picosat) picosat "$work/reduced" >"$work/model" || found=$? ;;
     minisat)
-        # It writes the bare literals to a file, with a blank before the 0 where no variable occurs.
+        # It writes the bare literals to a file, with a blank before the 0 if no variable occurs.
         minisat -verb=0 "$work/reduced" "$work/literals" >"$work/log" 2>&1 || found=$?
         if [ -e "$work/literals" ]; then
             sed -e 's/^SAT$/s SATISFIABLE/' -e 's/^ *\(-\{0,1\}[0-9]\)/v \1/' "$work/literals" >"$work/model"
