@@ -1,3 +1,4 @@
+#!/usr/bin/env python3
 """The words of a command line, for the programs of this folder.
 
 `CommandLine(__doc__)` takes the words of the program that has this docstring. With `--help` among them it prints the docstring,
@@ -130,3 +131,7 @@ class CommandLine:
         missing = [it for it in dict.fromkeys(programs) if not shutil.which(it)]
         if missing:
             self.fail(f"not found: {', '.join(missing)}")
+
+
+if __name__ == "__main__":
+    CommandLine(__doc__).end()

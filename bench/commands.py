@@ -1,48 +1,39 @@
 #!/usr/bin/env python3
-"""Measures `check`, `extend` and `report` beside reading the same files, and `report` beside a plain
-program in C++ that writes the same lines.
+"""Measures the commands beside reading the same files, and `report` beside a plain program in C++ that writes the same lines.
 
     bench/commands.py LEANK [KIND ...]
 
-LEANK is the built program (`dist/leank`). Needs python3 and g++.
-Reading is measured by leank itself, which reads its inputs in their order and stops at one that is bad.
-Each figure is the least wall time of some runs. Nothing fails by time.
+LEANK is the built program (`dist/leank`), and KIND the name of a formula. Seconds are those of the clock, the least of three runs
+by turns. Reading is measured by leank itself, which reads its inputs in their order and stops at one that is bad. Needs g++.
+The status is 1 if the reports differ. Nothing fails by time.
 """
+import filecmp
 import os
 import random
-import subprocess
 import sys
 import tempfile
-import time
+from collections import namedtuple
 
 from command_line import CommandLine
 from formulas import implications, planted_clauses, write as write_formula
+from runs import Command, apart, built, by_turns
+from tables import PrintedTable, beside, seconds, times
 
 SEED = 1
-RUNS = 5
 
-
-def few(draw):
-    """300,000 variables, and 250,000 clauses of three literals: most of them go."""
-    return planted_clauses(draw, 300000, 250000)
-
-
-def many(draw):
-    """200,000 variables, and 800,000 clauses of three literals: nearly all are kept."""
-    return planted_clauses(draw, 200000, 800000)
-
-
-def chain(draw):
-    """Implications along 1,000,000 variables."""
-    return range(1, 1000001), list(implications(1000000))
-
-
-KINDS = {"few": few, "many": many, "chain": chain}
+# How many literals a formula has, and what makes one of its models and its clauses.
+Kind = namedtuple("Kind", "literals make")
+KINDS = {
+    "random, 300,000 variables, 250,000 clauses of three literals":
+        Kind(750000, lambda draw: planted_clauses(draw, 300000, 250000)),
+    "random, 200,000 variables, 800,000 clauses": Kind(2400000, lambda draw: planted_clauses(draw, 200000, 800000)),
+    "implications along 1,000,000 variables": Kind(1999998, lambda draw: (range(1, 1000001), list(implications(1000000)))),
+}
 
 
 def write(kind, formula, model):
     """Writes a formula, and a model of it as a solver prints one."""
-    literals, clauses = KINDS[kind](random.Random(SEED))
+    literals, clauses = KINDS[kind].make(random.Random(SEED))
     with open(formula, "w") as out:
         write_formula(out, len(literals), clauses)
     with open(model, "w") as out:
@@ -51,33 +42,30 @@ def write(kind, formula, model):
         out.write("v 0\n")
 
 
-def least_seconds(words, output=os.devnull, status=0):
-    """The least wall seconds of some runs of a command that ends with this status."""
-    least = float("inf")
-    for _ in range(RUNS):
-        with open(output, "w") as out:
-            begin = time.monotonic()
-            ended = subprocess.run(words, stdout=out, stderr=subprocess.DEVNULL).returncode
-            least = min(least, time.monotonic() - begin)
-        if ended != status:
-            sys.exit(f"{' '.join(words)}: status {ended}")
-    return least
+def commands_of(leank, plain, path):
+    """What is measured, by names. A document is written before it is read."""
+    formula, model, bad = path("formula"), path("model"), path("bad")
+    commands = {
+        "reading": Command([leank, "check", formula, bad], statuses=(2,)),
+        "report": Command([leank, "report", formula], path("ours"), statuses=(0,)),
+        "plain": Command([plain, formula], path("theirs"), statuses=(0,)),
+    }
+    for name in ("pure", "matching"):
+        document = path(name)
+        commands |= {
+            name: Command([leank, "reduce", name, formula], document, statuses=(0,)),
+            f"both, {name}": Command([leank, "extend", formula, document, bad], statuses=(2,)),
+            f"check, {name}": Command([leank, "check", formula, document], statuses=(0,)),
+            f"extend, {name}": Command([leank, "extend", formula, document, model], statuses=(0,)),
+        }
+    return commands
 
 
-def built(folder, name):
-    """A program of this folder, built into the other one."""
-    program = os.path.join(folder, name)
-    source = os.path.join(os.path.dirname(os.path.abspath(__file__)), name + ".cpp")
-    subprocess.run(["g++", "-O2", "-std=c++17", "-o", program, source], check=True)
-    return program
-
-
-def report_beside(leank, plain, formula):
-    """Seconds of both programs that tell the numbers of a formula, which must be the same."""
-    ours, theirs = (subprocess.run(words, stdout=subprocess.PIPE, check=True).stdout for words in ([leank, "report", formula], [plain, formula]))
-    if ours != theirs:
-        sys.exit("the reports differ")
-    return least_seconds([leank, "report", formula]), least_seconds([plain, formula])
+def to_reading(found):
+    """The least and the greatest ratio of `check` and `extend` to reading the formula and the document."""
+    ratios = [times(found[f"{word}, {name}"].clock, found[f"both, {name}"].clock)
+              for word in ("check", "extend") for name in ("pure", "matching")]
+    return f"{seconds(min(ratios))} to {seconds(max(ratios))}"
 
 
 def main():
@@ -85,28 +73,19 @@ def main():
     leank, kinds = words.program(), words.some("KIND", KINDS)
     words.needs("g++")
     with tempfile.TemporaryDirectory() as folder:
-        formula, model, document, bad = (os.path.join(folder, name) for name in ("formula", "model", "document", "bad"))
-        with open(bad, "w") as out:
+        path = lambda name: os.path.join(folder, name)
+        with open(path("bad"), "w") as out:
             out.write("v x\n")
-        plain = built(folder, "report")
+        commands = commands_of(leank, built(folder, "report.cpp"), path)
+        table = PrintedTable("commands", "formula", "reading", "`reduce pure`", "`reduce matching`", "`report`",
+                             "`check`, `extend`, to reading")
         for kind in kinds:
-            write(kind, formula, model)
-            print(f"{kind}: {KINDS[kind].__doc__} {os.path.getsize(formula)} bytes")
-            one = least_seconds([leank, "check", formula, bad], status=2)
-            print(f"  reading the formula {one:.2f} s")
-            for words in (["reduce", "pure", formula], ["reduce", "matching", formula]):
-                seconds = least_seconds([leank] + words)
-                print(f"  {' '.join(words[:-1]):16} {seconds:6.2f} s  ratio {seconds / one:.2f}")
-            report, beside = report_beside(leank, plain, formula)
-            print(f"  report           {report:6.2f} s  ratio {report / one:.2f}, to the plain program {report / beside:.2f} ({beside:.2f} s)")
-            for class_word in ("pure", "matching"):
-                with open(document, "w") as out:
-                    subprocess.run([leank, "reduce", class_word, formula], stdout=out, check=True)
-                two = least_seconds([leank, "extend", formula, document, bad], status=2)
-                checked = least_seconds([leank, "check", formula, document])
-                extended = least_seconds([leank, "extend", formula, document, model])
-                print(f"  {class_word} document: reading both {two:.2f} s  check {checked:.2f} s, ratio {checked / two:.2f}"
-                      f"  extend {extended:.2f} s, ratio {extended / two:.2f}")
+            apart(write, kind, path("formula"), path("model"))
+            found = by_turns(commands)
+            if not filecmp.cmp(path("ours"), path("theirs"), shallow=False):
+                sys.exit(f"{kind}: the reports differ")
+            one = {name: seconds(found[name].clock) for name in ("reading", "pure", "matching")}
+            table.add(kind, *one.values(), beside(found["report"].clock, found["plain"].clock), to_reading(found))
 
 
 if __name__ == "__main__":

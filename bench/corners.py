@@ -1,4 +1,6 @@
+#!/usr/bin/env python3
 """Corners of docs/FORMAT.md and of the grammar of formulas, for test_judge.py: small texts of which one word decides."""
+from command_line import CommandLine
 
 CLASSES = ["pure", "matching", "linear", "general"]
 BIG = 2**127 - 1
@@ -171,3 +173,7 @@ FORMULAS = [
     *(HEADER + words for words in ("p cnf 1 1\n", "1 p 0\n", "1\npx\n", "1 0 1\n", "1 0 2\n", "1 0 x\n", "1 c\n0\n", "1 \nc 0 x\n0\n", "x\np")),
     "p cnf 1 0\nx", "p cnf 1 0\n0", "p cnf 1 0\n%",
 ]
+
+
+if __name__ == "__main__":
+    CommandLine(__doc__).end()

@@ -3,28 +3,28 @@
 
     bench/editing.py LEANK [KIND ...]
 
-LEANK is the built program (`dist/leank`). Needs python3 and g++; where `perf` is
-there, it also tells which share of leank's time goes into each of its parts. Of a formula of about 100,000 clauses, 10,000
-clauses (1,000 where the lines are long) are removed or added one by one. The plain program (bench/hopcroft_karp.cpp) makes the first 100 edits; its time for
-all of them is reckoned from these. Both write the same lines for the edits that both make. `reading` is what leank takes for
-both inputs, where the last line is faulty. Nothing fails by time.
+LEANK is the built program (`dist/leank`), and KIND the name of a formula. Of a formula of about 100,000 clauses 10,000 clauses, or
+1,000 if the lines are long, are removed or added one by one. The plain program (hopcroft_karp.cpp) makes the first 100 edits, and
+its time for all of them is reckoned from these. Both write the same lines for the edits that both make, or the status is 1.
+`reading` is what leank takes for both inputs if the last line is faulty, and `one kernel` what it takes without edits. Seconds are
+those of the clock. Needs g++. Nothing fails by time.
 """
 import os
 import random
-import shutil
-import subprocess
+import sys
 import tempfile
-import time
+from collections import namedtuple
 
 from command_line import CommandLine
 from formulas import drawn_clauses, implications, write
+from runs import apart, built, least
+from tables import PrintedTable, beside, seconds
 
 SEED = 1
 EDITS = 10_000
-# So many where nearly all clauses stay in the kernel.
+# So many if nearly all clauses stay in the kernel, or many change it.
 FEW = 1_000
 PLAIN = 100
-RUNS = 3
 
 
 def random_three(draw, variables, clauses):
@@ -38,13 +38,14 @@ def with_core(draw, variables, clauses, core):
     return variables, dense + list(drawn_clauses(draw, range(few + 1, variables + 1), clauses - core))
 
 
+# How many edits a formula gets, and what makes it.
+Kind = namedtuple("Kind", "edits make")
 KINDS = {
-    "sparse": lambda draw: random_three(draw, 120_000, 100_000),
-    "core": lambda draw: with_core(draw, 130_000, 100_000, 1_000),
-    "near": lambda draw: random_three(draw, 109_000, 100_000),
-    "dense": lambda draw: random_three(draw, 100_000, 100_000),
-    # (implications from a unit clause on)
-    "chain": lambda draw: (100_000, [[1], *implications(100_000)]),
+    "of three literals over 120,000 variables, nothing kept": Kind(EDITS, lambda draw: random_three(draw, 120_000, 100_000)),
+    "the same with 1,000 clauses over 900 variables": Kind(EDITS, lambda draw: with_core(draw, 130_000, 100_000, 1_000)),
+    "of three literals over 109,000 variables": Kind(FEW, lambda draw: random_three(draw, 109_000, 100_000)),
+    "over 100,000 variables": Kind(FEW, lambda draw: random_three(draw, 100_000, 100_000)),
+    "implications from a unit clause": Kind(EDITS, lambda draw: (100_000, [[1], *implications(100_000)])),
 }
 
 
@@ -68,24 +69,16 @@ def lines_of(draw, clauses, count):
     return lines
 
 
-def seconds_of(words, output, runs=RUNS):
-    """The least wall seconds of some runs of a command whose output goes to a file."""
-    least = float("inf")
-    for _ in range(runs):
-        with open(output, "wb") as out:
-            begin = time.monotonic()
-            subprocess.run(words, stdout=out, stderr=subprocess.DEVNULL)
-            least = min(least, time.monotonic() - begin)
-    return least
-
-
-def shares(words, folder):
-    """The parts of a program that take most of its time, by perf."""
-    record = os.path.join(folder, "perf")
-    subprocess.run(["perf", "record", "-q", "-o", record, *words], stdout=subprocess.DEVNULL, stderr=subprocess.DEVNULL)
-    told = subprocess.run(["perf", "report", "-i", record, "--stdio", "--sort", "symbol"], capture_output=True, text=True).stdout
-    found = [line.split() for line in told.splitlines() if "%" in line and not line.startswith("#")]
-    return ", ".join(f"{line[2]} {line[0]}" for line in found[:6])
+def write_inputs(kind, formula, edits, bad, none):
+    """Writes a formula, its edits, the same with a faulty line behind them, and no edits."""
+    draw = random.Random(SEED)
+    variables, clauses = KINDS[kind].make(draw)
+    lines = lines_of(draw, clauses, KINDS[kind].edits)
+    for path, text in (edits, lines), (bad, [*lines, "x"]), (none, []):
+        with open(path, "w") as out:
+            out.write("".join(line + "\n" for line in text))
+    with open(formula, "w") as out:
+        write(out, variables, clauses)
 
 
 def first_lines(path, count):
@@ -93,34 +86,35 @@ def first_lines(path, count):
         return [line for line, _ in zip(text, range(count))]
 
 
+def measured(kind, leank, plain, folder):
+    """The cells of a formula."""
+    inputs = [os.path.join(folder, name) for name in ("formula", "edits", "bad", "none")]
+    apart(write_inputs, kind, *inputs)
+    formula, edits, bad, none = inputs
+    ours, theirs = (os.path.join(folder, name) for name in ("ours", "theirs"))
+    reading = least(leank, "edits", formula, bad, status=2)
+    one = least(leank, "edits", formula, none)
+    every = least(leank, "edits", formula, edits, output=ours, times=1)
+    some = least(plain, formula, edits, str(PLAIN), output=theirs, times=1)
+    start = least(plain, formula, edits, "0")
+    if first_lines(ours, PLAIN + 1) != first_lines(theirs, PLAIN + 1):
+        sys.exit(f"{kind}: other lines")
+    count = KINDS[kind].edits
+    scratch = (some.clock - start.clock) / PLAIN * count
+    return (f"{count:,}", seconds(reading.clock), seconds(one.clock), beside(every.clock, scratch), seconds(scratch),
+            seconds(os.path.getsize(ours) / 1e6))
+
+
 def main():
     words = CommandLine(__doc__)
     leank, kinds = words.program(), words.some("KIND", KINDS)
     words.needs("g++")
-    source = os.path.join(os.path.dirname(os.path.abspath(__file__)), "hopcroft_karp.cpp")
+    table = PrintedTable("editing", "formula of 100,000 clauses", "edits", "reading", "one kernel", "`edits`", "from scratch",
+                         "written, MB")
     with tempfile.TemporaryDirectory() as folder:
-        plain = os.path.join(folder, "hopcroft_karp")
-        subprocess.run(["g++", "-O2", "-std=c++17", "-o", plain, source], check=True)
-        formula, edits, bad, none, ours, theirs = (os.path.join(folder, name) for name in ("formula", "edits", "bad", "none", "ours", "theirs"))
+        plain = built(folder, "hopcroft_karp.cpp")
         for kind in kinds:
-            draw = random.Random(SEED)
-            variables, clauses = KINDS[kind](draw)
-            count = FEW if kind == "dense" else EDITS
-            lines = lines_of(draw, clauses, count)
-            for path, text in (edits, lines), (bad, [*lines, "x"]), (none, []):
-                with open(path, "w") as out:
-                    out.write("".join(line + "\n" for line in text))
-            with open(formula, "w") as out:
-                write(out, variables, clauses)
-            reading = seconds_of([leank, "edits", formula, bad], os.devnull)
-            one = seconds_of([leank, "edits", formula, none], os.devnull)
-            all_edits = seconds_of([leank, "edits", formula, edits], ours, 1)
-            scratch = seconds_of([plain, formula, edits, str(PLAIN)], theirs, 1) - seconds_of([plain, formula, edits, "0"], os.devnull)
-            same = first_lines(ours, PLAIN + 1) == first_lines(theirs, PLAIN + 1)
-            size = os.path.getsize(ours)
-            print(f"{kind:7} reading {reading:.2f} s, one kernel {one:.2f} s, {count} edits {all_edits:.2f} s and {size} bytes; from scratch {scratch / PLAIN * count:.0f} s, ratio {all_edits / (scratch / PLAIN * count):.3f}{'' if same else '; OTHER LINES'}")
-            if shutil.which("perf"):
-                print(f"        {shares([leank, 'edits', formula, edits], folder)}")
+            table.add(kind, *measured(kind, leank, plain, folder))
 
 
 if __name__ == "__main__":

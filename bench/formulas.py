@@ -1,6 +1,9 @@
+#!/usr/bin/env python3
 """Formulas, and clauses of which they are made, for the programs of this folder. A formula is the number of variables and the
 clauses. What is drawn is drawn with the generator that is given."""
 import itertools
+
+from command_line import CommandLine
 
 
 def write(out, variables, clauses, number=None):
@@ -375,3 +378,7 @@ def sampled_clauses(variables, seed, number):
     draw = Samples(seed)
     drawn = ([draw.literal(variables) for _ in range(draw.below(3) + 1)] for _ in range(number))
     return [clause for clause in drawn if len(set(clause)) == len(clause)]
+
+
+if __name__ == "__main__":
+    CommandLine(__doc__).end()

@@ -2,32 +2,34 @@
 """Counts what each class of `reduce` removes from formulas, and what that saves a solver.
 
     bench/gains.py LEANK [--seconds N] [GROUP ...]
-    bench/gains.py table FILE
+    bench/gains.py rows
 
-LEANK is the built program (`dist/leank`). GROUP is `yosys`, `abc`, `z3`, `drawn` or
-`built`; without it all are counted. Needs python3 and Debian's packages minisat and cadical; for the groups of tools yosys,
-berkeley-abc and z3 too. The first prints a row of tab-separated words for each formula, as in bench/figures/gains.tsv; `table`
-prints such a file as tables, from which docs/GAINS.md has some rows.
+LEANK is the built program (`dist/leank`). GROUP is `yosys`, `abc`, `z3`, `drawn` or `built`; without it all are counted. The first
+prints a table with a row for each formula, which measure.py keeps as bench/figures/gains.tsv. `rows` puts what that file says into
+the rows of docs/GAINS.md that have the names of its formulas. Needs Debian's packages minisat and cadical, and for the groups of
+tools yosys, berkeley-abc and z3.
 
 A row has the formula's occurring variables and clauses, and for each class how many of both are removed; or why there is no
-document: `time` where a run took more than N seconds (by default 10), and else the status. The same follows of what minisat
-removes before it searches, for comparison: it eliminates variables, and what is left has other clauses. Then come the conflicts of minisat
-and of cadical on the formula, and on the kernel of the class general, or matching where that is not finished; `-` where the
-solver took more than N seconds. Conflicts are counted and not seconds, so the rows do not depend on the machine's other work,
-apart from what runs out of time.
+document: `time` if a run took more than N seconds (by default 10), and else the status. The same follows of what minisat removes
+before it searches, for comparison: it eliminates variables, and what is left has other clauses. Then come the conflicts of minisat
+and of cadical on the formula, and on the kernel of the class general, or matching if that is not finished; `-` if the solver took
+more than N seconds. Conflicts are counted and not seconds, so the rows do not depend on the machine's other work, apart from what
+runs out of time.
 """
 import os
 import random
 import re
 import subprocess
 import tempfile
-from collections import Counter
 
 import tool_formulas
 from command_line import CommandLine
 from formulas import (adders, colouring, counter, machine, mixed_clauses, parity, pebbles, pigeons, planted_three,
                       random_three, shuffled, side_by_side, write)
+from tables import PrintedTable, cells_of, line_of, put_text, text_of
 
+HERE = os.path.dirname(os.path.abspath(__file__))
+DATA, PAGE = os.path.join(HERE, "figures", "gains.tsv"), os.path.join(os.path.dirname(HERE), "docs", "GAINS.md")
 SEED = 1
 CLASSES = ("pure", "matching", "linear", "general")
 
@@ -260,15 +262,21 @@ HEAD += [f"{solver} {on}" for solver in ("minisat", "cadical") for on in ("formu
 
 
 def count(leank, groups, seconds):
-    print("\t".join(HEAD), flush=True)
+    table = PrintedTable("gains", *HEAD)
     with tempfile.TemporaryDirectory() as folder:
         for group in groups:
             for kind, put in GROUPS[group].items():
                 row = row_of(leank, group, kind, put, seconds, folder)
                 if row:
-                    print("\t".join(map(str, row)), flush=True)
+                    table.add(*map(str, row))
                 for name in os.listdir(folder):
                     os.remove(os.path.join(folder, name))
+
+
+def data_of(table, commit):
+    """What the file has: the commit, and the table with tabs between its cells."""
+    first = f"# What each class removes, counted by bench/gains.py with commit {commit}"
+    return "".join(line + "\n" for line in [first, *map("\t".join, [table.head, *table.rows])])
 
 
 def share(removed, whole):
@@ -283,28 +291,41 @@ def grouped(number):
     return f"{int(number):,}" if number.isdigit() else number
 
 
-def table(text):
-    rows = [line.split("\t") for line in text.decode().splitlines() if not line.startswith("#")]
-    rows = [dict(zip(rows[0], row)) for row in rows[1:]]
-    for group in Counter(row["group"] for row in rows):
-        print(f"\n{group}\n")
-        print("| formula | clauses | pure | matching | linear | general | simplified | minisat | cadical |")
-        print("|---|---|---|---|---|---|---|---|---|")
-        for row in (row for row in rows if row["group"] == group):
-            words = [row["formula"], grouped(row["clauses"])]
-            for name in [*CLASSES, "simplified"]:
-                removed = row[f"{name} clauses"]
-                words.append(share(row[f"{name} variables"] if removed == "-" else removed, row["clauses"]))
-            for solver in ("minisat", "cadical"):
-                before, after = grouped(row[f"{solver} formula"]), grouped(row[f"{solver} kernel"])
-                words.append(before if before == after else f"{before}→{after}")
-            print("| " + " | ".join(words) + " |")
+def cells_on_page(row):
+    """The cells of a formula in docs/GAINS.md."""
+    cells = [row["formula"], grouped(row["clauses"])]
+    for name in [*CLASSES, "simplified"]:
+        removed = row[f"{name} clauses"]
+        cells.append(share(row[f"{name} variables"] if removed == "-" else removed, row["clauses"]))
+    for solver in ("minisat", "cadical"):
+        before, after = grouped(row[f"{solver} formula"]), grouped(row[f"{solver} kernel"])
+        cells.append(before if before == after else f"{before}→{after}")
+    return cells
+
+
+def with_rows(page, data):
+    """The page with what the file says in the rows of its formulas, and with its commit."""
+    first, head, *rows = [line.split("\t") for line in data.splitlines()]
+    found = {row[1]: cells_on_page(dict(zip(head, row))) for row in rows}
+
+    def on_page(line):
+        name, *others = cells_of(line)
+        is_row = line.startswith("|") and len(others) + 1 == len(found.get(name, ()))
+        return line_of(found[name]) if is_row else line
+
+    text = "".join(map(on_page, page.splitlines(keepends=True)))
+    return re.sub(r"(`bench/gains.py` wrote with commit )\w+", rf"\g<1>{first[0].split()[-1]}", text)
+
+
+def put_rows():
+    put_text(PAGE, with_rows(text_of(PAGE), text_of(DATA)))
 
 
 def main():
     words = CommandLine(__doc__)
-    if words.takes("table"):
-        return table(*words.files("FILE"))
+    if words.takes("rows"):
+        words.end()
+        return put_rows()
     seconds = words.option("--seconds", 10.0, float)
     leank, groups = words.program(), words.some("GROUP", GROUPS)
     words.needs("minisat", "cadical", *(it for group in groups for it in NEEDS.get(group, ())))

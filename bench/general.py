@@ -1,31 +1,33 @@
 #!/usr/bin/env python3
-"""Measures `reduce general` beside `reduce matching` on formulas of many parts.
+"""Measures `reduce general` beside `reduce matching` on formulas of many parts, and alone where it has many rounds.
 
     bench/general.py LEANK [KIND ...]
 
-LEANK is the built program (`dist/leank`). Needs python3. Each
-figure is the least wall time of some runs; `reading` is what leank takes to read the formula alone. Both
-documents are checked. Nothing fails by time.
+LEANK is the built program (`dist/leank`), and KIND the name of a formula. The first table is about formulas of parts, also by two
+and by four workers, the second about rounds, beside minisat. Seconds are those of the clock, the least of three runs by turns or
+those of one that takes over five. Each document is checked, and by any number of workers they are the same, or the status is 1.
+Needs Debian's package minisat. Nothing fails by time.
 """
+import filecmp
 import os
 import random
+import sys
 import tempfile
 
 from command_line import CommandLine
-from formulas import refuted_implications, square, squares, write
-from matching import checked, least_seconds
+from formulas import pigeons, planted_clauses, refuted_implications, side_by_side, square, squares, write
+from matching import kept_by
+from runs import Command, apart, by_turns, megabytes
+from tables import PrintedTable, seconds
+from trap_inputs import contradicted_pairs, joined_cubes
 
 SEED = 1
 PARTS = 100000
-
-
-def parts(out):
-    """Parts of four clauses, of which all are kept."""
-    write(out, 2 * PARTS, squares(PARTS), 4 * PARTS)
+WORKERS = ("1", "2", "4")
 
 
 def within(out):
-    """The same, with variables and positions of all parts among one another."""
+    """Squares, with variables and positions of all of them among one another."""
     draw = random.Random(SEED)
     names = draw.sample(range(1, 2 * PARTS + 1), 2 * PARTS)
     clauses = [clause for k in range(PARTS) for clause in square(names[2 * k], names[2 * k + 1])]
@@ -33,36 +35,78 @@ def within(out):
     write(out, 2 * PARTS, clauses)
 
 
-def gone(out):
-    """Parts of three clauses of which none is kept."""
-    write(out, 2 * PARTS, squares(PARTS, 3), 3 * PARTS)
+def with_squares(out, variables, clauses, width, number):
+    """Clauses with a drawn model, and the squares of so many pairs of variables."""
+    draw = random.Random(SEED)
+    _, rows = planted_clauses(draw, variables, clauses, width)
+    for _ in range(number):
+        rows += square(*draw.sample(range(1, variables + 1), 2))
+    draw.shuffle(rows)
+    write(out, variables, rows)
 
 
-def chain(out):
-    """One part: implications from a unit clause to the complement of the last variable."""
-    write(out, 2 * PARTS, refuted_implications(2 * PARTS), 2 * PARTS + 1)
+OF_PARTS = {
+    "100,000 parts of four clauses, all kept": lambda out: write(out, 2 * PARTS, squares(PARTS), 4 * PARTS),
+    "the same, among one another": within,
+    "100,000 parts of three clauses, none kept": lambda out: write(out, 2 * PARTS, squares(PARTS, 3), 3 * PARTS),
+    "one part, implications along 200,000 variables":
+        lambda out: write(out, 2 * PARTS, refuted_implications(2 * PARTS), 2 * PARTS + 1),
+    "four parts, ten pigeons in nine holes": lambda out: write(out, *side_by_side([pigeons(9)] * 4)),
+}
+OF_ROUNDS = {
+    "{i} and {-i} for each i up to 20,000, joined by one clause: 20,000 rounds": lambda out: out.write(contradicted_pairs(20000)),
+    "11,000 cubes of eight clauses, each tied to the next": lambda out: out.write(joined_cubes(11000)),
+    "100 squares in 1,000,000 planted clauses over 500,000 variables": lambda out: with_squares(out, 500000, 1000000, 3, 100),
+    "500 squares in 2,000,000 planted clauses of five literals over 500,000 variables":
+        lambda out: with_squares(out, 500000, 2000000, 5, 500),
+}
+KINDS = OF_PARTS | OF_ROUNDS
 
 
-KINDS = {"parts": parts, "within": within, "gone": gone, "chain": chain}
+def write_formula(kind, name):
+    with open(name, "w") as out:
+        KINDS[kind](out)
+
+
+def measure_parts(leank, path, kinds):
+    formula = path("formula")
+    command = lambda name, it: Command([leank, "reduce", name, formula, "--workers", it], path(f"{name} {it}"), statuses=(0,))
+    commands = {"reading": Command([leank, "check", formula, os.devnull]), "matching": command("matching", "1"),
+                **{it: command("general", it) for it in WORKERS}}
+    table = PrintedTable("general", "formula", "kept", "reading", "`reduce matching`", "`reduce general`", "two workers", "four")
+    for kind in kinds:
+        apart(write_formula, kind, formula)
+        found = by_turns(commands)
+        documents = [commands[it].output for it in WORKERS]
+        if not all(filecmp.cmp(documents[0], other, shallow=False) for other in documents[1:]):
+            sys.exit(f"{kind}: other documents")
+        kept_by(leank, formula, commands["matching"].output)
+        number, _ = kept_by(leank, formula, documents[0])
+        table.add(kind, f"{number:,}", *(seconds(it.clock) for it in found.values()))
+
+
+def measure_rounds(leank, path, kinds):
+    formula, document = path("formula"), path("document")
+    commands = {"general": Command([leank, "reduce", "general", formula], document, statuses=(0,)),
+                "minisat": Command(["minisat", "-verb=0", formula])}
+    table = PrintedTable("rounds", "formula", "kept", "`reduce general`", "MB", "minisat", "MB of minisat")
+    for kind in kinds:
+        apart(write_formula, kind, formula)
+        found = by_turns(commands)
+        number, _ = kept_by(leank, formula, document)
+        table.add(kind, f"{number:,}", *(cell for it in found.values() for cell in (seconds(it.clock), megabytes(it.memory))))
 
 
 def main():
     words = CommandLine(__doc__)
     leank, kinds = words.program(), words.some("KIND", KINDS)
+    words.needs("minisat")
     with tempfile.TemporaryDirectory() as folder:
-        formula, ours, beside = (os.path.join(folder, name) for name in ("formula", "ours", "beside"))
-        for kind in kinds:
-            with open(formula, "w") as out:
-                KINDS[kind](out)
-            reading = least_seconds([leank, "check", formula, os.devnull], os.devnull)
-            print(f"{kind:7} {os.path.getsize(formula):9} bytes  reading {reading:.2f} s")
-            for workers in ("1", "2"):
-                others = [formula, "--workers", workers]
-                matching = least_seconds([leank, "reduce", "matching", *others], beside)
-                checked(leank, formula, beside)
-                general = least_seconds([leank, "reduce", "general", *others], ours)
-                kept = checked(leank, formula, ours)
-                print(f"    {workers} worker(s), {len(kept.split()) - 3} kept  general {general:6.2f} s  matching {matching:6.2f} s  ratio {general / matching:.2f}")
+        path = lambda name: os.path.join(folder, name)
+        for measure, of in ((measure_parts, OF_PARTS), (measure_rounds, OF_ROUNDS)):
+            chosen = [kind for kind in kinds if kind in of]
+            if chosen:
+                measure(leank, path, chosen)
 
 
 if __name__ == "__main__":

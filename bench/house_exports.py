@@ -1,5 +1,8 @@
+#!/usr/bin/env python3
 """The names that crates export and no other crate names, found for bench/house.py by reading the texts of the crates alone."""
 import re
+
+from command_line import CommandLine
 
 # A comment, and what only proofs see.
 UNSEEN = re.compile(r"//.*|ghost use [^;]*;")
@@ -61,3 +64,7 @@ def unnamed(codes, proofs):
         *_, origin = way(exports, crate, name)
         if exports[origin, name] != "laws" and not (name[0].isupper() and name in shown[origin]):
             yield crate, name
+
+
+if __name__ == "__main__":
+    CommandLine(__doc__).end()

@@ -1,4 +1,6 @@
+#!/usr/bin/env python3
 """The crates as the floors of a house, drawn as SVG for bench/house.py."""
+from command_line import CommandLine
 
 # From the left edge of a band to its first room, and from the last room to the right edge; from its upper edge to its first row,
 # below its name; from row to row; and between two rooms of a row.
@@ -161,3 +163,7 @@ def picture(text):
         f'<rect y="{top}" width="1000" height="{high}" rx="14" fill="#faf9f6"/>\n'
         + STYLES + "".join(house.shapes) + "</svg>\n"
     )
+
+
+if __name__ == "__main__":
+    CommandLine(__doc__).end()

@@ -3,20 +3,21 @@
 
     bench/lean_kernel.py LEANK [KIND ...]
 
-LEANK is the built program (`dist/leank`). Needs python3, cadical and
-minisat. The plain program asks the solver for an autarky that sets a variable of the clauses that are left, takes
-out what it touches, and asks again until there is none. The kept clauses must be the same, and each document is
-checked. Nothing fails by time.
+LEANK is the built program (`dist/leank`), and KIND the name of a formula. The plain program asks cadical for an autarky that sets a
+variable of the clauses that are left, takes out what it touches, and asks again until there is none. The kept clauses must be the
+same, and each document is checked, or the status is 1. Seconds are those of the clock, the least of three runs by turns. Needs
+Debian's packages cadical and minisat. Nothing fails by time.
 """
 import os
 import random
 import subprocess
 import sys
 import tempfile
-import time
 
 from command_line import CommandLine
 from formulas import coloured, counter, drawn_clauses, pigeons, side_by_side, square, write
+from runs import Command, by_turns, least
+from tables import PrintedTable, seconds
 
 SEED = 1
 
@@ -27,7 +28,6 @@ def counters(draw):
 
 
 def reached(draw):
-    """Counters of 8 bits that can reach what they shall."""
     return side_by_side([counter(8, 30, k + 5) for k in range(20)])
 
 
@@ -42,7 +42,7 @@ def clique(draw):
 
 
 def tied_pigeons(draw):
-    """Six pigeons in five holes, and drawn clauses with a model, some of which speak of the pigeons too."""
+    """Six pigeons in five holes, and drawn clauses with a model, some of which have literals on the pigeons too."""
     variables, clauses = pigeons(5)
     rest = range(variables + 1, variables + 401)
     for k, clause in enumerate(drawn_clauses(draw, rest, 1500)):
@@ -62,7 +62,13 @@ def drawn(draw):
     return 4000, clauses
 
 
-KINDS = {"counter": counters, "reached": reached, "colouring": clique, "pigeons": tied_pigeons, "drawn": drawn}
+KINDS = {
+    "two counters of 6 bits, of which one cannot reach its target": counters,
+    "20 counters of 8 bits that can reach theirs": reached,
+    "three colours for a graph of 300 vertices with a clique of four": clique,
+    "six pigeons in five holes, tied to drawn clauses": tied_pigeons,
+    "50 squares in a random formula": drawn,
+}
 
 
 def write_file(name, variables, clauses):
@@ -98,34 +104,30 @@ def kernel(folder, variables, clauses):
     return [p + 1 for p in kept]
 
 
-def seconds(words, **more):
-    begin = time.monotonic()
-    ended = subprocess.run(words, stderr=subprocess.DEVNULL, **more)
-    return time.monotonic() - begin, ended.returncode
+def kept_in(document):
+    """The positions that a document states."""
+    with open(document) as lines:
+        return [int(word) for line in lines if line.startswith("c keep ") for word in line.split()[2:-1]]
 
 
 def main():
     words = CommandLine(__doc__)
     leank, kinds = words.program(), words.some("KIND", KINDS)
     words.needs("cadical", "minisat")
+    table = PrintedTable("lean_kernel", "formula", "clauses", "kept", "`reduce general`", "minisat")
     with tempfile.TemporaryDirectory() as folder:
         formula, document = os.path.join(folder, "formula"), os.path.join(folder, "document")
+        commands = {"leank": Command([leank, "reduce", "general", formula], document, statuses=(0,)),
+                    "minisat": Command(["minisat", "-verb=0", formula])}
         for kind in kinds:
             variables, clauses = KINDS[kind](random.Random(SEED))
             clauses = [sorted(set(clause), key=abs) for clause in clauses]
             write_file(formula, variables, clauses)
-            with open(document, "w") as out:
-                ours, status = seconds([leank, "reduce", "general", formula], stdout=out)
-            if status != 0:
-                sys.exit(f"{kind}: status {status}")
-            if seconds([leank, "check", formula, document], stdout=subprocess.DEVNULL)[1] != 0:
-                sys.exit(f"{kind}: the document is refused")
-            with open(document) as lines:
-                told = [int(word) for line in lines if line.startswith("c keep ") for word in line.split()[2:-1]]
-            if told != kernel(folder, variables, clauses):
+            found = by_turns(commands)
+            least(leank, "check", formula, document, times=1)
+            if kept_in(document) != kernel(folder, variables, clauses):
                 sys.exit(f"{kind}: another kernel")
-            minisat = seconds(["minisat", "-verb=0", formula], stdout=subprocess.DEVNULL)[0]
-            print(f"{kind:10} {variables} variables, {len(clauses)} clauses, {len(told)} kept  general {ours:.2f} s  minisat {minisat:.2f} s")
+            table.add(kind, f"{len(clauses):,}", f"{len(kept_in(document)):,}", *(seconds(it.clock) for it in found.values()))
 
 
 if __name__ == "__main__":

@@ -1,24 +1,25 @@
 #!/usr/bin/env python3
-"""Measures `reduce linear` beside a plain program in C++ that makes the same run over sparse rows, with
-the same checks in 128 bits, and reads and writes alike.
+"""Measures `reduce linear` beside a plain program in C++ that makes the same run over sparse rows, with the same checks in 128
+bits, and reads and writes alike.
 
     bench/linear.py LEANK [KIND ...]
 
-LEANK is the built program (`dist/leank`). Needs python3 and
-g++. Both write the same bytes, or end with the same status; processor seconds and peak memory are the least
-of some runs. Nothing fails by time.
+LEANK is the built program (`dist/leank`), and KIND the name of a formula. Both write the same bytes and end with the same status,
+or the status here is 1. Seconds are those of the processor, the least of three runs by turns or those of one that takes over five.
+Needs g++. Nothing fails by time.
 """
+import filecmp
 import os
 import random
-import subprocess
 import sys
 import tempfile
 
 from command_line import CommandLine
 from formulas import drawn_clauses, implications, write
+from runs import Command, built, by_turns, megabytes
+from tables import PrintedTable, beside
 
 SEED = 1
-RUNS = 3
 
 
 def random_three(variables, clauses):
@@ -31,7 +32,6 @@ def ring(variables):
 
 
 def growing(variables):
-    """Weights that grow as the numbers of Fibonacci."""
     return variables, [[-v, -(v + 1), v + 2] for v in range(1, variables - 1)] + [[-(variables - 1), -variables]]
 
 
@@ -47,53 +47,33 @@ def grid(side):
 
 
 KINDS = {
-    "random100": lambda: random_three(100, 200),
-    "random200": lambda: random_three(200, 400),
-    "random300": lambda: random_three(300, 600),
-    "sparse": lambda: random_three(1500, 1200),
-    "ring": lambda: ring(2000),
-    "growing": lambda: growing(150),
-    "units": lambda: (2895, [[v] for v in range(1, 2896)]),
-    "grid": lambda: grid(30),
+    "random, 100 variables, 200 clauses of three literals": lambda: random_three(100, 200),
+    "random, 200 variables, 400 clauses": lambda: random_three(200, 400),
+    "random, 300 variables, 600 clauses": lambda: random_three(300, 600),
+    "random, 1,500 variables, 1,200 clauses, none kept": lambda: random_three(1500, 1200),
+    "a cycle of implications over 2,000 variables": lambda: ring(2000),
+    "150 weights that grow as the numbers of Fibonacci": lambda: growing(150),
+    "unit clauses on 2,895 variables, the most that fit": lambda: (2895, [[v] for v in range(1, 2896)]),
+    "two colours on a grid of 900 points, 3,480 clauses": lambda: grid(30),
 }
-
-
-def run(words, output):
-    """Processor seconds, peak memory in MB and the status of a command that writes to a file."""
-    with open(output, "w") as out:
-        process = subprocess.Popen(words, stdout=out, stderr=subprocess.DEVNULL)
-        _, status, usage = os.wait4(process.pid, 0)
-    process.returncode = os.waitstatus_to_exitcode(status)
-    return usage.ru_utime + usage.ru_stime, usage.ru_maxrss / 1024, process.returncode
-
-
-def least(words, output):
-    """The least of some runs, of one only where that takes long."""
-    best = run(words, output)
-    for _ in range(RUNS - 1):
-        if best[0] < 5:
-            best = min(best, run(words, output))
-    return best
 
 
 def main():
     words = CommandLine(__doc__)
     leank, kinds = words.program(), words.some("KIND", KINDS)
     words.needs("g++")
-    source = os.path.join(os.path.dirname(os.path.abspath(__file__)), "linear.cpp")
+    table = PrintedTable("linear", "formula", "status", "`reduce linear`", "MB")
     with tempfile.TemporaryDirectory() as folder:
-        plain, formula, ours, theirs = (os.path.join(folder, name) for name in ("linear", "formula", "ours", "theirs"))
-        subprocess.run(["g++", "-O2", "-std=c++17", "-o", plain, source], check=True)
+        formula, ours, theirs = (os.path.join(folder, name) for name in ("formula", "ours", "theirs"))
+        commands = {"leank": Command([leank, "reduce", "linear", formula], ours),
+                    "plain": Command([built(folder, "linear.cpp"), formula], theirs)}
         for kind in kinds:
-            variables, clauses = KINDS[kind]()
             with open(formula, "w") as out:
-                write(out, variables, clauses)
-            seconds, megabytes, status = least([leank, "reduce", "linear", formula], ours)
-            beside, _, same = least([plain, formula], theirs)
-            if status != same or open(ours).read() != open(theirs).read():
-                sys.exit(f"{kind}: not the same ({status}, {same})")
-            print(f"{kind:10} {len(clauses):5} clauses  status {status}  {seconds:7.2f} s {megabytes:5.0f} MB"
-                  f"  plain {beside:7.2f} s  ratio {seconds / max(beside, 0.001):.2f}", flush=True)
+                write(out, *KINDS[kind]())
+            found, plain = by_turns(commands).values()
+            if found.status != plain.status or not filecmp.cmp(ours, theirs, shallow=False):
+                sys.exit(f"{kind}: not the same ({found.status}, {plain.status})")
+            table.add(kind, str(found.status), beside(found.processor, plain.processor), megabytes(found.memory))
 
 
 if __name__ == "__main__":

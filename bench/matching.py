@@ -1,26 +1,31 @@
 #!/usr/bin/env python3
-"""Measures `reduce matching` beside a plain Hopcroft and Karp in C++ that reads the same formula and
-writes a document of the same kind, and `deficiency` beside `reduce matching`.
+"""Measures `reduce matching` beside a plain Hopcroft and Karp in C++ that reads the same formula and writes a document of the same
+kind, and `deficiency` beside `reduce matching`.
 
     bench/matching.py LEANK [KIND ...]
 
-LEANK is the built program (`dist/leank`). Needs python3 and
-g++. Each time is the least wall time of some runs; `reading` is what leank takes to read the formula
-alone. Beside it stand the processor seconds and the peak memory of one run. Both documents are checked.
-Nothing fails by time.
+LEANK is the built program (`dist/leank`), and KIND the name of a formula. Seconds are those of the clock, the least of three runs
+by turns or those of one that takes over five. The ratio is to the plain program; that of `deficiency` is to `reduce matching` by
+one worker. Beside it stand the processor seconds and the peak of memory by one worker and by two. Each document is checked, also
+one by 64 workers, and all have to keep the same clauses, or the status is 1. Needs g++. Nothing fails by time.
 """
+import itertools
 import os
 import random
-import subprocess
 import sys
 import tempfile
-import time
+import zlib
 
 from command_line import CommandLine
-from formulas import drawn_clauses, refuted_implications, square, squares, write
+from formulas import drawn_clauses, refuted_implications, shuffled, side_by_side, square, squares, write
+from runs import Command, apart, built, by_turns, least, megabytes, run
+from tables import PrintedTable, beside, seconds
 
 SEED = 1
-RUNS = 5
+WORKERS = ("1", "2", "4")
+MANY = "64"
+PIECE = 1 << 16
+PLAIN, DEFICIENCY = "plain", "deficiency"
 
 
 def random_three(out, variables, clauses):
@@ -38,12 +43,10 @@ def one_walk(out):
 
 
 def complete(out, variables, clauses):
-    """Each clause holds each variable."""
     write(out, variables, (range(1, variables + 1) for _ in range(clauses)), clauses)
 
 
 def parts(out):
-    """300,000 parts of four clauses."""
     write(out, 600000, squares(300000), 1200000)
 
 
@@ -56,7 +59,6 @@ def joined_clauses():
 
 
 def joined(out):
-    """The same clauses with a literal more, so that all are one part."""
     write(out, 600000, joined_clauses(), 1200000)
 
 
@@ -75,8 +77,14 @@ def small_clauses():
 
 
 def small_parts(out):
-    """Small parts of 1,000,000 variables."""
     write(out, 1000000, small_clauses(), sum(1 for _ in small_clauses()))
+
+
+def middle_parts(out):
+    """Random parts, with their variables and clauses among one another."""
+    draw = random.Random(SEED)
+    drawn = [(700, list(drawn_clauses(draw, range(1, 701), 1000))) for _ in range(400)]
+    write(out, *shuffled(draw, *side_by_side(drawn)))
 
 
 def two_parts(out):
@@ -87,77 +95,64 @@ def two_parts(out):
 
 
 KINDS = {
-    "random": lambda out: random_three(out, 500000, 450000),
-    "tight": lambda out: random_three(out, 100000, 92000),
-    "chain": chain,
-    "walk": one_walk,
-    "square": lambda out: complete(out, 1500, 1500),
-    "wide": lambda out: complete(out, 1500, 1600),
-    "parts": parts,
-    "joined": joined,
-    "small": small_parts,
-    "two": two_parts,
+    "random, 500,000 variables, 450,000 clauses": lambda out: random_three(out, 500000, 450000),
+    "random, 100,000 variables, 92,000 clauses": lambda out: random_three(out, 100000, 92000),
+    "chain of 1,000,000 clauses": chain,
+    "1,000,000 clauses along one augmenting path": one_walk,
+    "1,500 clauses that have all 1,500 variables": lambda out: complete(out, 1500, 1500),
+    "1,600 clauses that have all 1,500 variables": lambda out: complete(out, 1500, 1600),
+    "300,000 parts of four clauses": parts,
+    "the same clauses joined to one part": joined,
+    "small parts of 1,000,000 variables, 1,124,772 clauses": small_parts,
+    "400 random parts of 700 variables, 1,000 clauses each": middle_parts,
+    "two large random parts, 920,000 clauses": two_parts,
 }
 
 
-def least_seconds(words, output):
-    """The least wall seconds of some runs of a command whose output goes to a file."""
-    least = float("inf")
-    for _ in range(RUNS):
-        with open(output, "w") as out:
-            begin = time.monotonic()
-            subprocess.run(words, stdout=out, stderr=subprocess.DEVNULL)
-            least = min(least, time.monotonic() - begin)
-    return least
+def write_formula(kind, name):
+    with open(name, "w") as out:
+        KINDS[kind](out)
 
 
-def usage(words, output):
-    """The processor seconds and the peak memory, in MB, of one run."""
-    with open(output, "w") as out:
-        run = subprocess.Popen(words, stdout=out, stderr=subprocess.DEVNULL)
-        _, status, used = os.wait4(run.pid, 0)
-        run.returncode = os.waitstatus_to_exitcode(status)
-    return used.ru_utime + used.ru_stime, used.ru_maxrss / 1024
-
-
-def checked(leank, formula, document):
-    """The line `c keep` of a document that is accepted."""
-    if subprocess.run([leank, "check", formula, document], stdout=subprocess.DEVNULL).returncode != 0:
-        sys.exit(f"{document}: not accepted")
-    with open(document) as text:
-        return next(line for line in text if line.startswith("c keep"))
+def kept_by(leank, formula, document):
+    """How many clauses a document keeps that is accepted, and a sum that tells them from others. The line is read in pieces, so
+    that this process stays small."""
+    least(leank, "check", formula, document, times=1)
+    spaces = found = 0
+    with open(document, "rb") as text:
+        pieces = itertools.dropwhile(lambda piece: not piece.startswith(b"c keep"), iter(lambda: text.readline(PIECE), b""))
+        for piece in pieces:
+            spaces, found = spaces + piece.count(b" "), zlib.crc32(piece, found)
+            if piece.endswith(b"\n"):
+                break
+    return spaces - 2, found
 
 
 def main():
     words = CommandLine(__doc__)
     leank, kinds = words.program(), words.some("KIND", KINDS)
     words.needs("g++")
-    source = os.path.join(os.path.dirname(os.path.abspath(__file__)), "hopcroft_karp.cpp")
     with tempfile.TemporaryDirectory() as folder:
-        plain = os.path.join(folder, "hopcroft_karp")
-        subprocess.run(["g++", "-O2", "-std=c++17", "-o", plain, source], check=True)
-        formula, ours, theirs = (os.path.join(folder, name) for name in ("formula", "ours", "theirs"))
+        path = lambda name: os.path.join(folder, name)
+        formula = path("formula")
+        by_workers = {it: Command([leank, "reduce", "matching", formula, "--workers", it], path(it), statuses=(0,))
+                      for it in (*WORKERS, MANY)}
+        commands = {PLAIN: Command([built(folder, "hopcroft_karp.cpp"), formula], path(PLAIN), statuses=(0,)),
+                    **{it: by_workers[it] for it in WORKERS}, DEFICIENCY: Command([leank, "deficiency", formula], statuses=(0,))}
+        table = PrintedTable("matching", "formula", "kept", PLAIN, "one worker", "two", "four", "`deficiency`",
+                             "processor, one and two", "MB, one and two")
         for kind in kinds:
-            with open(formula, "w") as out:
-                KINDS[kind](out)
-            beside = least_seconds([plain, formula], theirs)
-            kept = checked(leank, formula, theirs)
-            reading = least_seconds([leank, "check", formula, os.devnull], os.devnull)
-            print(f"{kind:7} {os.path.getsize(formula):9} bytes, {len(kept.split()) - 3} kept  plain {beside:.2f} s  reading {reading:.2f} s")
-            for workers in ("1", "2", "4", "64"):
-                words = [leank, "reduce", "matching", formula, "--workers", workers]
-                seconds = least_seconds(words, ours)
-                if checked(leank, formula, ours) != kept:
-                    sys.exit(f"{kind}: another kernel")
-                processor, memory = usage(words, ours)
-                print(
-                    f"    {workers:>2} worker(s) {seconds:6.2f} s  ratio {seconds / beside:.2f}"
-                    f"  processor {processor:6.2f} s  {memory:5.0f} MB"
-                )
-                if workers == "1":
-                    one = seconds
-            seconds = least_seconds([leank, "deficiency", formula], ours)
-            print(f"    deficiency  {seconds:6.2f} s  ratio {seconds / beside:.2f}, to one worker {seconds / one:.2f}")
+            apart(write_formula, kind, formula)
+            found = by_turns(commands)
+            run(by_workers[MANY])
+            kept = {kept_by(leank, formula, path(it)) for it in (PLAIN, *by_workers)}
+            if len(kept) > 1:
+                sys.exit(f"{kind}: another kernel")
+            number, _ = kept.pop()
+            plain, one, two = (found[it] for it in (PLAIN, *WORKERS[:2]))
+            table.add(kind, f"{number:,}", seconds(plain.clock), *(beside(found[it].clock, plain.clock) for it in WORKERS),
+                      beside(found[DEFICIENCY].clock, one.clock), f"{seconds(one.processor)} and {seconds(two.processor)}",
+                      f"{megabytes(one.memory)} and {megabytes(two.memory)}")
 
 
 if __name__ == "__main__":

@@ -17,8 +17,8 @@ import tempfile
 from collections import Counter
 
 from command_line import CommandLine
+from runs import built
 
-HERE = os.path.dirname(os.path.abspath(__file__))
 FILES = {
     "square": "p cnf 2 4\n1 2 0\n1 -2 0\n-1 2 0\n-1 -2 0\n",
     "model": "p cnf 3 3\n1 2 0\n-2 3 0\n2 -3 0\n",
@@ -97,9 +97,7 @@ def main():
     words.end()
     words.needs("gcc")
     with tempfile.TemporaryDirectory() as folder:
-        library = os.path.join(folder, "failing.so")
-        source = os.path.join(HERE, "failing_allocation.c")
-        subprocess.run(["gcc", "-O2", "-shared", "-fPIC", "-o", library, source, "-ldl"], check=True)
+        library = built(folder, "failing_allocation.c", "-shared", "-fPIC", "-ldl")
         for name, text in FILES.items():
             with open(os.path.join(folder, name), "w") as file:
                 file.write(text)

@@ -4,36 +4,35 @@
     bench/mus.py drawn LEANK [NUMBER]
     bench/mus.py tools LEANK [KIND ...]
     bench/mus.py families LEANK [KIND ...]
+    bench/mus.py circuits LEANK [KIND ...]
 
 LEANK is the built program (`dist/leank`). `drawn` goes through so many drawn formulas, by default 200, and `tools` through
 those of tool_formulas.py, by default the small ones: judge.py accepts each core, `verify` does, minisat, picosat and cadical
 find no model of the text as it stands, and one of it without any single clause; where leank finds a model, so do they. Where
 a budget is used up, judge.py and `check` find the document unfinished, with itself as the formula. A core of more than 400
-clauses is tried without 60 drawn ones. `families` measures beside picomus: the seconds of the processor to the
-core, the least of three runs by turns, or of one run that takes over 5 seconds, and the sizes of the cores. A run ends after
-60 seconds there. At the end stands the geometric mean of the ratios of the seconds, with the least and the greatest,
-where both find a core; less than 5 milliseconds count as 5. Needs python3 and Debian's packages minisat, picosat and cadical;
-`tools` needs yosys and berkeley-abc too. Nothing fails by time.
+clauses is tried without 60 drawn ones. The status is 1 if one of these does not hold.
+
+`families` and `circuits` measure beside picomus, the second on the small formulas of tool_formulas.py: the seconds of the
+processor to the core, the least of three runs by turns, or of one run that takes over five seconds, and how many clauses the cores
+have. A run ends after 60 seconds there. The last row has the geometric means of the ratios, with the least and the greatest, where
+both find a core; less than 5 milliseconds count as 5. Needs Debian's packages minisat, picosat and cadical; `tools` and `circuits`
+need yosys and berkeley-abc too. Nothing fails by time.
 """
 import os
 import random
 import re
-import resource
-import subprocess
 import sys
 import tempfile
-from collections import namedtuple
 
 import judge
 import tool_formulas
 from command_line import CommandLine
 from formulas import (adders, colouring, counter, drawn_clauses, formula_text, mixed_clauses, parity, pebbles, pigeons,
                       random_three, shuffled, side_by_side)
-from solving import mean_ratio
+from runs import Command, by_turns, run, size_of
+from tables import NOTHING, PrintedTable, beside, mean_ratio, seconds
 
 SEED = 1
-RUNS = 3
-LONG_SECONDS = 5
 MOST_SECONDS = 60
 TOOL_SECONDS = 120
 MOST_WHOLE = 400
@@ -97,23 +96,15 @@ FAMILIES = {
     "parity, 40 variables": lambda draw: parity(draw, 40),
 }
 
-Run = namedtuple("Run", "seconds status text")
-
 SOLVERS = {"minisat": ["minisat", "-verb=0"], "picosat": ["picosat", "-n"], "cadical": ["cadical", "-q", "-n"]}
 
 
-def limited(seconds):
-    return lambda: resource.setrlimit(resource.RLIMIT_CPU, (seconds, seconds + 5))
-
-
-def run(words, seconds=MOST_SECONDS, folder=None):
-    """Seconds of the processor, the status, below 0 if it was stopped, and what was written."""
-    with tempfile.TemporaryFile() as out:
-        process = subprocess.Popen(words, stdout=out, stderr=subprocess.DEVNULL, preexec_fn=limited(seconds), cwd=folder)
-        _, status, usage = os.wait4(process.pid, 0)
-        process.returncode = os.waitstatus_to_exitcode(status)
-        out.seek(0)
-        return Run(usage.ru_utime + usage.ru_stime, process.returncode, out.read())
+def said(words, folder, most=MOST_SECONDS):
+    """The status of a command, below 0 if it was stopped, and what it writes."""
+    file = os.path.join(folder, "said")
+    status = run(Command(words, file), most).status
+    with open(file, "rb") as text:
+        return status, text.read()
 
 
 def written(folder, name, text):
@@ -130,7 +121,7 @@ def formula_of(file):
 
 def statuses(file):
     """What each of the solvers says of a formula: 10 or 20."""
-    return {name: run([*words, file]).status for name, words in SOLVERS.items()}
+    return {name: run(Command([*words, file]), MOST_SECONDS).status for name, words in SOLVERS.items()}
 
 
 def all_say(name, file, status):
@@ -139,10 +130,10 @@ def all_say(name, file, status):
         sys.exit(f"{name}: {found} where {status} is right")
 
 
-def tell_verdict(leank, name, words, expected):
-    told = run([leank, *words]).text
-    if told != expected:
-        sys.exit(f"{name}: {words[0]} says {told}")
+def expect_verdict(leank, name, folder, words, expected):
+    _, text = said([leank, *words], folder)
+    if text != expected:
+        sys.exit(f"{name}: {words[0]} says {text}")
 
 
 def try_without_each(draw, name, folder, variables, clauses):
@@ -157,7 +148,7 @@ def test_core(draw, leank, name, folder, file, text):
     formula = formula_of(file)
     accepted(name, formula, text)
     core = written(folder, "core.cnf", text)
-    tell_verdict(leank, name, ["verify", file, core], b"accepted\n")
+    expect_verdict(leank, name, folder, ["verify", file, core], b"accepted\n")
     all_say(name, core, 20)
     found = judge.read_answer(text, formula.n, formula.m)
     try_without_each(draw, name, folder, formula.n, [found.clause[p] for p in found.keep])
@@ -165,14 +156,14 @@ def test_core(draw, leank, name, folder, file, text):
 
 
 def accepted(name, formula, text):
-    said = judge.verify(formula, text)
-    if said != ("accepted", None, 0):
-        sys.exit(f"{name}: the judge says {said}")
+    verdict = judge.verify(formula, text)
+    if verdict != ("accepted", None, 0):
+        sys.exit(f"{name}: the judge says {verdict}")
 
 
 def test_model(leank, name, folder, file, text):
     accepted(name, formula_of(file), text)
-    tell_verdict(leank, name, ["verify", file, written(folder, "model.txt", text)], b"accepted\n")
+    expect_verdict(leank, name, folder, ["verify", file, written(folder, "model.txt", text)], b"accepted\n")
     all_say(name, file, 10)
 
 
@@ -183,33 +174,33 @@ def is_within(some, formula):
 
 
 def test_unfinished(leank, name, folder, file, text, budget):
-    said = judge.check(text, text)
-    if said != (f"unfinished {budget}", None, 5) or not is_within(judge.read_formula(text), formula_of(file)):
-        sys.exit(f"{name}: the judge says {said}")
+    verdict = judge.check(text, text)
+    if verdict != (f"unfinished {budget}", None, 5) or not is_within(judge.read_formula(text), formula_of(file)):
+        sys.exit(f"{name}: the judge says {verdict}")
     document = written(folder, "open.cnf", text)
-    tell_verdict(leank, name, ["check", document, document], b"unfinished %d\n" % budget)
+    expect_verdict(leank, name, folder, ["check", document, document], b"unfinished %d\n" % budget)
 
 
-def test_formula(draw, leank, name, folder, file, seconds=MOST_SECONDS):
+def test_formula(draw, leank, name, folder, file, most=MOST_SECONDS):
     """Tests what is written of a formula, and says in a word what that is."""
-    found = run([leank, "mus", file, "--conflicts", BUDGET], seconds)
-    if found.status == 0:
-        return f"a core of {test_core(draw, leank, name, folder, file, found.text)}"
-    if found.status == 10:
-        test_model(leank, name, folder, file, found.text)
+    status, text = said([leank, "mus", file, "--conflicts", BUDGET], folder, most)
+    if status == 0:
+        return f"a core of {test_core(draw, leank, name, folder, file, text)}"
+    if status == 10:
+        test_model(leank, name, folder, file, text)
         return "a model"
-    if found.status in (9, -9, -24):
+    if status in (9, -9, -24):
         return "no answer"
-    return sys.exit(f"{name}: status {found.status}")
+    return sys.exit(f"{name}: status {status}")
 
 
 def test_budget(leank, name, folder, file, budget):
-    found = run([leank, "mus", file, "--conflicts", str(budget)])
-    if found.status == 5:
-        test_unfinished(leank, name, folder, file, found.text, budget)
-    elif found.status not in (0, 10):
-        sys.exit(f"{name}: status {found.status}")
-    return found.status == 5
+    status, text = said([leank, "mus", file, "--conflicts", str(budget)], folder)
+    if status == 5:
+        test_unfinished(leank, name, folder, file, text, budget)
+    elif status not in (0, 10):
+        sys.exit(f"{name}: status {status}")
+    return status == 5
 
 
 def test_drawn(leank, number):
@@ -236,61 +227,65 @@ def test_tools(leank, kinds):
                 os.unlink(file)
 
 
-def core_size(text):
+def core_size(file):
     """How many clauses the core has that leank or picomus writes."""
-    found = re.search(rb"^p cnf \d+ (\d+)$", text, re.M)
-    return int(found[1]) if found else len(re.findall(rb"^v [1-9]", text, re.M))
+    with open(file, "rb") as it:
+        text = it.read()
+    found = re.search(rb"^p cnf \d+ (\d+)$", text, re.MULTILINE)
+    return int(found[1]) if found else len(re.findall(rb"^v [1-9]", text, re.MULTILINE))
 
 
-def by_turns(commands):
-    """The least seconds of each of the commands."""
-    least = {}
-    for turn in range(RUNS):
-        for name, words in commands.items():
-            if turn > 0 and least[name].seconds > LONG_SECONDS:
-                continue
-            found = run(words)
-            if turn == 0 or found.seconds < least[name].seconds:
-                least[name] = found
-    return least
+def write_family(kind, file):
+    written(*os.path.split(file), formula_text(*FAMILIES[kind](random.Random(SEED))))
 
 
-def told_run(found, is_answer):
-    if found.status != is_answer:
-        return f"over {MOST_SECONDS} s |" if found.status < 0 else f"status {found.status} |"
-    return f"{found.seconds:.2f} s | {core_size(found.text)}"
+def shown(found, is_core):
+    """The seconds of a run, or why there are none."""
+    if is_core:
+        return seconds(found.processor)
+    return f">{MOST_SECONDS}" if found.status < 0 else f"status {found.status}"
 
 
-def measure(leank, kinds):
-    print("| formula | clauses | leank | core | picomus | core |\n|---|---|---|---|---|---|")
-    seconds = []
+def measure(name, leank, kinds, write_kind):
+    """A row on each formula, and one with the means of the ratios."""
+    table, pairs, sizes = PrintedTable(name, "formula", "clauses", "`mus`", "core", "picomus", "its core"), [], []
     with tempfile.TemporaryDirectory() as folder:
+        file, core, other = (os.path.join(folder, it) for it in ("formula", "core", "other"))
+        commands = {"leank": Command([leank, "mus", file, "--conflicts", BUDGET], core),
+                    "picomus": Command(["picomus", file], other)}
         for kind in kinds:
-            variables, clauses = FAMILIES[kind](random.Random(SEED))
-            file = written(folder, "f.cnf", formula_text(variables, clauses))
-            found = by_turns({"leank": [leank, "mus", file, "--conflicts", BUDGET], "picomus": ["picomus", file]})
-            print(f"| {kind} | {len(clauses)} | {told_run(found['leank'], 0)} | {told_run(found['picomus'], 20)} |", flush=True)
-            if found["leank"].status == 0 and found["picomus"].status == 20:
-                seconds.append((found["leank"].seconds, found["picomus"].seconds))
-    print(f"times picomus: {mean_ratio(seconds)}")
+            write_kind(kind, file)
+            ours, theirs = by_turns(commands, MOST_SECONDS).values()
+            has_ours, has_theirs = ours.status == 0, theirs.status == 20
+            if has_ours and has_theirs:
+                pairs.append((ours.processor, theirs.processor))
+                sizes.append((core_size(core), core_size(other)))
+            table.add(kind, f"{size_of(file)[1]:,}", beside(*pairs[-1]) if has_ours and has_theirs else shown(ours, has_ours),
+                      f"{core_size(core):,}" if has_ours else NOTHING, shown(theirs, has_theirs),
+                      f"{core_size(other):,}" if has_theirs else NOTHING)
+    table.add(f"times picomus, {len(pairs)} formulas", "", mean_ratio(pairs), mean_ratio(sizes), "", "")
 
 
 def main():
     words = CommandLine(__doc__)
-    kind, leank = words.one("kind", ("drawn", "tools", "families")), words.program()
-    if kind == "drawn":
+    group, leank = words.one("group", ("drawn", "tools", "families", "circuits")), words.program()
+    if group == "drawn":
         number = words.number("NUMBER", 200)
         words.end()
         words.needs(*SOLVERS)
         test_drawn(leank, number)
-    elif kind == "tools":
+    elif group == "tools":
         kinds = words.some("KIND", tool_formulas.SMALL_KINDS)
         words.needs(*SOLVERS, *tool_formulas.NEEDS)
         test_tools(leank, kinds)
-    else:
+    elif group == "families":
         kinds = words.some("KIND", FAMILIES)
         words.needs("picomus")
-        measure(leank, kinds)
+        measure("mus families", leank, kinds, write_family)
+    else:
+        kinds = words.some("KIND", tool_formulas.SMALL_KINDS)
+        words.needs("picomus", *tool_formulas.NEEDS)
+        measure("mus circuits", leank, kinds, tool_formulas.write)
 
 
 if __name__ == "__main__":

@@ -1,21 +1,27 @@
 #!/usr/bin/env python3
-"""Compares docs/REFERENCE.md, docs/leank.1 and the limits that README.md tells with each other and with the program, and follows
-the links of the pages.
+"""Compares docs/REFERENCE.md, docs/leank.1 and the limits that README.md tells with each other and with the program, figures with
+what they come from, and follows the links of the pages.
 
     bench/pages.py [LEANK]
 
 LEANK, by default `dist/leank`, is run with each option of each command at its least and greatest number and one past each, with
-inputs for each status, and at each limit of formulas and one past it. Of defaults the two pages are compared alone. Links are
-those within the repository, also to headings. With differences, which are printed, the status is 1. It takes half a minute.
+inputs for each status, and at each limit of formulas and one past it. Of defaults the two pages are compared alone. Each picture
+has to be what plots.py draws from the tables of bench/README.md, and the rows of docs/GAINS.md what bench/figures/gains.tsv says.
+Links are those within the repository, also to headings. With differences, which are printed, the status is 1. It takes half a
+minute.
 """
+import itertools
 import re
 import subprocess
 import sys
 import tempfile
 from pathlib import Path
 
+import gains
+import plots
 from command_line import RELEASED, CommandLine
 from formulas import formula_text, pigeons, square
+from tables import text_of
 
 TOP = Path(__file__).resolve().parent.parent
 REFERENCE, MANUAL, README = ((TOP / name).read_text() for name in ("docs/REFERENCE.md", "docs/leank.1", "README.md"))
@@ -128,6 +134,21 @@ def try_limits(leank, room, most):
             expect(found[0] == 0 if k == greatest else re.search("past a limit|too long", found[1]), f"{text} at {k}: {found}")
 
 
+def expect_same(what, found, wanted, source):
+    """Reports the first lines that differ."""
+    lines = itertools.zip_longest(found.splitlines(), wanted.splitlines(), fillvalue="no line")
+    first = next((pair for pair in lines if pair[0] != pair[1]), ("another end", ""))
+    expect(found == wanted, f"{what}: {first[0]}\n{source}: {first[1]}")
+
+
+def compare_figures():
+    for name, drawn in plots.pictures(text_of(plots.PAGE)).items():
+        # (of bytes, line ends are compared too)
+        expect_same(f"bench/figures/{name}", Path(plots.FIGURES, name).read_bytes().decode(), drawn, "bench/plots.py draws")
+    page = text_of(gains.PAGE)
+    expect_same("docs/GAINS.md", page, gains.with_rows(page, text_of(gains.DATA)), "bench/figures/gains.tsv says")
+
+
 def follow_links():
     for page in [TOP / "README.md", TOP / "bench/README.md", *TOP.glob("docs/*.md"), *TOP.glob("crates/*/README.md")]:
         for target, anchor in re.findall(r"\]\((?!\w+:)([^)#\s]*)#?([^)\s]*)\)", page.read_text()):
@@ -142,6 +163,7 @@ def main(leank):
     for what, one, other in zip(("commands", "options", "statuses", "limits"), here, there):
         expect(one == other, f"{what} of leank.1: {one};\n{what} of REFERENCE: {other}")
     expect(numbers(MOST, README) == there[3], f"limits of README: {numbers(MOST, README)};\nlimits of REFERENCE: {there[3]}")
+    compare_figures()
     follow_links()
     with tempfile.TemporaryDirectory() as room:
         for name, text in FILES.items():

@@ -1,104 +1,88 @@
 #!/usr/bin/env python3
-"""Measures `reduce pure`, `check` of its document and the reading of a formula beside a plain program in
-C++ that does the same over flat tables, and the reading also beside cadical's.
+"""Measures reading, `reduce pure` and `check` of its document beside a plain program in C++ that does the same over flat tables,
+and reading beside cadical's too.
 
     bench/pure.py LEANK [KIND ...]
 
-LEANK is the built program (`dist/leank`). Needs python3 and g++;
-cadical is left out where there is none. Both write the same bytes; processor seconds and peak memory are the
-least of some runs, taken in turn. Nothing fails by time.
+LEANK is the built program (`dist/leank`), and KIND the name of a formula. Seconds are those of the processor, cadical's by its own
+count; each is the least of three runs by turns, or that of one run that takes over five seconds. Both programs write the same
+bytes, or the status is 1. Needs g++, and Debian's package cadical. Nothing fails by time.
 """
 import filecmp
-import multiprocessing
 import os
 import random
 import re
-import resource
-import shutil
-import subprocess
 import sys
 import tempfile
 
 import commands
 from command_line import CommandLine
+from runs import LONG_SECONDS, RUNS, Command, apart, built, by_turns, megabytes, run
+from tables import PrintedTable, beside, seconds, text_of
 
-RUNS = 5
+LARGE = "random, 1,000,000 variables, 4,000,000 clauses"
+LITERALS = {LARGE: 12000000, **{name: kind.literals for name, kind in commands.KINDS.items()}}
+PLAIN = "plain"
 
 
-def large(draw):
-    """1,000,000 variables, and 4,000,000 clauses of three literals: nearly all are kept."""
+def large_clauses(draw):
     variables = range(1, 1000001)
     signs = ("", "-")
     for _ in range(4000000):
         yield [draw.choice(signs) + str(v) for v in draw.sample(variables, 3)]
 
 
-def write_large(formula):
+def write(kind, formula, model):
+    if kind != LARGE:
+        return commands.write(kind, formula, model)
     with open(formula, "w") as out:
         out.write("p cnf 1000000 4000000\n")
-        out.writelines(" ".join(clause) + " 0\n" for clause in large(random.Random(commands.SEED)))
+        out.writelines(" ".join(clause) + " 0\n" for clause in large_clauses(random.Random(commands.SEED)))
 
 
-def apart(function, *words):
-    """Calls a function in a process of its own, since what this one holds counts as the memory of those that it starts."""
-    process = multiprocessing.Process(target=function, args=words)
-    process.start()
-    process.join()
+def pairs_of(leank, plain, path):
+    """Of each column the commands of both programs, leank's first."""
+    formula, document = path("formula"), path("document")
+    pairs = {
+        "reading": (Command([leank, "check", formula, path("bad")], statuses=(2,)), Command([plain, "read", formula])),
+        "`reduce pure`": (Command([leank, "reduce", "pure", formula], document, statuses=(0,)),
+                          Command([plain, "reduce", formula], path("same"))),
+        "`check`": (Command([leank, "check", formula, document], statuses=(0,)), Command([plain, "check", formula, document])),
+    }
+    return {name: {"leank": ours, PLAIN: theirs._replace(statuses=(0,))} for name, (ours, theirs) in pairs.items()}
 
 
-def run(words, output, status):
-    """Processor seconds and peak memory in MB of a command that writes to a file and ends with this status."""
-    with open(output, "w") as out:
-        process = subprocess.Popen(words, stdout=out, stderr=subprocess.DEVNULL)
-        _, ended, usage = os.wait4(process.pid, 0)
-    process.returncode = os.waitstatus_to_exitcode(ended)
-    if process.returncode != status:
-        sys.exit(f"{' '.join(words)}: status {process.returncode}")
-    return usage.ru_utime + usage.ru_stime, usage.ru_maxrss / 1024
-
-
-def beside(ours, theirs, outputs, status=0):
-    """The least figures of two commands that are run in turn."""
-    figures = [(run(ours, outputs[0], status), run(theirs, outputs[1], 0)) for _ in range(RUNS)]
-    return [tuple(min(pair[side][what] for pair in figures) for what in (0, 1)) for side in (0, 1)]
-
-
-def tell(name, figures):
-    (seconds, megabytes), (plain_seconds, plain_megabytes) = figures
-    own = resource.getrusage(resource.RUSAGE_SELF).ru_maxrss / 1024
-    bound = "" if min(megabytes, plain_megabytes) > own + 1 else f" (nothing below the {own:.0f} MB of this process is told)"
-    print(f"  {name:7} {seconds:6.2f} s {megabytes:4.0f} MB  plain {plain_seconds:6.2f} s {plain_megabytes:4.0f} MB"
-          f"  ratio {seconds / plain_seconds:.2f}, memory {megabytes / plain_megabytes:.2f}{bound}", flush=True)
-
-
-def cadical_seconds(formula):
+def cadical_seconds(formula, path):
     """The least seconds in which cadical parses a formula, by its own count."""
-    told = (subprocess.run(["cadical", "-c", "0", formula], stdout=subprocess.PIPE, text=True).stdout for _ in range(RUNS))
-    return min(float(re.search(r"parsed \d+ clauses in ([\d.]+) seconds", text).group(1)) for text in told)
+    parsing, found = Command(["cadical", "-c", "0", formula], path("parsed")), []
+    for _ in range(RUNS):
+        took = run(parsing)
+        found.append(float(re.search(r"parsed \d+ clauses in ([\d.]+) seconds", text_of(parsing.output)).group(1)))
+        if took.clock > LONG_SECONDS:
+            break
+    return min(found)
 
 
 def main():
     words = CommandLine(__doc__)
-    leank, kinds = words.program(), words.some("KIND", [*commands.KINDS, "large"])
-    words.needs("g++")
+    leank, kinds = words.program(), words.some("KIND", LITERALS)
+    words.needs("g++", "cadical")
     with tempfile.TemporaryDirectory() as folder:
-        formula, model, document, same, bad = (os.path.join(folder, name) for name in ("formula", "model", "document", "same", "bad"))
-        with open(bad, "w") as out:
+        path = lambda name: os.path.join(folder, name)
+        with open(path("bad"), "w") as out:
             out.write("x\n")
-        plain = commands.built(folder, "pure_strip")
+        pairs = pairs_of(leank, built(folder, "pure_strip.cpp"), path)
+        table = PrintedTable("pure", "formula", "literals", "reading", "cadical's", "`reduce pure`", "`check`", "MB",
+                             "MB of the plain one")
         for kind in kinds:
-            if kind == "large":
-                apart(write_large, formula)
-            else:
-                apart(commands.write, kind, formula, model)
-            print(f"{kind}: {(large if kind == 'large' else commands.KINDS[kind]).__doc__} {os.path.getsize(formula)} bytes")
-            tell("reading", beside([leank, "check", formula, bad], [plain, "read", formula], (model, model), status=2))
-            if shutil.which("cadical"):
-                print(f"          cadical {cadical_seconds(formula):.2f} s")
-            tell("reduce", beside([leank, "reduce", "pure", formula], [plain, "reduce", formula], (document, same)))
-            if not filecmp.cmp(document, same, shallow=False):
-                sys.exit("the documents differ")
-            tell("check", beside([leank, "check", formula, document], [plain, "check", formula, document], (model, model)))
+            apart(write, kind, path("formula"), path("model"))
+            found = {name: by_turns(pair) for name, pair in pairs.items()}
+            if not filecmp.cmp(path("document"), path("same"), shallow=False):
+                sys.exit(f"{kind}: the documents differ")
+            read, reduced, checked = (beside(pair["leank"].processor, pair[PLAIN].processor) for pair in found.values())
+            parsed = seconds(cadical_seconds(path("formula"), path))
+            memory = (megabytes(it.memory) for it in found["`reduce pure`"].values())
+            table.add(kind, f"{LITERALS[kind]:,}", read, parsed, reduced, checked, *memory)
 
 
 if __name__ == "__main__":

@@ -13,11 +13,11 @@ import os
 import shutil
 import subprocess
 import sys
-import tempfile
 import time
 from collections import namedtuple
 
 from command_line import CommandLine
+from runs import kept
 
 HERE = os.path.dirname(os.path.abspath(__file__))
 
@@ -46,13 +46,6 @@ def last_line(text):
     """The last line that says something, with how many tests ran where unittest tells it."""
     lines = [line.strip() for line in text.splitlines() if line.strip()]
     return ", ".join([*(line for line in lines[-2:-1] if line.startswith("Ran ")), *lines[-1:]])
-
-
-def kept(name, text):
-    """The name of a file in which this text is kept."""
-    with tempfile.NamedTemporaryFile("w", prefix=f"{name}-", suffix=".log", delete=False) as file:
-        file.write(text)
-    return file.name
 
 
 def passes(check, programs):

@@ -1,5 +1,7 @@
+#!/usr/bin/env python3
 """A plain search for a model of a small formula, or for a refutation. It tries both values of a variable, and resolves the
 clauses that are false under them. Its time is exponential."""
+from command_line import CommandLine
 
 
 class Refuted(Exception):
@@ -84,3 +86,7 @@ def answer(variables, clauses):
     else:
         lines = ["s SATISFIABLE", " ".join(["v", *map(str, sorted(values, key=abs)), "0"])]
     return "".join(line + "\n" for line in lines).encode()
+
+
+if __name__ == "__main__":
+    CommandLine(__doc__).end()

@@ -1,53 +1,51 @@
 #!/usr/bin/env python3
-"""Measures `solve` beside minisat and cadical, and `verify` beside reading what it reads.
+"""Measures `solve` beside minisat, cadical and picosat, and `verify` beside reading what it reads.
 
     bench/solving.py LEANK [GROUP] [KIND ...]
 
-LEANK is the built program (`dist/leank`). GROUP is `families`, `formulas`, `tools`, `circuits` or `parts`; without it all
-are measured. Needs python3 and Debian's packages minisat and cadical; `families` needs picosat, and `tools` and `circuits` yosys
-and berkeley-abc too. Prints rows of tables. Each figure is the least of three runs, by turns, or of one run that takes over
-5 seconds; a run ends after 30 seconds of the processor, and `solve` may learn as many clauses as it wants. Seconds are
-those of the processor; in `parts`, where two workers are at work, those of the clock.
+LEANK is the built program (`dist/leank`). GROUP is `families`, `formulas`, `circuits` or `parts`; without it all are measured. KIND
+is the name of a family or a formula. A run ends after 60 seconds of the processor, and `solve` may learn as many clauses as it
+wants. Each figure is the least of three runs by turns, or of one run that takes over five seconds (in `families` one second).
+Seconds are those of the processor; in `parts`, where several workers are at work, those of the clock. A ratio takes less than 5
+milliseconds as 5, and a mean ratio is the geometric one where both answer, with the least and the greatest. Nothing fails by time;
+the status is 1 if two programs have different answers, or judge.py refuses one.
 
-`families` tells how many formulas of a family each program answers within 60 seconds, and the geometric mean of the
-ratios of `solve` to each other one, with the least and the greatest, where both answer. A ratio takes less than 5
-milliseconds as 5, and what takes over half a second runs once. What each formula takes stands on standard error.
+| group | what is measured |
+|---|---|
+| `families` | how many formulas of a family each program answers, and the mean ratio of `solve` to each other one |
+| `formulas` | drawn and built formulas one by one; `verify` has its ratio to reading |
+| `circuits` | the same of formulas that yosys and abc write |
+| `parts` | formulas of many parts, by one worker, two and four |
 
-`circuits` tells larger formulas that tools write: the least seconds and the most memory of `solve`, of minisat, of minisat
-without its preprocessing, and of cadical; and the geometric mean of the ratios to minisat, with the least and the greatest,
-over those that take `solve` or minisat over a tenth of a second.
-
-`reading` is `verify` of the same answer without its last byte: it reads the formula and the whole answer, and refuses the
-last line. judge.py judges each answer of at most 4 MB. Nothing fails by time.
+Reading is `verify` of the same answer without its last byte: it reads the formula and the whole answer, and refuses the last line.
+judge.py judges each answer of at most 2 MB. What each formula of a family takes stands on standard error. Needs Debian's packages
+minisat and cadical; `families` needs picosat, and `circuits` yosys and berkeley-abc too.
 """
-import math
-import multiprocessing
+import filecmp
 import os
 import random
-import resource
 import subprocess
 import sys
 import tempfile
-import time
-from collections import namedtuple
 
-import judge
 import tool_formulas
 from command_line import CommandLine
 from formulas import (adders, colouring, counter, factors, filled_square, machine, parities_of_graph, parity, pebbles,
                       pigeons, planted_three, progressions, queens, ramsey, random_three, round_trip, shuffled,
                       side_by_side, square, two_sums, write)
+from runs import Command, apart, by_turns, megabytes, size_of
+from tables import NOTHING, PrintedTable, beside, mean_ratio, seconds
 
+JUDGE = os.path.join(os.path.dirname(os.path.abspath(__file__)), "judge.py")
 SEED = 1
-RUNS = 3
-MOST_SECONDS = 30
-LONG_SECONDS = 5
-FAMILY_SECONDS = 60
-LONG_FAMILY_SECONDS = 0.5
-LEAST_SECONDS = 0.005
-MOST_BYTES = 10 << 30
-JUDGED_BYTES = 4 << 20
+MOST_SECONDS = 60
+# What takes longer runs once in a family, and what takes less is not in the mean of those that take long.
+LONG_IN_FAMILY, LONG = 1, 0.1
+JUDGED_BYTES = 2 << 20
 BUDGET = str(2**63 - 1)
+MODEL, NO_MODEL = 10, 20
+OTHERS = ("minisat", "cadical", "picosat")
+WORKERS = ("1", "2", "4")
 
 FORMULAS = {
     "random, 100 variables": lambda draw: random_three(draw, 100),
@@ -62,15 +60,16 @@ FORMULAS = {
     "parity, 60 variables": lambda draw: parity(draw, 60),
     "parity, 300 variables": lambda draw: parity(draw, 300),
     "pebbles, 60 rows": lambda draw: pebbles(60),
+    "pebbles, 40 rows, shuffled": lambda draw: shuffled(draw, *pebbles(40)),
     "machine, 30 registers over 15 steps": lambda draw: machine(draw, 30, 15),
     "machine, 64 registers over 36 steps": lambda draw: machine(draw, 64, 36),
     "adders, 10 bits": lambda draw: adders(10),
-    "adders, 20 bits": lambda draw: adders(20),
     "adders, 40 bits": lambda draw: adders(40),
-    "counter, 8 bits over 40 steps": lambda draw: counter(8, 40),
+    "adders, 128 bits": lambda draw: adders(128),
     "counter, 10 bits over 100 steps": lambda draw: counter(10, 100),
     "counter, 12 bits over 200 steps": lambda draw: counter(12, 200),
 }
+CIRCUITS = {**tool_formulas.KINDS, **tool_formulas.LARGE_KINDS}
 
 
 def drawn(make, *sizes, number=1):
@@ -141,265 +140,162 @@ PARTS = {
     "100,000 parts that matching removes": lambda draw: many(draw, 100000, most_of_square),
 }
 
-Run = namedtuple("Run", "clock processor status memory")
 
-
-def limited(most):
-    resource.setrlimit(resource.RLIMIT_CPU, (most, most + 5))
-    resource.setrlimit(resource.RLIMIT_AS, (MOST_BYTES, MOST_BYTES))
-
-
-def measured(words, output, most):
-    """Seconds of a command, and its status, which is below 0 if it was stopped."""
-    begin = time.monotonic()
-    with open(output, "w") as out:
-        process = subprocess.Popen(words, stdout=out, stderr=subprocess.DEVNULL, preexec_fn=lambda: limited(most))
-        _, status, usage = os.wait4(process.pid, 0)
-    process.returncode = os.waitstatus_to_exitcode(status)
-    return Run(time.monotonic() - begin, usage.ru_utime + usage.ru_stime, process.returncode, usage.ru_maxrss / 1024)
-
-
-def by_turns(commands, most=MOST_SECONDS, long=LONG_SECONDS):
-    """The least seconds of each of the commands, a name with words and an output."""
-    least = {}
-    for turn in range(RUNS):
-        for name, (words, output) in commands.items():
-            if turn > 0 and least[name].processor > long:
-                continue
-            run = measured(words, output, most)
-            before = least.get(name, run)
-            least[name] = Run(min(before.clock, run.clock), min(before.processor, run.processor), run.status, max(before.memory, run.memory))
-    return least
-
-
-def write_drawn(make, seed, file):
-    """Writes a formula into a file."""
+def write_formula(make, seed, file):
     with open(file, "w") as out:
         write(out, *make(random.Random(seed)))
 
 
-def write_apart(make, file, seed=SEED):
-    """The same, by a process of its own, so that this one stays small."""
-    writer = multiprocessing.get_context("fork").Process(target=write_drawn, args=(make, seed, file))
-    writer.start()
-    writer.join()
-
-
-def header_of(file):
-    """The numbers of variables and clauses that a formula states."""
-    with open(file) as lines:
-        words = next(line for line in lines if line.startswith("p")).split()
-    return int(words[2]), int(words[3])
-
-
-def shown(seconds, status):
-    """Seconds, or why there are none."""
-    if status in (10, 20):
-        return f"{seconds:.2f} s"
-    return {9: "no memory", 5: "budget"}.get(status, f"over {MOST_SECONDS} s")
-
-
-def ratio(ours, theirs):
-    """How many times theirs, where both came to an answer."""
-    if ours.status in (10, 20) and theirs.status in (10, 20):
-        return f" ({ours.processor / max(theirs.processor, 0.001):.1f})"
-    return ""
-
-
-def solver_words(leank, formula, answer, *options):
+def solver_commands(leank, formula, answer, *options):
     return {
-        "solve": ([leank, "solve", formula, "--conflicts", BUDGET, *options], answer),
-        "minisat": (["minisat", "-verb=0", formula], os.devnull),
-        "cadical": (["cadical", "-q", "-n", formula], os.devnull),
+        "solve": Command([leank, "solve", formula, "--conflicts", BUDGET, *options], answer),
+        "minisat": Command(["minisat", "-verb=0", formula]),
+        "cadical": Command(["cadical", "-q", "-n", formula]),
     }
 
 
-def judged(kind, formula, answer):
-    """Ends the program where the judge, a process of its own, does not accept the answer."""
-    if os.path.getsize(answer) > JUDGED_BYTES:
-        return "not judged"
-    said = subprocess.run([sys.executable, judge.__file__, formula, answer], stdout=subprocess.PIPE, stderr=subprocess.STDOUT, text=True)
-    if said.stdout != "accepted\n":
-        sys.exit(f"{kind}: the judge says {said.stdout}")
-    return "judged"
+def is_answered(run):
+    return run.status in (MODEL, NO_MODEL)
 
 
-def same_status(kind, runs):
-    """Ends the program where two came to different answers."""
-    found = {run.status for run in runs.values() if run.status in (10, 20)}
+def shown(took, run):
+    """Seconds of a run, or why there are none."""
+    if is_answered(run):
+        return seconds(took)
+    return {9: "no memory", 5: "budget"}.get(run.status, f">{MOST_SECONDS}")
+
+
+def answer_of(kind, runs):
+    """What those that came to an answer say, which has to be the same."""
+    found = {run.status for run in runs.values() if is_answered(run)}
     if len(found) > 1:
         sys.exit(f"{kind}: other answers: {runs}")
+    return {frozenset([MODEL]): "yes", frozenset([NO_MODEL]): "no"}.get(frozenset(found), NOTHING)
 
 
-def verify_row(leank, formula, answer):
-    """Seconds of `verify`, its ratio to reading, and how long the answer is."""
-    cut = answer + ".cut"
-    with open(cut, "wb") as out, open(answer, "rb") as text:
-        size = os.path.getsize(answer)
-        while (piece := text.read(min(1 << 20, size - 1 - out.tell()))):
-            out.write(piece)
-    runs = by_turns({
-        "verify": ([leank, "verify", formula, answer], os.devnull),
-        "reading": ([leank, "verify", formula, cut], os.devnull),
-    })
-    os.unlink(cut)
-    if (runs["verify"].status, runs["reading"].status) != (0, 2):
-        sys.exit(f"{formula}: verify {runs}")
-    verify, reading = runs["verify"].processor, runs["reading"].processor
-    return f"{verify:.2f} s | {reading:.2f} s ({verify / max(reading, 0.001):.2f}) | {size / 1e6:.2f} MB"
+def expect_judged(kind, formula, answer):
+    """Ends the program if the judge, a process of its own, does not accept the answer."""
+    if os.path.getsize(answer) > JUDGED_BYTES:
+        return
+    said = subprocess.run([sys.executable, JUDGE, formula, answer], stdout=subprocess.PIPE, stderr=subprocess.STDOUT, text=True)
+    if said.stdout != "accepted\n":
+        sys.exit(f"{kind}: the judge says {said.stdout}")
 
 
-def answer_row(leank, kind, formula, answer):
-    """Prints a row on a formula."""
-    runs = by_turns(solver_words(leank, formula, answer))
-    same_status(kind, runs)
-    solve = runs["solve"]
-    variables, clauses = header_of(formula)
-    name = {10: "a model", 20: "none"}
-    told = next((name[run.status] for run in runs.values() if run.status in name), "-")
-    columns = [kind, f"{variables:,} and {clauses:,}", told, shown(solve.processor, solve.status)]
-    columns += [shown(runs[other].processor, runs[other].status) + ratio(solve, runs[other]) for other in ("minisat", "cadical")]
-    if solve.status in name:
-        columns += [verify_row(leank, formula, answer), judged(kind, formula, answer)]
-    else:
-        columns += ["- | - | -", "-"]
-    print("| " + " | ".join(columns) + " |", flush=True)
+def families(leank, path, kinds):
+    """A row on each family, on all, and on those formulas that take leank or minisat long."""
+    table = PrintedTable("solving families", "family", "formulas", "answered", *(f"times {name}" for name in OTHERS))
+    everything = []
+    for kind in kinds:
+        found = family_runs(leank, path, kind)
+        table.add(*family_row(kind, found))
+        everything += found
+    long = [runs for runs in everything if max(runs["solve"].processor, runs["minisat"].processor) > LONG]
+    table.add(*family_row("all", everything))
+    table.add(*family_row(f"those that take leank or minisat over {LONG} s", long))
 
 
-def print_head(*columns):
-    print("\n| " + " | ".join(columns) + " |")
-    print("|" + "---|" * len(columns))
-
-
-ANSWER_HEAD = ("formula", "variables and clauses", "model", "`solve`", "minisat (`solve` to it)", "cadical", "`verify`",
-               "reading (`verify` to it)", "answer", "judge")
-
-
-OTHERS = ("minisat", "cadical", "picosat")
-
-
-def family_runs(leank, folder, kind):
+def family_runs(leank, path, kind):
     """The runs on each formula of a family."""
-    formula, found = os.path.join(folder, "formula"), []
+    formula, found = path("formula"), []
+    commands = solver_commands(leank, formula, path("answer")) | {"picosat": Command(["picosat", "-n", formula])}
     for size, seed, make in FAMILIES[kind]:
-        write_apart(make, formula, seed)
-        commands = solver_words(leank, formula, os.path.join(folder, "answer"))
-        commands["picosat"] = (["picosat", "-n", formula], os.devnull)
-        runs = by_turns(commands, FAMILY_SECONDS, LONG_FAMILY_SECONDS)
-        same_status(kind, runs)
+        apart(write_formula, make, seed, formula)
+        runs = by_turns(commands, MOST_SECONDS, long=LONG_IN_FAMILY)
+        answer_of(kind, runs)
         found.append(runs)
-        told = ", ".join(f"{name} {run.status} {run.processor:.3f}" for name, run in runs.items())
-        print(f"{kind} {size}, seed {seed}: {told}", file=sys.stderr, flush=True)
+        took = ", ".join(f"{name} {run.status} {run.processor:.3f}" for name, run in runs.items())
+        print(f"{kind} {size}, seed {seed}: {took}", file=sys.stderr, flush=True)
     return found
 
 
-def answered(run):
-    return run.status in (10, 20)
-
-
-def mean_ratio(pairs):
-    """The geometric mean of ratios, with the least and the greatest."""
-    logs = [math.log(max(ours, LEAST_SECONDS) / max(theirs, LEAST_SECONDS)) for ours, theirs in pairs]
-    if not logs:
-        return "-"
-    return "{:.2g} ({:.2g} to {:.2g})".format(*map(math.exp, (sum(logs) / len(logs), min(logs), max(logs))))
-
-
 def family_row(kind, found):
-    counts = " / ".join(str(sum(answered(runs[name]) for runs in found)) for name in ("solve", *OTHERS))
-    columns = [kind, str(len(found)), counts]
-    for other in OTHERS:
-        both = [(runs["solve"], runs[other]) for runs in found if answered(runs["solve"]) and answered(runs[other])]
-        columns.append(mean_ratio([(ours.processor, theirs.processor) for ours, theirs in both]))
-    print("| " + " | ".join(columns) + " |", flush=True)
+    counts = [sum(is_answered(runs[name]) for runs in found) for name in ("solve", *OTHERS)]
+    answered = "all" if min(counts) == len(found) else ", ".join(map(str, counts))
+    return kind, str(len(found)), answered, *(times_other(found, name) for name in OTHERS)
 
 
-def families(leank, folder, kinds):
-    """A row on each family, on all, and on those formulas that take leank or minisat over a tenth of a second."""
-    answers = "answered by leank / minisat / cadical / picosat"
-    print_head("family", "formulas", answers, *(f"times {name}" for name in OTHERS))
-    everything = []
+def times_other(found, other):
+    """The mean ratio of `solve` to the other program, where both have an answer."""
+    pairs = [(runs["solve"], runs[other]) for runs in found if is_answered(runs["solve"]) and is_answered(runs[other])]
+    return mean_ratio([(ours.processor, theirs.processor) for ours, theirs in pairs])
+
+
+def formulas(leank, path, kinds):
+    singly("solving formulas", leank, path, kinds, lambda kind, file: apart(write_formula, FORMULAS[kind], SEED, file))
+
+
+def circuits(leank, path, kinds):
+    singly("solving circuits", leank, path, kinds, tool_formulas.write)
+
+
+def singly(name, leank, path, kinds, write_kind):
+    """A row on each formula, and one on those that take leank or minisat long."""
+    table = PrintedTable(name, "formula", "clauses", "model", "`solve`", "minisat", "without preprocessing", "cadical", "`verify`",
+                         "answer, MB", "MB", "MB of minisat")
+    formula, answer, found = path("formula"), path("answer"), []
+    commands = solver_commands(leank, formula, answer)
+    commands["plain"] = Command(["minisat", "-verb=0", "-no-pre", formula])
     for kind in kinds:
-        found = family_runs(leank, folder, kind)
-        family_row(kind, found)
-        everything += found
-    family_row("all", everything)
-    long = [runs for runs in everything if max(runs["solve"].processor, runs["minisat"].processor) > 0.1]
-    family_row("over 0.1 s", long)
+        write_kind(kind, formula)
+        runs = by_turns(commands, MOST_SECONDS)
+        table.add(*single_row(leank, kind, formula, answer, runs))
+        found.append(runs)
+    long = [runs for runs in found if max(runs["solve"].processor, runs["minisat"].processor) > LONG]
+    mean = {"formula": f"times minisat, over {LONG} s", "`solve`": times_other(long, "minisat")}
+    table.add(*(mean.get(word, "") for word in table.head))
 
 
-def formulas(leank, folder, kinds):
-    print_head(*ANSWER_HEAD)
+def single_row(leank, kind, formula, answer, runs):
+    model, (_, clauses), solve, minisat = answer_of(kind, runs), size_of(formula), runs["solve"], runs["minisat"]
+    both = is_answered(solve) and is_answered(minisat)
+    return (kind, f"{clauses:,}", model, beside(solve.processor, minisat.processor) if both else shown(solve.processor, solve),
+            *(shown(runs[it].processor, runs[it]) for it in ("minisat", "plain", "cadical")),
+            *(checked_answer(leank, kind, formula, answer) if is_answered(solve) else (NOTHING, NOTHING)),
+            megabytes(solve.memory), megabytes(minisat.memory))
+
+
+def checked_answer(leank, kind, formula, answer):
+    """Seconds of `verify`, with its ratio to reading, and how long the answer is."""
+    expect_judged(kind, formula, answer)
+    size, cut = os.path.getsize(answer), answer + ".cut"
+    apart(copy_without_end, answer, cut)
+    runs = by_turns({"verify": Command([leank, "verify", formula, answer], statuses=(0,)),
+                     "reading": Command([leank, "verify", formula, cut], statuses=(2,))})
+    return beside(*(it.processor for it in runs.values())), seconds(size / 1e6)
+
+
+def copy_without_end(file, other):
+    with open(file, "rb") as text, open(other, "wb") as out:
+        out.write(text.read()[:-1])
+
+
+def parts(leank, path, kinds):
+    """Seconds of the clock."""
+    table = PrintedTable("solving parts", "formula", "clauses", "model", "one worker", "two", "four", "minisat", "cadical")
+    formula, answers = path("formula"), [path(f"answer{it}") for it in WORKERS]
+    commands = {it: solver_commands(leank, formula, answer, "--workers", it)["solve"] for it, answer in zip(WORKERS, answers)}
+    commands |= {name: it for name, it in solver_commands(leank, formula, os.devnull).items() if name != "solve"}
     for kind in kinds:
-        formula = os.path.join(folder, "formula")
-        write_apart(FORMULAS[kind], formula)
-        answer_row(leank, kind, formula, os.path.join(folder, "answer"))
+        apart(write_formula, PARTS[kind], SEED, formula)
+        runs = by_turns(commands, MOST_SECONDS)
+        model, (_, clauses) = answer_of(kind, runs), size_of(formula)
+        if all(is_answered(runs[it]) for it in WORKERS):
+            expect_same(kind, answers)
+            expect_judged(kind, formula, answers[0])
+        table.add(kind, f"{clauses:,}", model, *(shown(run.clock, run) for run in runs.values()))
 
 
-def tools(leank, folder, kinds):
-    print_head(*ANSWER_HEAD)
-    for kind in kinds:
-        formula = os.path.join(folder, "tool")
-        if tool_formulas.written_by(kind, formula):
-            answer_row(leank, kind, formula, os.path.join(folder, "answer"))
-            os.unlink(formula)
-
-
-def circuit_row(leank, kind, formula, answer):
-    """Prints a row on a formula, and returns its runs."""
-    commands = solver_words(leank, formula, answer)
-    commands["no-pre"] = (["minisat", "-verb=0", "-no-pre", formula], os.devnull)
-    runs = by_turns(commands)
-    same_status(kind, runs)
-    variables, clauses = header_of(formula)
-    columns = [kind, f"{variables:,} and {clauses:,}"]
-    columns += [shown(runs[name].processor, runs[name].status) for name in ("solve", "minisat", "no-pre", "cadical")]
-    columns += [f"{os.path.getsize(answer) / 1e6:.1f} MB", f"{runs['solve'].memory:.0f} and {runs['minisat'].memory:.0f} MB"]
-    print("| " + " | ".join(columns) + " |", flush=True)
-    return runs
-
-
-def circuits(leank, folder, kinds):
-    print_head("formula", "variables and clauses", "`solve`", "minisat", "without preprocessing", "cadical", "answer",
-               "memory of `solve` and minisat")
-    found = []
-    for kind in kinds:
-        formula = os.path.join(folder, "circuit")
-        if tool_formulas.written_by(kind, formula):
-            found.append(circuit_row(leank, kind, formula, os.path.join(folder, "answer")))
-            os.unlink(formula)
-    both = [(runs["solve"], runs["minisat"]) for runs in found if answered(runs["solve"]) and answered(runs["minisat"])]
-    long = [pair for pair in both if max(run.processor for run in pair) > 0.1]
-    print(f"\ntimes minisat: {mean_ratio([(ours.processor, theirs.processor) for ours, theirs in long])} over {len(long)} formulas; "
-          f"memory: {mean_ratio([(ours.memory, theirs.memory) for ours, theirs in long])}", flush=True)
-
-
-def parts(leank, folder, kinds):
-    """Prints seconds of the clock."""
-    print_head("formula", "variables and clauses", "model", "one worker", "two workers (to one)", "minisat", "cadical", "judge")
-    for kind in kinds:
-        formula, answer = (os.path.join(folder, name) for name in ("formula", "answer"))
-        write_apart(PARTS[kind], formula)
-        commands = solver_words(leank, formula, answer)
-        commands["two"] = solver_words(leank, formula, answer + "2", "--workers", "2")["solve"]
-        runs = by_turns(commands)
-        same_status(kind, runs)
-        one, two = runs["solve"], runs["two"]
-        variables, clauses = header_of(formula)
-        told = {10: "a model", 20: "none"}.get(one.status, "-")
-        columns = [kind, f"{variables:,} and {clauses:,}", told, shown(one.clock, one.status)]
-        columns.append(f"{shown(two.clock, two.status)} ({two.clock / one.clock:.2f})")
-        columns += [shown(runs[other].clock, runs[other].status) for other in ("minisat", "cadical")]
-        both = [judged(kind, formula, name) for name, run in ((answer, one), (answer + "2", two)) if run.status in (10, 20)]
-        print("| " + " | ".join([*columns, both[0] if both else "-"]) + " |", flush=True)
+def expect_same(kind, answers):
+    if not all(filecmp.cmp(answers[0], other, shallow=False) for other in answers[1:]):
+        sys.exit(f"{kind}: other answers by more workers")
 
 
 # Of each group the function, its kinds, and what it needs beside minisat and cadical.
 GROUPS = {
     "families": (families, FAMILIES, ["picosat"]),
     "formulas": (formulas, FORMULAS, []),
-    "tools": (tools, tool_formulas.KINDS, tool_formulas.NEEDS),
-    "circuits": (circuits, tool_formulas.LARGE_KINDS, tool_formulas.NEEDS),
+    "circuits": (circuits, CIRCUITS, tool_formulas.NEEDS),
     "parts": (parts, PARTS, []),
 }
 
@@ -412,7 +308,7 @@ def main():
     words.needs("minisat", "cadical", *(it for group in groups for it in GROUPS[group][2]))
     with tempfile.TemporaryDirectory() as folder:
         for measure, kinds, _ in (GROUPS[group] for group in groups):
-            measure(leank, folder, chosen or list(kinds))
+            measure(leank, lambda name: os.path.join(folder, name), chosen or list(kinds))
 
 
 if __name__ == "__main__":

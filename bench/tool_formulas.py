@@ -104,7 +104,6 @@ LARGE_KINDS = {
     "locks, 80 steps": bad("locks", 80),
     "queue, 10 steps": bad("queue", 10),
     "queue, 12 steps": bad("queue", 12),
-    "arbiter, 8 steps": bad("arbiter", 8),
     "arbiter, 30 steps": bad("arbiter", 30),
     "arbiter, 60 steps": bad("arbiter", 60),
 }
@@ -135,6 +134,14 @@ def written_by(kind, file):
         return True
     print(f"{kind}: nothing written, status {done.returncode}\n{done.stdout[-2000:]}", file=sys.stderr)
     return False
+
+
+def write(kind, file):
+    """Writes the formula into the file, whatever stands there, or ends the program."""
+    if os.path.exists(file):
+        os.unlink(file)
+    if not written_by(kind, file):
+        sys.exit(f"{kind}: not written")
 
 
 def main():

@@ -1,8 +1,10 @@
+#!/usr/bin/env python3
 """The inputs of traps.py, by a size, and the runs that have a bound of their own. Each input is named by what it is."""
 import random
 from collections import namedtuple
 
 import formulas
+from command_line import CommandLine
 from formulas import (colouring, drawn_clause, drawn_clauses, formula_text, implications, pebbles, planted_clauses, random_three,
                       refuted_implications, shuffled, side_by_side, square, squares, two_sums)
 
@@ -685,3 +687,7 @@ BOUNDS = [
     Bound(unmatched_units, 2000, ("edits",), (), 85000),
     Bound(no_text, 0, ("demo",), ("20",), 200000000),
 ]
+
+
+if __name__ == "__main__":
+    CommandLine(__doc__).end()
