@@ -139,8 +139,7 @@ def main():
                       for it in (*WORKERS, MANY)}
         commands = {PLAIN: Command([built(folder, "hopcroft_karp.cpp"), formula], path(PLAIN), statuses=(0,)),
                     **{it: by_workers[it] for it in WORKERS}, DEFICIENCY: Command([leank, "deficiency", formula], statuses=(0,))}
-        table = PrintedTable("matching", "formula", "kept", PLAIN, "one worker", "two", "four", "`deficiency`",
-                             "processor, one and two", "MB, one and two")
+        table = PrintedTable("matching", "formula", "kept", PLAIN, "one worker", "two", "four", "`deficiency`", "MB")
         for kind in kinds:
             apart(write_formula, kind, formula)
             found = by_turns(commands)
@@ -149,10 +148,9 @@ def main():
             if len(kept) > 1:
                 sys.exit(f"{kind}: another kernel")
             number, _ = kept.pop()
-            plain, one, two = (found[it] for it in (PLAIN, *WORKERS[:2]))
+            plain, one = found[PLAIN], found[WORKERS[0]]
             table.add(kind, f"{number:,}", seconds(plain.clock), *(beside(found[it].clock, plain.clock) for it in WORKERS),
-                      beside(found[DEFICIENCY].clock, one.clock), f"{seconds(one.processor)} and {seconds(two.processor)}",
-                      f"{megabytes(one.memory)} and {megabytes(two.memory)}")
+                      beside(found[DEFICIENCY].clock, one.clock), megabytes(one.memory))
 
 
 if __name__ == "__main__":

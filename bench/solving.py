@@ -13,7 +13,7 @@ the status is 1 if two programs have different answers, or judge.py refuses one.
 | group | what is measured |
 |---|---|
 | `families` | how many formulas of a family each program answers, and the mean ratio of `solve` to each other one |
-| `formulas` | drawn and built formulas one by one; `verify` has its ratio to reading |
+| `formulas` | drawn and built formulas that take leank or minisat over 0.1 seconds; `verify` has its ratio to reading |
 | `circuits` | the same of formulas that yosys and abc write |
 | `parts` | formulas of many parts, by one worker, two and four |
 
@@ -165,6 +165,10 @@ def shown(took, run):
     return {9: "no memory", 5: "budget"}.get(run.status, f">{MOST_SECONDS}")
 
 
+def is_long(runs):
+    return max(runs["solve"].processor, runs["minisat"].processor) > LONG
+
+
 def answer_of(kind, runs):
     """What those that came to an answer say, which has to be the same."""
     found = {run.status for run in runs.values() if is_answered(run)}
@@ -190,7 +194,7 @@ def families(leank, path, kinds):
         found = family_runs(leank, path, kind)
         table.add(*family_row(kind, found))
         everything += found
-    long = [runs for runs in everything if max(runs["solve"].processor, runs["minisat"].processor) > LONG]
+    long = list(filter(is_long, everything))
     table.add(*family_row("all", everything))
     table.add(*family_row(f"those that take leank or minisat over {LONG} s", long))
 
@@ -230,19 +234,18 @@ def circuits(leank, path, kinds):
 
 
 def singly(name, leank, path, kinds, write_kind):
-    """A row on each formula, and one on those that take leank or minisat long."""
-    table = PrintedTable(name, "formula", "clauses", "model", "`solve`", "minisat", "without preprocessing", "cadical", "`verify`",
-                         "answer, MB", "MB", "MB of minisat")
+    """A row on each formula that takes leank or minisat long, and one on all of these. The answers of the others are judged too."""
+    table = PrintedTable(name, "formula", "clauses", "model", "`solve`", "minisat", "cadical", "`verify`", "answer, MB", "MB")
     formula, answer, found = path("formula"), path("answer"), []
     commands = solver_commands(leank, formula, answer)
-    commands["plain"] = Command(["minisat", "-verb=0", "-no-pre", formula])
     for kind in kinds:
         write_kind(kind, formula)
         runs = by_turns(commands, MOST_SECONDS)
-        table.add(*single_row(leank, kind, formula, answer, runs))
-        found.append(runs)
-    long = [runs for runs in found if max(runs["solve"].processor, runs["minisat"].processor) > LONG]
-    mean = {"formula": f"times minisat, over {LONG} s", "`solve`": times_other(long, "minisat")}
+        row = single_row(leank, kind, formula, answer, runs)
+        if is_long(runs):
+            table.add(*row)
+            found.append(runs)
+    mean = {"formula": "times minisat", "`solve`": times_other(found, "minisat")}
     table.add(*(mean.get(word, "") for word in table.head))
 
 
@@ -250,9 +253,9 @@ def single_row(leank, kind, formula, answer, runs):
     model, (_, clauses), solve, minisat = answer_of(kind, runs), size_of(formula), runs["solve"], runs["minisat"]
     both = is_answered(solve) and is_answered(minisat)
     return (kind, f"{clauses:,}", model, beside(solve.processor, minisat.processor) if both else shown(solve.processor, solve),
-            *(shown(runs[it].processor, runs[it]) for it in ("minisat", "plain", "cadical")),
+            *(shown(runs[it].processor, runs[it]) for it in ("minisat", "cadical")),
             *(checked_answer(leank, kind, formula, answer) if is_answered(solve) else (NOTHING, NOTHING)),
-            megabytes(solve.memory), megabytes(minisat.memory))
+            megabytes(solve.memory))
 
 
 def checked_answer(leank, kind, formula, answer):
