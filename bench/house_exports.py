@@ -3,6 +3,7 @@
 import re
 
 from command_line import CommandLine
+from imports import flattened
 
 # A comment, and what only proofs see.
 UNSEEN = re.compile(r"//.*|ghost use [^;]*;")
@@ -57,7 +58,7 @@ def unnamed(codes, proofs):
     exports = exports_of(texts)
     seen = named(exports, texts)
     for crate in codes:
-        for other, path in DECLARED.findall(codes[crate] + proofs[crate]):
+        for other, path in DECLARED.findall(flattened(codes[crate] + proofs[crate])):
             seen.update((other, name) for name in path.split(".") if other != crate)
     shown = {crate: set(re.findall(r"\w+", " ".join(SHOWN.findall(text)))) for crate, text in texts.items()}
     for crate, name in sorted(exports.keys() - seen):

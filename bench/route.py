@@ -17,6 +17,7 @@ import re
 import sys
 
 from command_line import CommandLine
+from imports import brought, crates
 
 TOP = os.path.dirname(os.path.dirname(os.path.abspath(__file__)))
 SHUT = {"IsRun"}
@@ -82,11 +83,6 @@ class Block:
         return re.findall(rf"{NAME}(?:\.{NAME})?", text)
 
 
-def crates():
-    with open(f"{TOP}/crates.txt", encoding="utf-8") as file:
-        return [line.split(":")[0].split()[0] for line in file if ":" in line and not line.startswith("#")]
-
-
 class Module:
     """A file of definitions, with what its `use` lines bring in."""
 
@@ -97,16 +93,13 @@ class Module:
             self.read(it.read().split("\n"))
 
     def bring(self, line):
-        found = re.match(r"(?:pub )?use Rattle\.(\w+)\.specs\.([\w.]+?)(?:\.\{(.*)\}| as (\w+))?$", line)
-        if not found or found.group(1) in ("std", "core"):
-            return
-        crate, path = found.group(1), tuple(found.group(2).split("."))
-        if found.group(3) is None:
-            self.aliases[found.group(4) or path[-1]] = (crate, path)
-        else:
-            for name in found.group(3).split(","):
-                real, _, own = name.strip().partition(" as ")
-                self.names[own or real] = (crate, path, real)
+        for path, name, own in brought(line):
+            if path[0] != "Rattle" or path[1] in ("std", "core") or path[2] != "specs":
+                continue
+            if name is None:
+                self.aliases[own] = (path[1], path[3:])
+            else:
+                self.names[own] = (path[1], path[3:], name)
 
     def read(self, lines):
         at, comment = 0, []
@@ -192,6 +185,9 @@ class House:
             # a file of a lower crate that this one hands out
             handed = self.modules[crate, ("Lib",)].aliases.get(path[0])
             return handed and self.named(*handed, name)
+        if module and name not in module.blocks and name in module.names:
+            # a name that this one passes on
+            return self.named(*module.names[name])
         return module and module.blocks.get(name)
 
     def cited(self, block, lines=None):
