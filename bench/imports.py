@@ -5,8 +5,7 @@
     bench/imports.py --check [CRATE..]
 
 The first rewrites the files of these crates, or of all. The second writes nothing: it prints each line that is not in the form,
-and its status is 1 if there is one. `rt check --fix-imports` writes a line of its own for each name that a file lacks, so run the
-first behind it.
+and its status is 1 if there is one. If a check prints a `use` line that a file lacks, add it below the others, and run the first.
 
 The form is for `use` in .antt files and for `ghost use` in .rt files:
 
